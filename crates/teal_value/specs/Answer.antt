@@ -1,0 +1,20 @@
+-- Answers that may be a fault: what a definition gives, and what a function of the program may answer for it.
+use Rattle.std.specs.Prelude.{◌≡◌, Result, Ok, Err}
+use Rattle.teal_value.specs.declared.failure.Failure.{Failure}
+use Rattle.teal_value.specs.declared.failure.Failure.TheVariants as failure
+
+-- goes on with a value, and stops at a fault
+infixl 10 ◌>>=◌
+abbrev pub ◌>>=◌ : {A B F : Type 0} → Result A F → (A → Result B F) → Result B F
+(Ok x) >>= f = f x
+(Err e) >>= f = Err e
+
+-- a failure of the program, where this is meant: that very fault, or want of memory
+abbrev pub Fails : {A F : Type 0} → Failure F → Result A F → Type 0
+Fails failure.Memory meant = Unit {0}
+Fails (failure.Fault f) meant = meant ≡ Err f
+
+-- an answer of the program, seen by view, is the value that is meant; a fault is the fault that is meant
+abbrev pub Gives : {X A F : Type 0} → (X → A) → Result X (Failure F) → Result A F → Type 0
+Gives view (Ok x) meant = meant ≡ Ok (view x)
+Gives view (Err e) meant = Fails e meant
