@@ -34,7 +34,8 @@ pub fn decode_at(
     bytes: &[u8],
     place: usize,
 ) -> Result<(Instr, usize), CodeError>
-    ensures { Gives (λ x. x) result (read_at version bytes.now place) }
+    ensures read { Gives (λ x. x) result (read_at version bytes.now place) }
+    ensures forward { IfOk result (λ x. (place < x.1) × (x.1 ≤ length bytes.now)) }
 {
     if place > bytes.len() {
         return Err(Failure::Fault(CodeFault::Truncated));
@@ -68,7 +69,11 @@ fn instr_of(alloc: Global, version: Version, bytes: &[u8]) -> Result<(Instr, &[u
     }
 }
 
-fn immediates_of(alloc: Global, shape: Shape, bytes: &[u8]) -> Result<(Immediates, &[u8]), CodeError>
+fn immediates_of(
+    alloc: Global,
+    shape: Shape,
+    bytes: &[u8],
+) -> Result<(Immediates, &[u8]), CodeError>
     ensures { Gives (λ x. (x.0, x.1.now)) result (immediates_at shape bytes.now) }
 {
     match shape {
@@ -105,7 +110,10 @@ fn immediates_of(alloc: Global, shape: Shape, bytes: &[u8]) -> Result<(Immediate
         Shape::Offset => {
             let (high, rest) = byte_of(bytes)?;
             let (low, rest) = byte_of(rest)?;
-            Ok((Immediates::Offset(256 * u16::from(high) + u16::from(low)), rest))
+            Ok((
+                Immediates::Offset(256 * u16::from(high) + u16::from(low)),
+                rest,
+            ))
         }
         Shape::UintBlock => {
             let (numbers, rest) = uint_block_of(alloc, bytes)?;
@@ -197,7 +205,11 @@ fn byte_block_of(alloc: Global, bytes: &[u8]) -> Result<(ByteStrings, &[u8]), Co
     Ok((ByteStrings::from_vec(strings), rest))
 }
 
-fn strings_of(alloc: Global, count: u64, bytes: &[u8]) -> Result<(Vec<ByteString>, &[u8]), CodeError>
+fn strings_of(
+    alloc: Global,
+    count: u64,
+    bytes: &[u8],
+) -> Result<(Vec<ByteString>, &[u8]), CodeError>
     ensures { Gives (λ x. (x.0.items, x.1.now)) result (many_at string_at count bytes.now) }
 {
     let mut strings = Vec::new(alloc);
