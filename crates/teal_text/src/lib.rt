@@ -1,0 +1,15 @@
+//! The lines, tokens, numbers and byte literals of TEAL source text (TEAL specification, "Assembler syntax").
+//!
+//! What each call gives is a function of the text's bytes: `specs/Tokens.antt`, `specs/Lines.antt`, `specs/Numbers.antt`.
+#![tactic(auto)]
+
+mod fault;
+mod line;
+mod numbers;
+mod scan;
+mod token;
+
+pub use fault::{TextError, TextFault, TextFaultKind};
+pub use line::{Line, lines};
+pub use numbers::{number, number_of_word};
+pub use token::Token;
