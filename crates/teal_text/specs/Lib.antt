@@ -1,3 +1,5 @@
+pub mod Strings
 pub mod Tokens
 pub mod Lines
 pub mod Numbers
+pub mod Literals

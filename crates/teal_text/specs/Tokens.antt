@@ -2,12 +2,12 @@
 use Rattle.std.specs.Prelude.{ℕ, zero, suc, ◌+◌, ◌<◌, ◌≤◌, ◌==◌, Bool, true, false, not, ◌&&◌, ◌||◌, if◌then◌else◌, List, [], ◌∷◌, length, take, drop, slice_index, codes, nat_eq, Option, Some, None, Result, Ok, Err}
 use Rattle.std.specs.List.{prefix_len, starts_with}
 use Rattle.std.specs.Str.{bytes_eq}
-use Rattle.std.specs.Char.{is_ascii_hexdigit}
 use Rattle.teal_value.specs.Answer.{◌>>=◌}
 use Rattle.teal_text.specs.declared.fault.TextFaultKind.{TextFaultKind}
 use Rattle.teal_text.specs.declared.fault.TextFaultKind.TheVariants.{Unclosed, BadEscape, Glued}
-use Rattle.teal_text.specs.declared.scan.StringState.{StringState}
-use Rattle.teal_text.specs.declared.scan.StringState.TheVariants.{Plain, Escape, TwoDigits, OneDigit}
+use Rattle.teal_text.specs.declared.string.StringState.{StringState}
+use Rattle.teal_text.specs.declared.string.StringState.TheVariants.{Plain}
+use Rattle.teal_text.specs.Strings.{closes, next_state}
 use Rattle.teal_text.specs.declared.scan.FirstToken.{FirstToken}
 use Rattle.teal_text.specs.declared.token.Token.{Token}
 
@@ -26,24 +26,6 @@ begins_comment bs = starts_with nat_eq bs (codes "//")
 abbrev pub word_len : Bool → List ℕ → ℕ
 word_len base64 [] = 0
 word_len base64 (b ∷ bs) = if is_blank b || (not base64 && begins_comment (b ∷ bs)) then 0 else suc (word_len base64 bs)
-
--- what a `\` escapes alone: n, r, t, a `\` and a quotation mark
-abbrev pub is_escape : ℕ → Bool
-is_escape b = (((b == 110 || b == 114) || b == 116) || b == 92) || b == 34
-
--- where a byte of a string leads to, or None where no escape has it
-abbrev pub next_state : StringState → ℕ → Option StringState
-next_state Plain b = Some (if b == 92 then Escape else Plain)
-next_state Escape b = if is_escape b then Some Plain else if b == 120 then Some TwoDigits else None
-next_state TwoDigits b = if is_ascii_hexdigit b then Some OneDigit else None
-next_state OneDigit b = if is_ascii_hexdigit b then Some Plain else None
-
--- the quotation mark that ends the string
-abbrev pub closes : StringState → ℕ → Bool
-closes Plain b = b == 34
-closes Escape b = false
-closes TwoDigits b = false
-closes OneDigit b = false
 
 abbrev pub one_more : Result ℕ TextFaultKind → Result ℕ TextFaultKind
 one_more (Ok n) = Ok (suc n)
@@ -70,9 +52,12 @@ may_follow_string bs = length bs == 0 || is_blank (slice_index bs 0) || begins_c
 abbrev pub is_base64_word : Bool → List ℕ → Bool
 is_base64_word announced bs = announced || starts_with nat_eq bs (codes "base64(") || starts_with nat_eq bs (codes "b64(")
 
+abbrev pub is_base64_name : List ℕ → Bool
+is_base64_name word = bytes_eq word (codes "base64") || bytes_eq word (codes "b64")
+
 -- A token, and what follows it: the next word is a base64 word, unless a comment cuts the token off.
 unfoldable pub announces_base64 : List ℕ → List ℕ → Bool
-announces_base64 word rest = (bytes_eq word (codes "base64") || bytes_eq word (codes "b64")) && not (begins_comment rest)
+announces_base64 word rest = is_base64_name word && not (begins_comment rest)
 
 -- the token that a line's rest begins with, where no blank stands before it
 unfoldable pub first_token : Bool → List ℕ → Result (Option FirstToken) TextFaultKind

@@ -5,11 +5,14 @@
 
 mod fault;
 mod line;
+mod literal;
 mod numbers;
 mod scan;
+mod string;
 mod token;
 
 pub use fault::{TextError, TextFault, TextFaultKind};
 pub use line::{Line, lines};
+pub use literal::{base64_bytes, byte_literal, encoded_bytes, names_encoding, token_bytes};
 pub use numbers::{number, number_of_word};
 pub use token::Token;

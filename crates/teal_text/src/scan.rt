@@ -1,18 +1,10 @@
 //! What stands at the front of the rest of a line.
 
 ghost use Rattle.std.specs.Prelude.{◌≡◌, ◌<◌, ◌≤◌, length, slice_index, false, IfOk, IfSome};
-ghost use Rattle.teal_text.specs.Tokens.{is_blank, blank_len, word_len, next_state, string_len, is_ended, is_base64_word, announces_base64, may_follow_string, first_token, begins_comment};
+ghost use Rattle.teal_text.specs.Tokens.{is_blank, blank_len, word_len, string_len, is_ended, is_base64_word, is_base64_name, announces_base64, may_follow_string, first_token, begins_comment};
 
 use crate::fault::TextFaultKind;
-
-/// Where a place inside a string is: in plain text, behind a `\`, or before one or two hexadecimal digits.
-#[derive(Clone, Copy, PartialEq, Eq, Debug)]
-pub enum StringState {
-    Plain,
-    Escape,
-    TwoDigits,
-    OneDigit,
-}
+use crate::string::{StringState, closes, next_state};
 
 /// A token at the front: how many bytes it takes, and whether it is a string.
 #[derive(Clone, Copy, PartialEq, Eq, Debug)]
@@ -64,25 +56,6 @@ fn word_len(bytes: &[u8], base64: bool) -> usize
     i
 }
 
-fn next_state(state: StringState, byte: u8) -> Option<StringState>
-    ensures { result ≡ next_state state byte }
-{
-    match state {
-        StringState::Plain => Some(if byte == b'\\' {
-            StringState::Escape
-        } else {
-            StringState::Plain
-        }),
-        StringState::Escape => match byte {
-            b'n' | b'r' | b't' | b'\\' | b'"' => Some(StringState::Plain),
-            b'x' => Some(StringState::TwoDigits),
-            _ => None,
-        },
-        StringState::TwoDigits => byte.is_ascii_hexdigit().then_some(StringState::OneDigit),
-        StringState::OneDigit => byte.is_ascii_hexdigit().then_some(StringState::Plain),
-    }
-}
-
 /// How many bytes a string has behind its first quotation mark, with its last one.
 fn string_len(bytes: &[u8]) -> Result<usize, TextFaultKind>
     ensures value { result ≡ string_len StringState.Plain bytes.now }
@@ -90,7 +63,7 @@ fn string_len(bytes: &[u8]) -> Result<usize, TextFaultKind>
 {
     let mut state = StringState::Plain;
     for (i, byte) in bytes.iter().enumerate() {
-        if state == StringState::Plain && *byte == b'"' {
+        if closes(state, *byte) {
             return Ok(i + 1);
         }
         match next_state(state, *byte) {
@@ -122,12 +95,19 @@ fn is_base64_word(bytes: &[u8], base64: bool) -> bool
     base64 || bytes.starts_with(b"base64(") || bytes.starts_with(b"b64(")
 }
 
-/// Whether the token `word`, which `after` follows, makes the next one a base64 word.
-#[tactic(auto, unfolding(crate::specs::Tokens::announces_base64))]
-pub fn announces_base64(word: &[u8], after: &[u8]) -> bool
-    ensures { result ≡ announces_base64 word.now after.now }
+/// Whether a word is the name of base64.
+pub fn is_base64_name(word: &[u8]) -> bool
+    ensures { result ≡ is_base64_name word.now }
 {
-    (word == b"base64".as_slice() || word == b"b64".as_slice()) && !begins_comment(after)
+    word == b"base64".as_slice() || word == b"b64".as_slice()
+}
+
+/// Whether the token `word`, which `rest` follows, makes the next one a base64 word.
+#[tactic(auto, unfolding(crate::specs::Tokens::announces_base64))]
+pub fn announces_base64(word: &[u8], rest: &[u8]) -> bool
+    ensures { result ≡ announces_base64 word.now rest.now }
+{
+    is_base64_name(word) && !begins_comment(rest)
 }
 
 /// The token at the front, where no blank stands before it; `base64` says that the token before announced a base64 word.

@@ -1,6 +1,6 @@
 use Rattle.std.proofs.Common.{◌≡◌, drop}
 use Rattle.teal_text.specs.Tokens.{string_len}
-use Rattle.teal_text.specs.declared.scan.StringState.TheVariants.{Plain}
+use Rattle.teal_text.specs.declared.string.StringState.TheVariants.{Plain}
 use Rattle.teal_text.proofs.Reading.{more}
 use Rattle.teal_text.proofs.scan.string_len.Given as goal
 
