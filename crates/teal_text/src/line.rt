@@ -1,9 +1,11 @@
 //! Lines and their tokens.
 
-ghost use Rattle.std.specs.Prelude.{◌≡◌, ◌+◌, ◌<◌, ◌^◌, ◌≤◌, length, drop, All, IfOk};
+ghost use Rattle.std.specs.Prelude.{◌≡◌, ◌+◌, ◌<◌, ◌^◌, ◌≤◌, ℕ, List, Ok, length, drop, All, IfOk};
 ghost use Rattle.std.specs.Str.Lines.{strip_carriage_return};
 ghost use Rattle.teal_value.specs.Answer.{Gives};
 ghost use Rattle.teal_text.specs.Tokens.{tokens_of, LiesWithin};
+ghost use Rattle.teal_text.specs.TokenOrder.{LieInOrder};
+ghost use Rattle.teal_text.specs.declared.token.Token.{Token};
 ghost use Rattle.teal_text.specs.Lines.{views, lines_of, on_line, line_len, line_text};
 
 use crate::fault::{TextError, TextFault};
@@ -39,6 +41,12 @@ pub fn lines(alloc: Global, text: &str) -> Result<Vec<Line>, TextError>
     }
     Ok(lines)
 }
+
+/// The law of a line's tokens: they lie in order in their line, only blanks stand between them, and only blanks and a
+/// comment stand behind the last.
+pub fn tokens_lie_in_order()
+    ensures { (place : ℕ) (line : List ℕ) (tokens : List Token) → tokens_of place line ≡ Ok tokens → LieInOrder place line tokens }
+{}
 
 /// The first line, and what follows its line feed.
 #[tactic(auto, unfolding(crate::specs::Lines::line_text))]
