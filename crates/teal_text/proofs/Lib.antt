@@ -1,5 +1,5 @@
 pub mod Reading
 pub mod LineReading
 pub mod Numerals
-pub mod Rows
+mod Rows
 pub mod TokenOrder

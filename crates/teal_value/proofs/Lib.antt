@@ -2,3 +2,4 @@ pub mod Base32Groups
 pub mod Base32Bytes
 pub mod Base32Law
 pub mod AddressLaw
+mod Rows
