@@ -1,0 +1,5 @@
+pub mod Items
+pub mod Asks
+pub mod Acts
+pub mod Locality
+pub mod Counting
