@@ -1,0 +1,4 @@
+pub mod Table
+pub mod Shown
+pub mod LeftOut
+pub mod Fields
