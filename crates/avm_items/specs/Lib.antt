@@ -1,3 +1,4 @@
+pub mod CallFields
 pub mod Items
 pub mod Asks
 pub mod Acts
