@@ -3,5 +3,6 @@
 #![tactic(auto)]
 
 mod outcome;
+pub mod worked;
 
 pub use outcome::{Cause, Ended, Outcome, Why};
