@@ -14,19 +14,19 @@ use Rattle.avm_items.specs.SameValues.{is_same_value}
 
 -- ---- the value of an item
 
-abbrev row_value : Option StoredApplication → ItemValue
+abbrev pub row_value : Option StoredApplication → ItemValue
 row_value None = value.Absent
 row_value (Some app) = value.App app.row
 
-abbrev counts_value : Option StoredApplication → ItemValue
+abbrev pub counts_value : Option StoredApplication → ItemValue
 counts_value None = value.Absent
 counts_value (Some app) = value.Counts (counts_in app.state)
 
-abbrev entry_value : Option StoredApplication → List ℕ → ItemValue
+abbrev pub entry_value : Option StoredApplication → List ℕ → ItemValue
 entry_value None key = value.Absent
 entry_value (Some app) key = key_value (value_of_key app.state key)
 
-abbrev local_value : Option Entries → ItemValue
+abbrev pub local_value : Option Entries → ItemValue
 local_value None = value.Absent
 local_value (Some state) = value.Local state
 
@@ -40,11 +40,11 @@ at l (item.Local who id) = local_value (local_state_at l who id)
 -- ---- a ledger with items set
 
 -- a new application has no entries; one that stands keeps its own
-abbrev with_row : Option StoredApplication → Application → StoredApplication
+abbrev pub with_row : Option StoredApplication → Application → StoredApplication
 with_row None row = record { row = row; state = [] }
 with_row (Some app) row = record app { row = row }
 
-abbrev with_state : Ledger → ℕ → (Entries → Entries) → Option StoredApplication → Ledger
+abbrev pub with_state : Ledger → ℕ → (Entries → Entries) → Option StoredApplication → Ledger
 with_state l id change None = l
 with_state l id change (Some app) = with_application l id (record app { state = change app.state })
 

@@ -6,3 +6,4 @@ pub mod Acts
 pub mod Locality
 pub mod Counting
 pub mod LedgerItems
+pub mod PutLaws

@@ -1,5 +1,6 @@
 //! The laws of questions, each the contract of a function without work. They hold for every kind of result.
 
+ghost use Rattle.avm_items.specs.PutLaws.{HasWhatWasPut, KeepsOthers, StaysInOrder, IsItsItems};
 ghost use Rattle.avm_items.specs.Locality.{UsesWhatItAsks, StaysWithMore, HoldsOnLedgers, AsksForWhatIsUsed, WritesComeFirst, GoesOnInParts, GoesOnOverALedger};
 
 /// What is computed over a ledger depends on the items alone that it asks for.
@@ -31,4 +32,16 @@ pub fn writes_come_first<A>()
 pub fn goes_on_in_parts<A, B>()
     ensures known { GoesOnInParts A B }
     ensures ledger { GoesOnOverALedger A B }
+{}
+
+/// What an item of a ledger is after it is set, and what every other item is.
+pub fn puts_one_item()
+    ensures put { HasWhatWasPut }
+    ensures others { KeepsOthers }
+    ensures order { StaysInOrder }
+{}
+
+/// Two ledgers with the same items are the same.
+pub fn is_its_items()
+    ensures { IsItsItems }
 {}

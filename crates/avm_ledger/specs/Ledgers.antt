@@ -1,8 +1,9 @@
 -- Ledgers: applications by rising id, local states by rising account and application, and the next id.
-use Rattle.std.specs.Prelude.{ℕ, List, [], Option}
+use Rattle.std.specs.Prelude.{◌≡◌, ℕ, List, [], Option, Some}
 use Rattle.std.specs.Ordering.{nat_cmp, ordering_then}
 use Rattle.std.specs.declared.cmp.Ordering.{Ordering}
-use Rattle.std.specs.Map.{lookup, remove_entry}
+use Rattle.std.specs.Map.{lookup, remove_entry, keys_of}
+use Rattle.std.specs.List.Sorted.{IsStrictlySortedBy}
 use Rattle.std.specs.BTreeMap.{insert_entry, is_at}
 use Rattle.teal_value.specs.declared.address.Address.{Address}
 use Rattle.avm_ledger.specs.declared.application.Application.{Application}
@@ -42,3 +43,13 @@ with_local_state l who id state = record l { local_states = insert_entry account
 
 abbrev pub without_local_state : Ledger → Address → ℕ → Ledger
 without_local_state l who id = record l { local_states = remove_entry (is_at (account_cmp (who, id))) l.local_states }
+
+-- a state's keys rise
+abbrev pub IsInKeyOrder : Entries → Type 0
+IsInKeyOrder state = IsStrictlySortedBy byte_cmp (keys_of state)
+
+-- The maps of a ledger are in order: ids rise, accounts with applications rise, and so do the keys of each global state.
+pub record IsInOrder (l : Ledger) : Type 0 where
+  pub applications : IsStrictlySortedBy nat_cmp (keys_of l.applications)
+  pub global_states : (id : ℕ) (app : StoredApplication) → application_at l id ≡ Some app → IsInKeyOrder app.state
+  pub local_states : IsStrictlySortedBy account_cmp (keys_of l.local_states)
