@@ -5,5 +5,6 @@ pub mod Asks
 pub mod Acts
 pub mod Locality
 pub mod Counting
+pub mod CallSpelling
 pub mod LedgerItems
 pub mod PutLaws

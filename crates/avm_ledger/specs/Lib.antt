@@ -1,3 +1,4 @@
 pub mod Entries
 pub mod Schemas
 pub mod Ledgers
+pub mod Spellings
