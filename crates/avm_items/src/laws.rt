@@ -1,5 +1,6 @@
 //! The laws of questions, each the contract of a function without work. They hold for every kind of result.
 
+ghost use Rattle.avm_items.specs.Counting.{AnswersLeaveLess};
 ghost use Rattle.avm_items.specs.PutLaws.{HasWhatWasPut, KeepsOthers, StaysInOrder, IsItsItems};
 ghost use Rattle.avm_items.specs.Locality.{UsesWhatItAsks, StaysWithMore, HoldsOnLedgers, AsksForWhatIsUsed, WritesComeFirst, GoesOnInParts, GoesOnOverALedger};
 
@@ -33,6 +34,12 @@ pub fn goes_on_in_parts<A, B>()
     ensures known { GoesOnInParts A B }
     ensures ledger { GoesOnOverALedger A B }
 {}
+
+/// Each answer to a question leaves one item less to ask for, where the values are such as may come.
+pub fn answers_leave_less<A>()
+    ensures { AnswersLeaveLess A }
+{
+}
 
 /// What an item of a ledger is after it is set, and what every other item is.
 pub fn puts_one_item()
