@@ -1,0 +1,8 @@
+//! Runs of programs and whole calls: `specs/Runs.antt` has the path and the result of a program, `specs/Calls.antt` the
+//! tests before it, what is prepared for it, and what comes after.
+#![tactic(auto)]
+
+mod outcome;
+pub mod worked;
+
+pub use outcome::{Cause, Ended, Outcome, Why};

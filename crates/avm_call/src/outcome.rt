@@ -1,0 +1,48 @@
+//! How programs and calls end.
+
+use teal_value::Fault;
+
+/// How a program ends. A fault names the place of its instruction, or the program's length where the program's end has
+/// it.
+#[derive(Clone, Copy, Debug, PartialEq, Eq)]
+pub enum Ended {
+    Approved,
+    Rejected,
+    Faulted(Fault, u16),
+}
+
+/// Why a call is refused before its program runs.
+#[derive(Clone, Copy, Debug, PartialEq, Eq)]
+pub enum Why {
+    /// The application is gone.
+    NoApp = 1,
+    /// The sender is opted in already.
+    AlreadyIn,
+    /// The sender isn't opted in.
+    NotIn,
+    /// No id is left for a creation.
+    IdsEnd,
+}
+
+/// Why a local state was cleared without approval.
+#[derive(Clone, Copy, Debug, PartialEq, Eq)]
+pub enum Cause {
+    /// The application is gone.
+    Gone,
+    /// The clear state program rejected.
+    Rejected,
+    /// The clear state program faulted.
+    Faulted(Fault, u16),
+}
+
+/// How a call ends.
+#[derive(Clone, Copy, Debug, PartialEq, Eq)]
+pub enum Outcome {
+    Approved,
+    Rejected,
+    Faulted(Fault, u16),
+    /// No program ran.
+    Refused(Why),
+    /// The sender's local state was removed, and nothing else changed.
+    ClearedAnyway(Cause),
+}

@@ -1,0 +1,12 @@
+//! The machine of one run: stack, scratch space, constants in force and place (`specs/Machine.antt`), with one reading
+//! call for each kind of operands (`specs/Operands.antt`).
+#![tactic(auto)]
+
+mod cpu;
+mod flow;
+
+pub use cpu::Cpu;
+pub use flow::Flow;
+
+#[cfg(test)]
+mod tests;

@@ -1,0 +1,37 @@
+-- Whether two values of items are the same.
+use Rattle.std.specs.Prelude.{ℕ, ◌==◌, ◌&&◌, Bool, true, false, nat_eq, List}
+use Rattle.std.specs.Cmp.Lexicographic.{pointwise}
+use Rattle.teal_value.specs.declared.value.Value.{Value}
+use Rattle.teal_value.specs.declared.value.Value.TheVariants.{Uint, Bytes}
+use Rattle.avm_ledger.specs.declared.application.Application.{Application}
+use Rattle.avm_ledger.specs.declared.schema.Schema.{Schema}
+use Rattle.avm_items.specs.declared.item_value.ItemValue.{ItemValue}
+use Rattle.avm_items.specs.declared.item_value.ItemValue.TheVariants as value
+
+abbrev pub are_same_bytes : List ℕ → List ℕ → Bool
+are_same_bytes = pointwise nat_eq
+
+abbrev pub is_same : Value → Value → Bool
+is_same (Uint a) (Uint b) = a == b
+is_same (Bytes a) (Bytes b) = are_same_bytes a b
+is_same _ _ = false
+
+abbrev is_same_entry : List ℕ × Value → List ℕ × Value → Bool
+is_same_entry d e = are_same_bytes d.0 e.0 && is_same d.1 e.1
+
+abbrev is_same_schema : Schema → Schema → Bool
+is_same_schema s t = (s.uints == t.uints) && (s.bytes == t.bytes)
+
+abbrev is_same_application : Application → Application → Bool
+is_same_application a b =
+    are_same_bytes a.creator.0 b.creator.0 && are_same_bytes a.approval b.approval && are_same_bytes a.clear b.clear
+    && is_same_schema a.global_schema b.global_schema && is_same_schema a.local_schema b.local_schema
+
+abbrev pub is_same_value : ItemValue → ItemValue → Bool
+is_same_value value.Absent value.Absent = true
+is_same_value (value.NextApp n) (value.NextApp m) = n == m
+is_same_value (value.App a) (value.App b) = is_same_application a b
+is_same_value (value.Counts s) (value.Counts t) = is_same_schema s t
+is_same_value (value.Key v) (value.Key w) = is_same v w
+is_same_value (value.Local s) (value.Local t) = pointwise is_same_entry s t
+is_same_value _ _ = false

@@ -1,0 +1,4 @@
+pub mod Entries
+pub mod Schemas
+pub mod Ledgers
+pub mod Spellings

@@ -1,0 +1,13 @@
+//! The plain types of a ledger: applications, their schemas, states, and what a block tells its programs. What a ledger
+//! is stands in `specs/Ledgers.antt`, states as finite maps in `specs/Entries.antt`.
+#![tactic(auto)]
+
+mod application;
+mod header;
+mod schema;
+mod state;
+
+pub use application::Application;
+pub use header::{Header, Profile};
+pub use schema::Schema;
+pub use state::State;
