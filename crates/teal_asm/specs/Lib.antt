@@ -1,0 +1,5 @@
+pub mod Operands
+pub mod Commands
+pub mod Statements
+pub mod Meaning
+pub mod Program
