@@ -3,3 +3,4 @@ pub mod Commands
 pub mod Statements
 pub mod Meaning
 pub mod Program
+pub mod Shown

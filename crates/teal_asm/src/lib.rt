@@ -5,8 +5,10 @@
 //! line says.
 #![tactic(auto)]
 
+mod arity;
 mod command;
 mod fault;
+mod operand;
 
 pub use command::Command;
 pub use fault::{AsmError, AsmFault, AsmFaultKind};

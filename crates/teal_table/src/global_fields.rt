@@ -90,19 +90,26 @@ pub fn global_field(number: u8) -> Option<GlobalField>
 }
 
 /// The global field of a name of source text, if it is one of this machine's.
-#[tactic(auto, unfolding(crate::specs::Fields::global_field_named))]
 pub fn global_field_by_name(name: &str) -> Option<GlobalField>
+    ensures { result ≡ global_field_named name.now }
+{
+    global_field_named(name.as_bytes())
+}
+
+/// `global_field_by_name` of the bytes of a name.
+#[tactic(auto, unfolding(crate::specs::Fields::global_field_named))]
+pub fn global_field_named(name: &[u8]) -> Option<GlobalField>
     ensures { result ≡ global_field_named name.now }
 {
     global_field_in(&GLOBAL_FIELDS, name)
 }
 
 // The first field with the name.
-fn global_field_in(fields: &[GlobalField], name: &str) -> Option<GlobalField>
+fn global_field_in(fields: &[GlobalField], name: &[u8]) -> Option<GlobalField>
     ensures { result ≡ find (λ f. bytes_eq (global_name f) name.now) fields.now }
 {
     for field in fields {
-        if field.name() == name {
+        if field.name().as_bytes() == name {
             return Some(*field);
         }
     }

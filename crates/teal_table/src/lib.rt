@@ -12,9 +12,9 @@ mod table;
 mod txn_fields;
 
 pub use entry::Row;
-pub use global_fields::{GlobalField, global_field, global_field_by_name};
+pub use global_fields::{GlobalField, global_field, global_field_by_name, global_field_named};
 pub use opcode::Opcode;
 pub use outside::left_out;
 pub use shape::{Shape, ValueKind, Version};
-pub use table::{by_name, opcode_in, row};
-pub use txn_fields::{TxnField, txn_field, txn_field_by_name};
+pub use table::{by_name, opcode_in, opcode_named, row};
+pub use txn_fields::{TxnField, txn_field, txn_field_by_name, txn_field_named};

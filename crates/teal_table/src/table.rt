@@ -204,21 +204,30 @@ pub fn opcode_in(version: Version, code: u8) -> Option<Opcode>
 }
 
 /// The row of a name of source text, if it is one of the table's 76.
-#[tactic(auto, unfolding(crate::specs::Table::opcode_named, crate::specs::Table::opcodes))]
 pub fn by_name(name: &str) -> Option<Row>
     ensures { option_map shown result ≡ option_map row_of (opcode_named name.now) }
 {
-    row_named(&OPCODES, name)
+    match opcode_named(name.as_bytes()) {
+        Some(opcode) => Some(opcode.row()),
+        None => None,
+    }
 }
 
-// The first row with the name.
-fn row_named(opcodes: &[Opcode], name: &str) -> Option<Row>
-    ensures { option_map shown result ≡ option_map row_of (find (λ o. bytes_eq (name_of o) name.now) opcodes.now) }
+/// The opcode of a name of source text, which is given as its bytes.
+#[tactic(auto, unfolding(crate::specs::Table::opcode_named, crate::specs::Table::opcodes))]
+pub fn opcode_named(name: &[u8]) -> Option<Opcode>
+    ensures { result ≡ opcode_named name.now }
+{
+    opcode_with(&OPCODES, name)
+}
+
+// The first opcode with the name.
+fn opcode_with(opcodes: &[Opcode], name: &[u8]) -> Option<Opcode>
+    ensures { result ≡ find (λ o. bytes_eq (name_of o) name.now) opcodes.now }
 {
     for opcode in opcodes {
-        let row = opcode.row();
-        if row.name == name {
-            return Some(row);
+        if opcode.row().name.as_bytes() == name {
+            return Some(*opcode);
         }
     }
     None

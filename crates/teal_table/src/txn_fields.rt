@@ -134,19 +134,26 @@ pub fn txn_field(number: u8) -> Option<TxnField>
 }
 
 /// The transaction field of a name of source text, if it is one of this machine's.
-#[tactic(auto, unfolding(crate::specs::Fields::txn_field_named))]
 pub fn txn_field_by_name(name: &str) -> Option<TxnField>
+    ensures { result ≡ txn_field_named name.now }
+{
+    txn_field_named(name.as_bytes())
+}
+
+/// `txn_field_by_name` of the bytes of a name.
+#[tactic(auto, unfolding(crate::specs::Fields::txn_field_named))]
+pub fn txn_field_named(name: &[u8]) -> Option<TxnField>
     ensures { result ≡ txn_field_named name.now }
 {
     txn_field_in(&TXN_FIELDS, name)
 }
 
 // The first field with the name.
-fn txn_field_in(fields: &[TxnField], name: &str) -> Option<TxnField>
+fn txn_field_in(fields: &[TxnField], name: &[u8]) -> Option<TxnField>
     ensures { result ≡ find (λ f. bytes_eq (txn_name f) name.now) fields.now }
 {
     for field in fields {
-        if field.name() == name {
+        if field.name().as_bytes() == name {
             return Some(*field);
         }
     }
