@@ -6,9 +6,11 @@
 #![tactic(auto)]
 
 mod arity;
+mod assembler;
 mod command;
 mod fault;
 mod operand;
 
+pub use assembler::assemble;
 pub use command::Command;
 pub use fault::{AsmError, AsmFault, AsmFaultKind};
