@@ -1,0 +1,34 @@
+-- Replies, by what was read.
+use Rattle.std.proofs.Common.{◌≡◌, ◌<◌, ◌≤◌, ◌+◌, ◌++◌, ℕ, List, [], length, Option, Some, None, Result, refl, true, false, nat_lt, IfSome, option_map, take, arith}
+use Rattle.std.specs.Str.{IsUtf8, is_utf8}
+use Rattle.std.proofs.lemmas.Str.{IsUtf8-from_is_utf8, is_utf8-from_IsUtf8}
+use Rattle.teal_asm.specs.declared.fault.AsmFault.{AsmFault}
+use Rattle.teal_asm.specs.Program.{assembled}
+use Rattle.avm_node.specs.declared.command_line.NodeCommand.{NodeCommand}
+use Rattle.avm_node.specs.declared.command_line.NodeCommand.TheVariants.{Asm}
+use Rattle.avm_node.specs.Answers.{IsInput, asm_reply, assembly_reply, input_limit, input_refusal, reply_of}
+
+not_utf8 : (bytes : List ℕ) → (IsUtf8 bytes → ⊥) → is_utf8 bytes ≡ false
+not_utf8 bytes fails =
+    elim (is_utf8 bytes) as (λ b. is_utf8 bytes ≡ b → b ≡ false) [
+      | true ↦ λ e. absurd (fails (IsUtf8-from_is_utf8 bytes e))
+      | false ↦ λ e. refl
+    ] refl
+
+pub asm_reply-not_utf8 : (input : List ℕ) → (IsUtf8 input → ⊥) → asm_reply input ≡ input_refusal
+asm_reply-not_utf8 input fails = rw (not_utf8 input fails) refl
+
+pub asm_reply-utf8 : (input text : List ℕ) (meant : Result (List ℕ) AsmFault) → IsUtf8 input → text ≡ input
+    → assembled text ≡ meant → asm_reply input ≡ assembly_reply meant
+asm_reply-utf8 input text meant u same means = rw (is_utf8-from_IsUtf8 input u, ← same, means) refl
+
+pub reply_of-long : (command : NodeCommand) (input : List ℕ) → input_limit < length input → reply_of command input ≡ input_refusal
+reply_of-long Asm input long = let t : nat_lt input_limit (length input) ≡ true = search (arith) in rw t refl
+
+pub reply_of-short : (command : NodeCommand) (input : List ℕ) → length input ≤ input_limit → reply_of command input ≡ asm_reply input
+reply_of-short Asm input short = let t : nat_lt input_limit (length input) ≡ false = search (arith) in rw t refl
+
+pub IsInput-taken : (had : Option (List ℕ)) (input : List ℕ)
+    → IfSome (option_map (take (input_limit + 1)) had) (λ xs. input ≡ [] ++ xs) → IsInput had input
+IsInput-taken None input h = h
+IsInput-taken (Some bytes) input h = h

@@ -1,0 +1,20 @@
+use Rattle.std.proofs.Common.{◌∙◌, ap, sym, option_and_then, map, List, ℕ, Bor}
+use Rattle.clap.specs.Words.{App, is_simple, is_simple_and_free}
+use Rattle.avm_node.specs.CommandLine.{command_among, command_named}
+use Rattle.avm_node.proofs.CommandNames.{command_among-faulty, command_among-matches, command_line_is_free, command_line_is_simple, subcommand_rows-name}
+use Rattle.avm_node.proofs.command_line.command_in.Goals as goal
+
+pub returns-in-Ok : goal.returns-in-Ok
+returns-in-Ok c =
+    let line_is = c.in_ok-command_line.ensures in
+    let no_fault = c.in-Ok.ensures.kinds (ap is_simple_and_free line_is ∙ command_line_is_free) in
+    let rows_are = (c.in-Ok.ensures.matches (ap is_simple line_is ∙ command_line_is_simple)).1 in
+    c.command_of.ensures ∙ ap (option_and_then command_named) (c.subcommand_name.ensures ∙ sym (subcommand_rows-name _))
+    ∙ command_among-matches _ _ _ no_fault rows_are ∙ ap (λ (a : App). command_among a (map (λ (word : Bor (List ℕ)). word.now) c.args.words.now)) line_is
+
+pub returns-in-Err-2 : goal.returns-in-Err-2
+returns-in-Err-2 c =
+    let line_is = c.in_ok-command_line.ensures in
+    let has = c.in-Err.ensures.kinds (ap is_simple_and_free line_is ∙ command_line_is_free) in
+    command_among-faulty _ _ c.in-Err.error has (λ is. let t = c.is_out_of_memory.ensures.1 is in cc)
+    ∙ ap (λ (a : App). command_among a (map (λ (word : Bor (List ℕ)). word.now) c.args.words.now)) line_is

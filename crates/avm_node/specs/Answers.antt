@@ -1,0 +1,90 @@
+-- What a command answers to its input: the text that is written, and the exit status.
+use Rattle.std.specs.Prelude.{◌≡◌, ◌≢◌, ◌+◌, ℕ, ◌++◌, List, Option, Some, None, Result, Ok, Err, IfSome, codes, decimal, if◌then◌else◌, length, nat_lt, take}
+use Rattle.std.specs.Str.{is_utf8}
+use Rattle.std.specs.Io.KnownBytes.{Appends}
+use Rattle.hex.specs.Hex.{encode_lower}
+use Rattle.teal_asm.specs.declared.fault.AsmFault.{AsmFault}
+use Rattle.teal_asm.specs.declared.fault.AsmFaultKind.{AsmFaultKind}
+use Rattle.teal_asm.specs.declared.fault.AsmFaultKind.TheVariants as kind
+use Rattle.teal_asm.specs.Program.{assembled}
+use Rattle.avm_node.specs.declared.command_line.NodeCommand.{NodeCommand}
+use Rattle.avm_node.specs.declared.command_line.NodeCommand.TheVariants.{Asm}
+
+-- a text and an exit status
+pub record Reply : Type 0 where
+  pub text : List ℕ
+  pub status : ℕ
+
+-- the statuses: done, refused, a wrong command line, and no answer for a failed read or write or for want of memory
+abbrev pub done : ℕ
+done = 0
+
+abbrev pub refused : ℕ
+refused = 1
+
+abbrev pub usage : ℕ
+usage = 2
+
+abbrev pub failed : ℕ
+failed = 3
+
+abbrev pub usage_reply : Reply
+usage_reply = record { text = codes "usage: avm asm|dis|check|propose|replay|debug|state\n"; status = usage }
+
+-- how many bytes an input has at most
+abbrev pub input_limit : ℕ
+input_limit = 16777216
+
+-- an input that is too long, or source text that is no UTF-8
+abbrev pub input_refusal : Reply
+input_refusal = record { text = codes "refused input\n"; status = refused }
+
+abbrev pub name_of : AsmFaultKind → List ℕ
+name_of kind.Text = codes "Text"
+name_of kind.NoPragma = codes "NoPragma"
+name_of kind.Version = codes "Version"
+name_of kind.UnknownName = codes "UnknownName"
+name_of kind.Operands = codes "Operands"
+name_of kind.BadNumber = codes "BadNumber"
+name_of kind.BadBytes = codes "BadBytes"
+name_of kind.LabelTwice = codes "LabelTwice"
+name_of kind.LabelMissing = codes "LabelMissing"
+name_of kind.LabelBehind = codes "LabelBehind"
+name_of kind.TooManyConstants = codes "TooManyConstants"
+name_of kind.MixedBlock = codes "MixedBlock"
+name_of kind.TooLong = codes "TooLong"
+
+-- the program in lower-case digits, or the line and the name of the fault
+abbrev pub assembly_reply : Result (List ℕ) AsmFault → Reply
+assembly_reply (Ok program) = record { text = encode_lower program ++ codes "\n"; status = done }
+assembly_reply (Err fault) = record {
+  text = codes "refused asm " ++ (decimal fault.line ++ (codes " " ++ (name_of fault.kind ++ codes "\n")));
+  status = refused;
+}
+
+-- what `asm` answers to an input
+abbrev pub asm_reply : List ℕ → Reply
+asm_reply input = if is_utf8 input then assembly_reply (assembled input) else input_refusal
+
+-- what a command answers to an input, of which more than the limit is refused before all else
+abbrev pub reply_of : NodeCommand → List ℕ → Reply
+reply_of Asm input = if nat_lt input_limit (length input) then input_refusal else asm_reply input
+
+-- The bytes are those that a reader had, where these are known: all up to the limit, and one beyond it.
+abbrev pub IsInput : Option (List ℕ) → List ℕ → Type 0
+IsInput had input = IfSome had (λ bytes. input ≡ take (input_limit + 1) bytes)
+
+-- the reply of a command to what the reader had
+abbrev pub IsReply : NodeCommand → Option (List ℕ) → Reply → Type 0
+IsReply command had reply = (input : List ℕ) × IsInput had input × (reply ≡ reply_of command input)
+
+-- a writer, which held the first and holds the second bytes where these are known, gained the reply's text, and this is its status
+abbrev pub IsWritten : Reply → Option (List ℕ) → Option (List ℕ) → ℕ → Type 0
+IsWritten reply held holds status = (status ≡ reply.status) × Appends held holds reply.text
+
+-- What the words after the program's name do to what a reader had and to a writer: unless there was a failure, the usage
+-- line or the command's reply was written.
+abbrev pub Answers : Option NodeCommand → Option (List ℕ) → Option (List ℕ) → Option (List ℕ) → ℕ → Type 0
+Answers None had held holds status = status ≢ failed → IsWritten usage_reply held holds status
+Answers (Some command) had held holds status = status ≢ failed
+    → (reply : Reply) × IsReply command had reply × IsWritten reply held holds status

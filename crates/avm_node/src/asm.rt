@@ -1,0 +1,76 @@
+//! The command `asm`: source text becomes a program in hexadecimal digits.
+
+ghost use Rattle.std.specs.Prelude.{◌≡◌, IfOk};
+ghost use Rattle.avm_node.specs.Answers.{asm_reply, assembly_reply, input_refusal, name_of};
+ghost use Rattle.avm_node.specs.Shown.{shown};
+
+use crate::output::{DONE, REFUSED, Reply};
+use std::alloc::{AllocError, Global};
+use std::str;
+use teal_asm::{AsmFault, AsmFaultKind, assemble};
+use teal_value::Failure;
+
+/// What `asm` answers to its input.
+pub fn asm_reply(alloc: Global, input: &[u8]) -> Result<Reply, AllocError>
+    ensures { IfOk result (λ reply. shown reply ≡ asm_reply input.now) }
+{
+    let Ok(text) = str::from_utf8(input) else {
+        return input_refusal(alloc);
+    };
+    match assemble(alloc, text) {
+        Ok(program) => program_reply(alloc, program.as_slice()),
+        Err(Failure::Fault(fault)) => fault_reply(alloc, fault),
+        Err(Failure::Memory) => Err(AllocError),
+    }
+}
+
+/// The refusal of an input that is too long, or of source text that is no UTF-8.
+pub fn input_refusal(alloc: Global) -> Result<Reply, AllocError>
+    ensures { IfOk result (λ reply. shown reply ≡ input_refusal) }
+{
+    let text = String::from_str(alloc, "refused input\n")?;
+    Ok(Reply {
+        text,
+        status: REFUSED,
+    })
+}
+
+fn program_reply(alloc: Global, program: &[u8]) -> Result<Reply, AllocError>
+    ensures { IfOk result (λ reply. shown reply ≡ assembly_reply (Ok program.now)) }
+{
+    let mut text = hex::encode(alloc, program)?;
+    text.push('\n')?;
+    Ok(Reply { text, status: DONE })
+}
+
+fn fault_reply(alloc: Global, fault: AsmFault) -> Result<Reply, AllocError>
+    ensures { IfOk result (λ reply. shown reply ≡ assembly_reply (Err fault)) }
+{
+    let line = fault.line;
+    let name = name_of(fault.kind);
+    let text = format!(in alloc; "refused asm {line} {name}\n")?;
+    Ok(Reply {
+        text,
+        status: REFUSED,
+    })
+}
+
+fn name_of(kind: AsmFaultKind) -> &'static str
+    ensures { result.now ≡ name_of kind }
+{
+    match kind {
+        AsmFaultKind::Text => "Text",
+        AsmFaultKind::NoPragma => "NoPragma",
+        AsmFaultKind::Version => "Version",
+        AsmFaultKind::UnknownName => "UnknownName",
+        AsmFaultKind::Operands => "Operands",
+        AsmFaultKind::BadNumber => "BadNumber",
+        AsmFaultKind::BadBytes => "BadBytes",
+        AsmFaultKind::LabelTwice => "LabelTwice",
+        AsmFaultKind::LabelMissing => "LabelMissing",
+        AsmFaultKind::LabelBehind => "LabelBehind",
+        AsmFaultKind::TooManyConstants => "TooManyConstants",
+        AsmFaultKind::MixedBlock => "MixedBlock",
+        AsmFaultKind::TooLong => "TooLong",
+    }
+}

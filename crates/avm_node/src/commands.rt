@@ -1,0 +1,52 @@
+//! The commands of the program.
+
+ghost use Rattle.std.specs.Prelude.{◌≡◌, IfOk, IsSomeAnd, None, map};
+ghost use Rattle.avm_node.specs.Answers.{Answers, IsReply};
+ghost use Rattle.avm_node.specs.CommandLine.{command_in};
+ghost use Rattle.avm_node.specs.Shown.{shown};
+
+use crate::asm::{asm_reply, input_refusal};
+use crate::command_line::{NodeCommand, command_in};
+use crate::input::{INPUT_LIMIT, read_input};
+use crate::output::{FAILED, Reply, USAGE, write_reply};
+use std::alloc::Global;
+use std::io::{self, Read, Write};
+
+const USAGE_TEXT: &str = "usage: avm asm|dis|check|propose|replay|debug|state\n";
+
+/// Runs the command that the words after the program's name are, and gives the exit status.
+///
+/// A failed or interrupted read and want of memory give status 3, with nothing written; so does a failed write, before
+/// which some of the answer may have been written. Words that are no command read nothing.
+pub fn answer<'a, R: Read, W: Write>(
+    alloc: Global,
+    words: &'a [&'a str],
+    reader: &mut R,
+    writer: &mut W,
+) -> Option<u8>
+    ensures answers { IsSomeAnd result (Answers (command_in (map (λ word. word.now) words.now)) (R.remaining reader.old) (W.contents writer.old) (W.contents writer.new)) }
+    ensures reads_nothing { command_in (map (λ word. word.now) words.now) ≡ None → reader.new ≡ reader.old }
+{
+    let status = match command_in(alloc, words) {
+        Ok(None) => write_reply(writer, USAGE_TEXT, USAGE),
+        Ok(Some(command)) => match reply_of(alloc, command, reader) {
+            Ok(reply) => write_reply(writer, reply.text.as_str(), reply.status),
+            Err(_) => FAILED,
+        },
+        Err(_) => FAILED,
+    };
+    Some(status)
+}
+
+/// What a command answers to its whole input.
+fn reply_of<R: Read>(alloc: Global, command: NodeCommand, reader: &mut R) -> io::Result<Reply>
+    ensures { IfOk result (λ reply. IsReply command (R.remaining reader.old) (shown reply)) }
+{
+    let input = read_input(alloc, reader)?;
+    if input.len() > INPUT_LIMIT {
+        return Ok(input_refusal(alloc)?);
+    }
+    match command {
+        NodeCommand::Asm => Ok(asm_reply(alloc, input.as_slice())?),
+    }
+}

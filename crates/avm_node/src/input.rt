@@ -1,0 +1,40 @@
+//! Reading the whole input.
+
+ghost use Rattle.std.specs.Prelude.{◌≡◌, ◌≤◌, ◌+◌, IfOk, length};
+ghost use Rattle.avm_node.specs.Answers.{IsInput, input_limit};
+
+use std::alloc::Global;
+use std::io::{self, ErrorKind, Read};
+
+/// How many bytes an input has at most; this limit is the project's own.
+pub const INPUT_LIMIT: usize = 16_777_216;
+
+/// A reader at which an interrupted read is a failed one, and is not tried again.
+#[derive(Drop)]
+struct Uninterrupted<R> {
+    inner: R,
+}
+
+impl<R: Read> Read for Uninterrupted<R> {
+    ghost remaining = { λ reader. R.remaining reader.inner };
+
+    fn read(&mut self, buf: &mut [u8]) -> io::Result<usize> {
+        match self.inner.read(buf) {
+            Err(error) if error.kind() == ErrorKind::Interrupted => Err(io::Error::other(
+                "an interrupted read",
+            )),
+            other => other,
+        }
+    }
+}
+
+/// The bytes of the reader to its end, or up to one more than an input has at most.
+pub fn read_input<R: Read>(alloc: Global, reader: &mut R) -> io::Result<Vec<u8>>
+    ensures { IfOk result (λ input. IsInput (R.remaining reader.old) input.items) }
+{
+    let mut input = Vec::new(alloc);
+    Uninterrupted { inner: reader }
+        .take(INPUT_LIMIT as u64 + 1)
+        .read_to_end(&mut input)?;
+    Ok(input)
+}

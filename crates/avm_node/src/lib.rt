@@ -1,0 +1,13 @@
+//! What the program `avm` answers: a command's text and exit status, from the words of its command line and its input.
+//!
+//! `specs/Answers.antt` says what each command answers, `specs/CommandLine.antt` which words are which command.
+#![tactic(auto)]
+
+mod asm;
+mod command_line;
+mod commands;
+mod input;
+mod output;
+
+pub use command_line::{NodeCommand, words_of_commands};
+pub use commands::answer;
