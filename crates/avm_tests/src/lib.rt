@@ -1,0 +1,11 @@
+//! Worked examples that go through several crates, with values from outside the program.
+#![tactic(auto)]
+
+#[cfg(test)]
+mod checking;
+#[cfg(test)]
+mod commands;
+#[cfg(test)]
+mod sources;
+#[cfg(test)]
+mod streams;

@@ -1,0 +1,79 @@
+//! Readers and writers that fail in mid-stream.
+
+use avm_node::answer;
+use std::io::{self, ErrorKind, Read, Write};
+use std::test::Fail;
+
+const SOURCE: &str = "#pragma version 2\nint 1\n";
+
+const PROGRAM: &str = "0220010122\n";
+
+/// Gives its bytes, and fails where they end.
+#[derive(Drop)]
+struct FailingReader<'a> {
+    bytes: &'a [u8],
+    kind: ErrorKind,
+}
+
+impl Read for FailingReader<'_> {
+    fn read(&mut self, buf: &mut [u8]) -> io::Result<usize> {
+        if self.bytes.is_empty() {
+            return Err(io::Error::from(self.kind));
+        }
+        self.bytes.read(buf)
+    }
+}
+
+/// Takes so many bytes, and fails at the next.
+#[derive(Drop)]
+struct FailingWriter {
+    taken: Vec<u8>,
+    room: usize,
+}
+
+impl Write for FailingWriter {
+    fn write(&mut self, buf: &[u8]) -> io::Result<usize> {
+        if self.room == 0 {
+            return Err(io::Error::from(ErrorKind::BrokenPipe));
+        }
+        let count = self.room.min(buf.len());
+        self.taken.extend_from_slice(&buf[..count])?;
+        self.room -= count;
+        Ok(count)
+    }
+
+    fn flush(&mut self) -> io::Result<()> {
+        Ok(())
+    }
+}
+
+/// A read that fails or is interrupted, wherever it is, leaves nothing written.
+#[test]
+fn failed_reads(rt: HostRuntime) -> Result<(), Fail> {
+    for kind in [ErrorKind::Other, ErrorKind::Interrupted] {
+        for count in 0..=SOURCE.len() {
+            let bytes = &SOURCE.as_bytes()[..count];
+            let mut reader = FailingReader { bytes, kind };
+            let mut written = Vec::new(rt.alloc());
+            let status = answer(rt.alloc(), &["asm"], &mut reader, &mut written);
+            assert_eq!(rt; status, Some(3));
+            assert!(rt; written.is_empty());
+        }
+    }
+    Ok(())
+}
+
+/// A write that fails ends the command, and what was written is the front of its answer.
+#[test]
+fn failed_writes(rt: HostRuntime) -> Result<(), Fail> {
+    for room in 0..PROGRAM.len() {
+        let mut writer = FailingWriter {
+            taken: Vec::new(rt.alloc()),
+            room,
+        };
+        let status = answer(rt.alloc(), &["asm"], &mut SOURCE.as_bytes(), &mut writer);
+        assert_eq!(rt; status, Some(3));
+        assert_eq!(rt; writer.taken.as_slice(), &PROGRAM.as_bytes()[..room]);
+    }
+    Ok(())
+}
