@@ -1,5 +1,5 @@
 -- Replies, by what was read.
-use Rattle.std.proofs.Common.{◌≡◌, ◌<◌, ◌≤◌, ◌+◌, ◌++◌, ℕ, List, [], length, Option, Some, None, Result, refl, true, false, nat_lt, IfSome, option_map, take, arith}
+use Rattle.std.proofs.Common.{◌≡◌, ◌∙◌, ap, ◌<◌, ◌≤◌, ◌+◌, ◌++◌, ℕ, List, [], length, Option, Some, None, Result, refl, true, false, nat_lt, IfSome, option_map, take, arith}
 use Rattle.std.specs.Str.{IsUtf8, is_utf8}
 use Rattle.std.proofs.lemmas.Str.{IsUtf8-from_is_utf8, is_utf8-from_IsUtf8}
 use Rattle.teal_asm.specs.declared.fault.AsmFault.{AsmFault}
@@ -28,7 +28,7 @@ reply_of-long Asm input long = let t : nat_lt input_limit (length input) ≡ tru
 pub reply_of-short : (command : NodeCommand) (input : List ℕ) → length input ≤ input_limit → reply_of command input ≡ asm_reply input
 reply_of-short Asm input short = let t : nat_lt input_limit (length input) ≡ false = search (arith) in rw t refl
 
-pub IsInput-taken : (had : Option (List ℕ)) (input : List ℕ)
-    → IfSome (option_map (take (input_limit + 1)) had) (λ xs. input ≡ [] ++ xs) → IsInput had input
-IsInput-taken None input h = h
-IsInput-taken (Some bytes) input h = h
+pub IsInput-taken : (limit : ℕ) (had : Option (List ℕ)) (input : List ℕ) → limit ≡ input_limit + 1
+    → IfSome (option_map (take limit) had) (λ xs. input ≡ [] ++ xs) → IsInput had input
+IsInput-taken limit None input is h = h
+IsInput-taken limit (Some bytes) input is h = h ∙ ap (λ n. take n bytes) is
