@@ -1,2 +1,3 @@
 pub mod Each
 pub mod Literals
+pub mod Emitting

@@ -4,3 +4,4 @@ pub mod Statements
 pub mod Meaning
 pub mod Program
 pub mod Shown
+pub mod Instructions

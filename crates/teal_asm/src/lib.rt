@@ -7,6 +7,7 @@
 
 mod arity;
 mod command;
+mod emit;
 mod fault;
 mod operand;
 
