@@ -152,7 +152,7 @@ pub writes_on : (is : List Instruction) (i : ℕ) (x : Instruction) (code now al
 unfolding spelling
 writes_on is i x code now all lt at w pushed =
     let here : spelling i (drop i (all_meant is)) ≡ instruction_spelling i (meant x) (drop (i + 1) (all_meant is)) ++ spelling (i + 1) (drop (i + 1) (all_meant is)) =
-        ap (spelling i) (drop-meant is i x lt at) in
+    ap (spelling i) (drop-meant is i x lt at) in
     record { same = rw pushed (append_assoc code _ _ ∙ ap (λ r. code ++ r) (sym here) ∙ w.same) }
 
 pub write_ends : (is : List Instruction) (i : ℕ) (code all : List ℕ) → length is ≤ i → WritesOn code i (drop i (all_meant is)) all → code ≡ all

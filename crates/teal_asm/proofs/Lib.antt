@@ -1,3 +1,4 @@
 pub mod Each
 pub mod Literals
 pub mod Emitting
+pub mod Gathering

@@ -11,6 +11,7 @@ use Rattle.teal_code.specs.declared.instr.Immediates.TheVariants as is
 use Rattle.teal_text.specs.declared.fault.TextFault.{TextFault}
 use Rattle.teal_text.specs.declared.token.Token.{Token}
 use Rattle.teal_text.specs.Lines.{LineTokens, lines_of}
+use Rattle.teal_asm.specs.declared.statement.Statement.{Statement}
 use Rattle.teal_asm.specs.declared.command.Command.{Command}
 use Rattle.teal_asm.specs.declared.command.Command.TheVariants.{Int, Byte, Jump, Plain}
 use Rattle.teal_asm.specs.declared.fault.AsmFaultKind.{AsmFaultKind}
@@ -18,11 +19,6 @@ use Rattle.teal_asm.specs.declared.fault.AsmFaultKind.TheVariants as kind
 use Rattle.teal_asm.specs.declared.fault.AsmFault.{AsmFault}
 use Rattle.teal_asm.specs.Operands.{Word, any_number}
 use Rattle.teal_asm.specs.Commands.{command}
-
-pub record Statement : Type 0 where
-  pub line : ℕ
-  pub label : Option Word
-  pub command : Option Command
 
 -- a line that has tokens, as words
 pub record Words : Type 0 where

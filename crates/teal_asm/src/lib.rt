@@ -9,7 +9,9 @@ mod arity;
 mod command;
 mod emit;
 mod fault;
+mod gathered;
 mod operand;
+mod statement;
 
 pub use command::Command;
 pub use fault::{AsmError, AsmFault, AsmFaultKind};

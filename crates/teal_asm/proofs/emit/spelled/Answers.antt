@@ -20,10 +20,10 @@ loop-number-preserved c =
           (ap (λ v. v.items) w.code-is ∙ w.in_ok-encode_into-in-Straight.ensures ∙ ap (λ i. c.loop-number.code.items ++ instruction_spelling c.loop-number.number (meant i) (drop (c.loop-number.number + 1) (all_meant c.args.instructions.now))) (sym w.in-Straight.is))
       | in-Branch+in_ok-push_branch-in-Branch w ↦ writes_on c.args.instructions.now c.loop-number.number c.index-instructions-number.result c.loop-number.code.items _ _ c.loop-number-test.true c.index-instructions-number.is c.loop-number.invariant
           (let inside : c.loop-number.number < length (all_meant c.args.instructions.now) = omega (arith, length-meant c.args.instructions.now) in
-           let offset = w.offset_to-offset.ensures ∙ branch_offset (all_meant c.args.instructions.now) c.args.places.now c.loop-number.number w.in-Branch.target c.requires inside in
-           ap (λ v. v.items) w.code-is ∙ w.in_ok-push_branch-in-Branch.ensures
-           ∙ ap (λ n. c.loop-number.code.items ++ instr_spelling (record { opcode = w.in-Branch.opcode; immediates = is.Offset n })) offset
-           ∙ ap (λ i. c.loop-number.code.items ++ instruction_spelling c.loop-number.number (meant i) (drop (c.loop-number.number + 1) (all_meant c.args.instructions.now))) (sym w.in-Branch.is))
+          let offset = w.offset_to-offset.ensures ∙ branch_offset (all_meant c.args.instructions.now) c.args.places.now c.loop-number.number w.in-Branch.target c.requires inside in
+          ap (λ v. v.items) w.code-is ∙ w.in_ok-push_branch-in-Branch.ensures
+          ∙ ap (λ n. c.loop-number.code.items ++ instr_spelling (record { opcode = w.in-Branch.opcode; immediates = is.Offset n })) offset
+          ∙ ap (λ i. c.loop-number.code.items ++ instruction_spelling c.loop-number.number (meant i) (drop (c.loop-number.number + 1) (all_meant c.args.instructions.now))) (sym w.in-Branch.is))
     ]
 
 pub returns : goal.returns
