@@ -32,9 +32,13 @@ abbrev pub base : Item → ℕ
 base Next = 2
 base (Application i) = if i == 1 then 1 else 0
 
--- call 2 finds application 2 absent and commits; call 1 reads which application is next
+-- call 2 commits that application 2 is absent
+abbrev pub absence : Entry Item ℕ ℕ
+absence = record { timestamp = 2; number = 2; outcome = 0; reads = (Application 2, 0) ∷ []; writes = [] }
+
+-- call 2 reads and commits before call 1 reads which application is next
 abbrev pub reads_first : List (Event Item ℕ ℕ)
-reads_first = Begin 1 ∷ Begin 2 ∷ Read 2 (Application 2) ∷ Commit (record { timestamp = 2; number = 2; outcome = 0; reads = (Application 2, 0) ∷ []; writes = [] }) ∷ Read 1 Next ∷ []
+reads_first = Begin 1 ∷ Begin 2 ∷ Read 2 (Application 2) ∷ Commit absence ∷ Read 1 Next ∷ []
 
 -- what call 1 commits at a timestamp
 abbrev pub creation_at : ℕ → Entry Item ℕ ℕ
@@ -52,6 +56,9 @@ FirstCommitIsLate = IsLate same base (world_after reads_first).marks (world_afte
 
 abbrev pub EventsApply : Type 0
 EventsApply = AllApply same Proper means base first_world events
+
+abbrev pub CreationComesLast : Type 0
+CreationComesLast = (world_after events).entries ≡ absence ∷ creation_at 3 ∷ []
 
 abbrev pub CreationStands : Type 0
 CreationStands = (state_below same base (world_after events).entries 4 (Application 2) ≡ 1) × (state_below same base (world_after events).entries 4 Next ≡ 3)
