@@ -3,11 +3,10 @@ use Rattle.std.proofs.Common.{◌≡◌, ℕ, zero, suc, ◌<◌, ◌≤◌, ◌
 use Rattle.std.specs.Map.{lookup}
 use Rattle.std.specs.List.{AllByRecursion}
 use Rattle.mv_history.specs.History.{IsEquality, version_below}
-use Rattle.mv_history.specs.World.{World, Mark, greatest_mark, first_world, after_events}
-use Rattle.mv_history.specs.Schedule.{IsConsistentWorld}
+use Rattle.mv_history.specs.World.{Mark, greatest_mark}
 use Rattle.mv_history.specs.Laws.{EveryCommitIsInTimeOrLate, NoCommitInTimeIsLate, NoMarkIsAboveTheGreatest, EveryCommitWithoutWritesIsInTime, EveryCommitAtTheClockIsInTime}
 use Rattle.mv_history.proofs.Lists.{Compared, less, not_less, compared, Equals, equal, unequal, equals, all_of, all_found}
-use Rattle.mv_history.proofs.Worlds.{consistent_first, consistent_after_events}
+use Rattle.mv_history.proofs.Worlds.{consistent}
 
 -- a value is in a list
 abbrev Member : {X : Type 0} → X → List X → Type 0
@@ -123,12 +122,6 @@ every_commit_without_writes_is_in_time_lem Item Value Outcome same base w e none
     subst (λ writes. AllByRecursion (λ write. greatest_mark same w.marks write.0 (version_below same base w.entries (suc e.timestamp) write.0).0 ≤ e.timestamp) writes) (sym none) tt
 
 pub every_commit_at_the_clock_is_in_time_lem : (Item Value Outcome : Type 0) (Proper : (Item → Value) → Type 0) → EveryCommitAtTheClockIsInTime Item Value Outcome Proper
-every_commit_at_the_clock_is_in_time_lem Item Value Outcome Proper same equality means base events apply e at_clock =
-    all_of _ e.writes (λ write. subst (λ t. greatest_mark same after.marks write.0 (version_below same base after.entries (suc e.timestamp) write.0).0 ≤ t) (sym at_clock)
-    (consistent.schedule.marks_past write.0 (version_below same base after.entries (suc e.timestamp) write.0).0))
-  where
-    after : World Item Value Outcome
-    after = after_events same base first_world events
-
-    consistent : IsConsistentWorld same Proper means base (after_events same base first_world events)
-    consistent = consistent_after_events same Proper means base equality events first_world apply (consistent_first same Proper means base)
+every_commit_at_the_clock_is_in_time_lem Item Value Outcome Proper same equality means base w reachable e at_clock =
+    all_of _ e.writes (λ write. subst (λ t. greatest_mark same w.marks write.0 (version_below same base w.entries (suc e.timestamp) write.0).0 ≤ t) (sym at_clock)
+    ((consistent same Proper means base equality w reachable).schedule.marks_past write.0 (version_below same base w.entries (suc e.timestamp) write.0).0))

@@ -106,8 +106,8 @@ module _ {Item Value Outcome : Type 0} (same : Item → Item → Bool) (Proper :
           ∙ numbers-push w.entries e
           ∙ ap (λ n. map (λ f. f.number) w.entries ++ n ∷ []) apply.0.2.number
           ∙ ap (λ l. map (λ f. f.number) w.entries ++ l) (sym alone.numbers)
-  runs_in_order Idle (Prune t ∷ events) w apply runs at = runs_in_order Idle events (after_event same base w (Prune t)) apply.1 runs at
-  runs_in_order Busy (Prune t ∷ events) w apply runs at = runs_in_order Busy events (after_event same base w (Prune t)) apply.1 runs at
+  runs_in_order Idle (Prune t marks ∷ events) w apply runs at = runs_in_order Idle events (after_event same base w (Prune t marks)) apply.1 runs at
+  runs_in_order Busy (Prune t marks ∷ events) w apply runs at = runs_in_order Busy events (after_event same base w (Prune t marks)) apply.1 runs at
   runs_in_order Idle (Read t x ∷ events) w apply runs at = absurd runs
   runs_in_order Idle (Commit e ∷ events) w apply runs at = absurd runs
   runs_in_order Idle (Abandon t ∷ events) w apply runs at = absurd runs

@@ -101,7 +101,7 @@ module _ {Item Value Outcome : Type 0} (same : Item → Item → Bool) (Proper :
         counted = let counted : length w.entries + length w.live ≡ w.clock = k.counted in omega (arith, length-entries_with e w.entries, length-without w.clock 0 e.timestamp applies.0 w.live applies.1 k.rising);
       }
   complete_after_event w (Abandon t) applies plain k = absurd plain
-  complete_after_event w (Prune t) applies plain k = absurd plain
+  complete_after_event w (Prune t marks) applies plain k = absurd plain
 
   complete_after_events : (events : List (Event Item Value Outcome)) (w : World Item Value Outcome) → AllApply same Proper means base w events → AllByRecursion IsPlain events → IsComplete w → IsComplete (after_events same base w events)
   complete_after_events [] w apply plain k = k
@@ -109,7 +109,7 @@ module _ {Item Value Outcome : Type 0} (same : Item → Item → Bool) (Proper :
 
 pub every_plain_interleaving_keeps_all_lem : (Item Value Outcome : Type 0) (Proper : (Item → Value) → Type 0) → EveryPlainInterleavingKeepsAll Item Value Outcome Proper
 every_plain_interleaving_keeps_all_lem Item Value Outcome Proper same equality means base proper events apply plain = (
-  every_interleaving_is_serial_lem Item Value Outcome Proper same equality means base proper events apply,
+  every_interleaving_is_serial_lem Item Value Outcome Proper same equality means base proper (after_events same base first_world events) (record { events = events; apply = apply; leads_here = refl }),
   complete.unpruned,
   complete.counted,
 )

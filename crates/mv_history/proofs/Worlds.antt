@@ -1,7 +1,7 @@
 -- The facts hold in every world that events lead to, and make it serial.
-use Rattle.std.proofs.Common.{◌≡◌, ℕ, suc, ◌≤◌, Bool, true, false, if◌then◌else◌, ◌&&◌, ◌==◌, min, max, Some, List, [], ◌∷◌, ◌++◌, refl, sym, ap, ◌∙◌, subst, arith, le_refl}
+use Rattle.std.proofs.Common.{◌≡◌, ℕ, suc, inl, inr, ◌≤◌, Bool, true, false, if◌then◌else◌, ◌&&◌, ◌==◌, min, max, Some, List, [], ◌∷◌, ◌++◌, refl, sym, ap, ◌∙◌, subst, arith}
 use Rattle.mv_history.specs.History.{Entry, Meaning, IsEquality, Agrees, state_after, entries_below, state_below, version_below}
-use Rattle.mv_history.specs.World.{World, Attempt, Mark, greatest_mark, attempt_at, attempts_with_read, lowest_live, Event, Begin, Read, Commit, Abandon, Prune, Applies, after_event, AllApply, after_events, first_world, IsReachable}
+use Rattle.mv_history.specs.World.{World, Attempt, Mark, greatest_mark, attempt_at, attempts_with_read, low_after_prune, Event, Begin, Read, Commit, Abandon, Prune, Applies, after_event, AllApply, after_events, first_world, IsReachable}
 use Rattle.mv_history.specs.Schedule.{IsSchedule, IsConsistent, IsConsistentWorld}
 use Rattle.mv_history.specs.Serial.{IsSerial, EveryInterleavingIsSerial}
 use Rattle.mv_history.proofs.Lists.{Equals, equal, unequal, equals, all_map}
@@ -73,18 +73,24 @@ module _ {Item Value Outcome : Type 0} (same : Item → Item → Bool) (Proper :
       consistent_after_commit same Proper means base equality.exact (greatest_mark same w.marks) w.clock w.low w.entries w.live applies.0 e applies.1 applies.2 applies.3 k
   consistent_after_event equality w (Abandon t) applies k =
       record { journal = k.journal; schedule = schedule_after_abandon same base (greatest_mark same w.marks) w.clock w.low t w.entries w.live k.schedule }
-  consistent_after_event equality w (Prune t) applies k =
+  consistent_after_event equality w (Prune t marks) applies k =
       record {
         journal = k.journal;
-        schedule = schedule_after_prune same base (greatest_mark same w.marks) (greatest_mark same w.marks) w.clock w.low (max w.low (lowest_live (min t w.clock) w.live)) w.entries w.live
+        schedule = schedule_after_prune same base (greatest_mark same w.marks) (greatest_mark same marks) w.clock w.low (low_after_prune w t) w.entries w.live
             (omega arith) (let low_past : w.low ≤ w.clock = k.schedule.low_past in omega (arith, lowest_live-at_most (min t w.clock) w.live)) (pruned_below w.low (min t w.clock) w.live k.schedule.low_live)
-            (λ x v. le_refl _) (λ x u above. refl) k.schedule;
+            fewer applies.needed k.schedule;
       }
+    where
+      fewer : (x : Item) (v : ℕ) → greatest_mark same marks x v ≤ greatest_mark same w.marks x v
+      fewer x v = elim (applies.kept_or_dropped x v) [ inl kept ↦ omega arith | inr dropped ↦ omega arith ]
 
   pub consistent_after_events : IsEquality same → (events : List (Event Item Value Outcome)) (w : World Item Value Outcome) → AllApply same Proper means base w events
       → IsConsistentWorld same Proper means base w → IsConsistentWorld same Proper means base (after_events same base w events)
   consistent_after_events equality [] w apply k = k
   consistent_after_events equality (event ∷ events) w apply k = consistent_after_events equality events (after_event same base w event) apply.1 (consistent_after_event equality w event apply.0 k)
+
+  pub consistent : IsEquality same → (w : World Item Value Outcome) → IsReachable same Proper means base w → IsConsistentWorld same Proper means base w
+  consistent equality w r = subst (λ v. IsConsistentWorld same Proper means base v) r.leads_here (consistent_after_events equality r.events first_world r.apply consistent_first)
 
   -- the facts make a world serial, whatever keeps its marks
   pub serial : (mark : Item → ℕ → ℕ) (w : World Item Value Outcome) → Proper base → IsConsistent same Proper means base mark w.clock w.low w.entries w.live → IsSerial same Proper means base w
@@ -106,6 +112,9 @@ module _ {Item Value Outcome : Type 0} (same : Item → Item → Bool) (Proper :
       below : (t : ℕ) (x : Item) → state_after same means base (entries_below t w.entries) x ≡ state_below same base w.entries t x
       below t x = replayed_state same means t 0 w.entries base (λ y. (0, base y)) (λ y. refl) k.journal.rising (replays same Proper means w.entries base replayed) x
 
+  pub reachable_first : IsReachable same Proper means base first_world
+  reachable_first = record { events = []; apply = tt; leads_here = refl }
+
   -- one more event
   pub reachable_after : (w : World Item Value Outcome) (event : Event Item Value Outcome) → Applies same Proper means base w event
       → IsReachable same Proper means base w → IsReachable same Proper means base (after_event same base w event)
@@ -126,6 +135,5 @@ module _ {Item Value Outcome : Type 0} (same : Item → Item → Bool) (Proper :
       apply_push (e ∷ events) v h last = (h.0, apply_push events (after_event same base v e) h.1 last)
 
 pub every_interleaving_is_serial_lem : (Item Value Outcome : Type 0) (Proper : (Item → Value) → Type 0) → EveryInterleavingIsSerial Item Value Outcome Proper
-every_interleaving_is_serial_lem Item Value Outcome Proper same equality means base proper events apply =
-    serial same Proper means base (greatest_mark same (after_events same base first_world events).marks) (after_events same base first_world events) proper
-    (consistent_after_events same Proper means base equality events first_world apply (consistent_first same Proper means base))
+every_interleaving_is_serial_lem Item Value Outcome Proper same equality means base proper w reachable =
+    serial same Proper means base (greatest_mark same w.marks) w proper (consistent same Proper means base equality w reachable)

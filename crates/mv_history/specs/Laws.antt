@@ -3,7 +3,7 @@ use Rattle.std.specs.Prelude.{◌≡◌, ℕ, suc, ◌+◌, ◌<◌, ◌≤◌, 
 use Rattle.std.specs.Map.{lookup}
 use Rattle.std.specs.List.{AllByRecursion}
 use Rattle.mv_history.specs.History.{Entry, Meaning, IsEquality, version_below}
-use Rattle.mv_history.specs.World.{World, Mark, greatest_mark, IsInTime, Event, Begin, Read, Commit, Abandon, Prune, first_world, AllApply, after_events}
+use Rattle.mv_history.specs.World.{World, Mark, greatest_mark, IsInTime, Event, Begin, Read, Commit, Abandon, Prune, first_world, AllApply, after_events, IsReachable}
 use Rattle.mv_history.specs.Serial.{IsSerial}
 
 -- A commit is late at an item: it writes the item, whose version not above it was read above it, the last time by
@@ -40,14 +40,13 @@ EveryCommitWithoutWritesIsInTime Item Value Outcome =
 abbrev pub EveryCommitAtTheClockIsInTime : (Item Value Outcome : Type 0) → ((Item → Value) → Type 0) → Type 0
 EveryCommitAtTheClockIsInTime Item Value Outcome Proper =
     (same : Item → Item → Bool) → IsEquality same → (means : Meaning Item Value Outcome) (base : Item → Value)
-    → (events : List (Event Item Value Outcome)) → AllApply same Proper means base first_world events
-    → (e : Entry Item Value Outcome) → e.timestamp ≡ (after_events same base first_world events).clock
-    → IsInTime same base (greatest_mark same (after_events same base first_world events).marks) (after_events same base first_world events).entries e
+    → (w : World Item Value Outcome) → IsReachable same Proper means base w → (e : Entry Item Value Outcome)
+    → e.timestamp ≡ w.clock → IsInTime same base (greatest_mark same w.marks) w.entries e
 
 -- an event of the plain scheduler, which neither abandons nor prunes
 abbrev pub IsPlain : {Item Value Outcome : Type 0} → Event Item Value Outcome → Type 0
 IsPlain (Abandon t) = ⊥
-IsPlain (Prune t) = ⊥
+IsPlain (Prune t marks) = ⊥
 IsPlain event = Unit {0}
 
 -- The plain scheduler is a special case: each timestamp given is an entry's or a live attempt's, and nothing is
@@ -71,7 +70,7 @@ RunsEachCall worker [] = Unit {0}
 RunsEachCall Idle (Begin number ∷ events) = RunsEachCall Busy events
 RunsEachCall Busy (Read t x ∷ events) = RunsEachCall Busy events
 RunsEachCall Busy (Commit e ∷ events) = RunsEachCall Idle events
-RunsEachCall worker (Prune t ∷ events) = RunsEachCall worker events
+RunsEachCall worker (Prune t marks ∷ events) = RunsEachCall worker events
 RunsEachCall worker (event ∷ events) = ⊥
 
 -- the numbers of the calls, in the order begun
