@@ -3,6 +3,7 @@ use Rattle.std.proofs.Common.{◌≡◌, ℕ, suc, inl, inr, ◌≤◌, Bool, tr
 use Rattle.mv_history.specs.History.{Entry, Meaning, IsEquality, Agrees, state_after, entries_below, state_below, version_below}
 use Rattle.mv_history.specs.World.{World, Attempt, Mark, greatest_mark, attempt_at, attempts_with_read, low_after_prune, Event, Begin, Read, Commit, Abandon, Prune, Applies, after_event, AllApply, after_events, first_world, IsReachable}
 use Rattle.mv_history.specs.Schedule.{IsSchedule, IsConsistent, IsConsistentWorld}
+use Rattle.mv_history.specs.Laws.{EveryEventLeadsOn, EveryPruneApplies}
 use Rattle.mv_history.specs.Serial.{IsSerial, EveryInterleavingIsSerial}
 use Rattle.mv_history.proofs.Lists.{Equals, equal, unequal, equals, all_map}
 use Rattle.mv_history.proofs.Replay.{ReplaysProperly, replays, replayed_state, proper_below, all_below}
@@ -137,3 +138,9 @@ module _ {Item Value Outcome : Type 0} (same : Item → Item → Bool) (Proper :
 pub every_interleaving_is_serial_lem : (Item Value Outcome : Type 0) (Proper : (Item → Value) → Type 0) → EveryInterleavingIsSerial Item Value Outcome Proper
 every_interleaving_is_serial_lem Item Value Outcome Proper same equality means base proper w reachable =
     serial same Proper means base (greatest_mark same w.marks) w proper (consistent same Proper means base equality w reachable)
+
+pub every_event_leads_on_lem : (Item Value Outcome : Type 0) (Proper : (Item → Value) → Type 0) → EveryEventLeadsOn Item Value Outcome Proper
+every_event_leads_on_lem Item Value Outcome Proper same means base = (reachable_first same Proper means base, λ w event reachable applies. reachable_after same Proper means base w event applies reachable)
+
+pub every_prune_applies_lem : (Item Value Outcome : Type 0) (Proper : (Item → Value) → Type 0) → EveryPruneApplies Item Value Outcome Proper
+every_prune_applies_lem Item Value Outcome Proper same means base w t = record { kept_or_dropped = λ x version. inl refl; needed = λ x u above. refl }

@@ -1,10 +1,40 @@
 -- Laws that show what the model means: when a commit is late, and what the events come to in special cases.
-use Rattle.std.specs.Prelude.{◌≡◌, ℕ, suc, ◌+◌, ◌<◌, ◌≤◌, ◌⊎◌, Bool, IsSome, List, [], ◌∷◌, ◌++◌, length, map, Contains}
+use Rattle.std.specs.Prelude.{◌≡◌, ℕ, suc, ◌+◌, ◌<◌, ◌≤◌, ◌⊎◌, Bool, Some, None, IsSome, List, [], ◌∷◌, ◌++◌, length, map, Contains}
 use Rattle.std.specs.Map.{lookup}
 use Rattle.std.specs.List.{AllByRecursion}
-use Rattle.mv_history.specs.History.{Entry, Meaning, IsEquality, version_below}
-use Rattle.mv_history.specs.World.{World, Mark, greatest_mark, IsInTime, Event, Begin, Read, Commit, Abandon, Prune, first_world, AllApply, after_events, IsReachable}
+use Rattle.mv_history.specs.History.{Entry, Meaning, IsEquality, IsRising, version_below, entries_with}
+use Rattle.mv_history.specs.World.{World, Mark, greatest_mark, IsInTime, Event, Begin, Read, Commit, Abandon, Prune, first_world, AllApply, after_events, IsReachable, Applies, after_event}
 use Rattle.mv_history.specs.Serial.{IsSerial}
+
+-- an entry below a timestamp wrote this version of the item
+pub record IsVersionOf {Item Value Outcome : Type 0} (same : Item → Item → Bool) (t : ℕ) (es : List (Entry Item Value Outcome)) (x : Item) (v : ℕ × Value) (e : Entry Item Value Outcome) : Type 0 where
+  pub held : Contains es e
+  pub below : e.timestamp < t
+  pub timestamp : v.0 ≡ e.timestamp
+  pub value : lookup (same x) e.writes ≡ Some v.1
+
+-- the newest version of an item below a timestamp: the base's, or that of the last entry below it that writes the item
+pub record IsNewestBelow {Item Value Outcome : Type 0} (same : Item → Item → Bool) (base : Item → Value) (es : List (Entry Item Value Outcome)) (t : ℕ) (x : Item) (v : ℕ × Value) : Type 0 where
+  pub written : (v ≡ (0, base x)) ⊎ ((e : Entry Item Value Outcome) × IsVersionOf same t es x v e)
+  pub greatest : AllByRecursion (λ e. e.timestamp < t → IsSome (lookup (same x) e.writes) → e.timestamp ≤ v.0) es
+
+abbrev pub EveryVersionBelowIsNewest : (Item Value Outcome : Type 0) → Type 0
+EveryVersionBelowIsNewest Item Value Outcome =
+    (same : Item → Item → Bool) (base : Item → Value) (es : List (Entry Item Value Outcome)) → IsRising 0 es
+    → (t : ℕ) (x : Item) → IsNewestBelow same base es t x (version_below same base es t x)
+
+-- the version below a timestamp, after one more entry: the entry's own where it writes the item between the version
+-- found before and the timestamp
+pub record IsVersionAfterCommit {Item Value Outcome : Type 0} (same : Item → Item → Bool) (base : Item → Value) (es : List (Entry Item Value Outcome)) (e : Entry Item Value Outcome) (t : ℕ) (x : Item) : Type 0 where
+  pub found : (value : Value) → lookup (same x) e.writes ≡ Some value → e.timestamp < t → (version_below same base es t x).0 < e.timestamp → version_below same base (entries_with e es) t x ≡ (e.timestamp, value)
+  pub unwritten : lookup (same x) e.writes ≡ None → version_below same base (entries_with e es) t x ≡ version_below same base es t x
+  pub older : e.timestamp < (version_below same base es t x).0 → version_below same base (entries_with e es) t x ≡ version_below same base es t x
+  pub above : t ≤ e.timestamp → version_below same base (entries_with e es) t x ≡ version_below same base es t x
+
+abbrev pub EveryCommitIsFound : (Item Value Outcome : Type 0) → Type 0
+EveryCommitIsFound Item Value Outcome =
+    (same : Item → Item → Bool) (base : Item → Value) (es : List (Entry Item Value Outcome)) → IsRising 0 es
+    → (e : Entry Item Value Outcome) (t : ℕ) (x : Item) → IsVersionAfterCommit same base es e t x
 
 -- A commit is late at an item: it writes the item, whose version not above it was read above it, the last time by
 -- this reader.
@@ -35,6 +65,20 @@ abbrev pub EveryCommitWithoutWritesIsInTime : (Item Value Outcome : Type 0) → 
 EveryCommitWithoutWritesIsInTime Item Value Outcome =
     (same : Item → Item → Bool) (base : Item → Value) (w : World Item Value Outcome) (e : Entry Item Value Outcome)
     → e.writes ≡ [] → IsInTime same base (greatest_mark same w.marks) w.entries e
+
+-- each event that applies leads on to a world that events lead to
+abbrev pub EveryEventLeadsOn : (Item Value Outcome : Type 0) → ((Item → Value) → Type 0) → Type 0
+EveryEventLeadsOn Item Value Outcome Proper =
+    (same : Item → Item → Bool) (means : Meaning Item Value Outcome) (base : Item → Value)
+    → IsReachable same Proper means base first_world
+    × ((w : World Item Value Outcome) (event : Event Item Value Outcome) → IsReachable same Proper means base w → Applies same Proper means base w event
+    → IsReachable same Proper means base (after_event same base w event))
+
+-- pruning at any timestamp applies, with all marks left
+abbrev pub EveryPruneApplies : (Item Value Outcome : Type 0) → ((Item → Value) → Type 0) → Type 0
+EveryPruneApplies Item Value Outcome Proper =
+    (same : Item → Item → Bool) (means : Meaning Item Value Outcome) (base : Item → Value) (w : World Item Value Outcome) (t : ℕ)
+    → Applies same Proper means base w (Prune t w.marks)
 
 -- the clock is the last timestamp given
 abbrev pub EveryCommitAtTheClockIsInTime : (Item Value Outcome : Type 0) → ((Item → Value) → Type 0) → Type 0
