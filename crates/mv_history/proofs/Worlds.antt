@@ -3,7 +3,7 @@ use Rattle.std.proofs.Common.{◌≡◌, ℕ, suc, inl, inr, ◌≤◌, Bool, tr
 use Rattle.mv_history.specs.History.{Entry, Meaning, IsEquality, Agrees, state_after, entries_below, state_below, version_below}
 use Rattle.mv_history.specs.World.{World, Attempt, Mark, greatest_mark, attempt_at, attempts_with_read, low_after_prune, Event, Begin, Read, Commit, Abandon, Prune, Applies, after_event, AllApply, after_events, first_world, IsReachable}
 use Rattle.mv_history.specs.Schedule.{IsSchedule, IsConsistent, IsConsistentWorld}
-use Rattle.mv_history.specs.Laws.{EveryEventLeadsOn, EveryPruneApplies}
+use Rattle.mv_history.specs.Laws.{EveryEventLeadsOn, EveryPruneApplies, EveryListingOfMarksServes}
 use Rattle.mv_history.specs.Serial.{IsSerial, EveryInterleavingIsSerial}
 use Rattle.mv_history.proofs.Lists.{Equals, equal, unequal, equals, all_map}
 use Rattle.mv_history.proofs.Replay.{ReplaysProperly, replays, replayed_state, proper_below, all_below}
@@ -144,3 +144,12 @@ every_event_leads_on_lem Item Value Outcome Proper same means base = (reachable_
 
 pub every_prune_applies_lem : (Item Value Outcome : Type 0) (Proper : (Item → Value) → Type 0) → EveryPruneApplies Item Value Outcome Proper
 every_prune_applies_lem Item Value Outcome Proper same means base w t = record { kept_or_dropped = λ x version. inl refl; needed = λ x u above. refl }
+
+-- another list of marks is what a prune at 0 leaves
+pub every_listing_of_marks_serves_lem : (Item Value Outcome : Type 0) (Proper : (Item → Value) → Type 0) → EveryListingOfMarksServes Item Value Outcome Proper
+every_listing_of_marks_serves_lem Item Value Outcome Proper same means base w reachable marks same_marks =
+    subst (λ low. IsReachable same Proper means base (record w { low = low; marks = marks })) low_stays
+    (reachable_after same Proper means base w (Prune 0 marks) (record { kept_or_dropped = λ x version. inl (same_marks x version); needed = λ x t above. same_marks x (version_below same base w.entries (suc t) x).0 }) reachable)
+  where
+    low_stays : low_after_prune w 0 ≡ w.low
+    low_stays = omega (arith, lowest_live-at_most (min 0 w.clock) w.live)

@@ -80,6 +80,13 @@ EveryPruneApplies Item Value Outcome Proper =
     (same : Item → Item → Bool) (means : Meaning Item Value Outcome) (base : Item → Value) (w : World Item Value Outcome) (t : ℕ)
     → Applies same Proper means base w (Prune t w.marks)
 
+-- how marks are listed is free: another list with the same greatest marks serves as well
+abbrev pub EveryListingOfMarksServes : (Item Value Outcome : Type 0) → ((Item → Value) → Type 0) → Type 0
+EveryListingOfMarksServes Item Value Outcome Proper =
+    (same : Item → Item → Bool) (means : Meaning Item Value Outcome) (base : Item → Value) (w : World Item Value Outcome) → IsReachable same Proper means base w
+    → (marks : List (Mark Item)) → ((x : Item) (version : ℕ) → greatest_mark same marks x version ≡ greatest_mark same w.marks x version)
+    → IsReachable same Proper means base (record w { marks = marks })
+
 -- the clock is the last timestamp given
 abbrev pub EveryCommitAtTheClockIsInTime : (Item Value Outcome : Type 0) → ((Item → Value) → Type 0) → Type 0
 EveryCommitAtTheClockIsInTime Item Value Outcome Proper =

@@ -5,9 +5,9 @@ use Rattle.mv_history.specs.History.{Entry, Meaning, Agrees, version_below, stat
 use Rattle.mv_history.specs.World.{Attempt, World, greatest_mark, live_count, IsLowerBound}
 use Rattle.mv_history.specs.Journal.{IsJournal}
 
--- the versions that were read at a timestamp are marked, as long as the low mark lets a commit come below it
+-- the versions that were read at a timestamp are marked, unless the low mark lets no commit come below it any more
 abbrev pub AreMarked : {Item Value Outcome : Type 0} → (Item → Item → Bool) → (Item → Value) → (Item → ℕ → ℕ) → ℕ → List (Entry Item Value Outcome) → ℕ → List (Item × Value) → Type 0
-AreMarked same base mark low es t reads = low ≤ t → AllByRecursion (λ read. t ≤ mark read.0 (version_below same base es t read.0).0) reads
+AreMarked same base mark low es t reads = low < t → AllByRecursion (λ read. t ≤ mark read.0 (version_below same base es t read.0).0) reads
 
 -- The facts of marks and live attempts. `mark` gives the greatest mark of each version of an item, however marks
 -- are kept.
