@@ -3,3 +3,4 @@ pub mod LineReading
 pub mod Numerals
 mod Rows
 pub mod TokenOrder
+pub mod PlainWords

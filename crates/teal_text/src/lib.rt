@@ -12,7 +12,7 @@ mod string;
 mod token;
 
 pub use fault::{TextError, TextFault, TextFaultKind};
-pub use line::{Line, lines, tokens_lie_in_order};
+pub use line::{Line, lines, plain_words_read_back, tokens_lie_in_order};
 pub use literal::{base64_bytes, byte_literal, encoded_bytes, names_encoding, token_bytes};
 pub use numbers::{number, number_of_word};
 pub use token::Token;
