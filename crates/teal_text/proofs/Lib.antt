@@ -4,3 +4,4 @@ pub mod Numerals
 mod Rows
 pub mod TokenOrder
 pub mod PlainWords
+pub mod ReadBack

@@ -1,6 +1,6 @@
 -- A text of plain words reads as its lines and words.
-use Rattle.std.proofs.Common.{◌≡◌, ℕ, zero, suc, ◌+◌, ◌-◌, ◌<◌, ◌≤◌, Bool, true, false, not, ◌&&◌, ◌||◌, cond, eqb, ltb, List, [], ◌∷◌, ◌++◌, length, map, take, drop, get_or, slice_index, slice_range, codes, nat_eq, Option, Some, None, Result, Ok, Err, refl, sym, ap, ◌∙◌, append_assoc, length-append, arith, All}
-use Rattle.std.specs.List.{prefix_len, list_all, starts_with, slice_split}
+use Rattle.std.proofs.Common.{◌≡◌, ℕ, zero, suc, ◌+◌, ◌-◌, ◌<◌, Bool, true, false, not, ◌&&◌, ◌||◌, cond, eqb, ltb, List, [], ◌∷◌, ◌++◌, length, map, drop, get_or, slice_range, Option, Some, Result, Ok, refl, sym, ap, ◌∙◌, append_assoc, length-append, arith, All}
+use Rattle.std.specs.List.{list_all, slice_split}
 use Rattle.std.specs.Str.Lines.{strip_carriage_return}
 use Rattle.std.proofs.Math.Nat.{add-sub_cancel_left}
 use Rattle.std.proofs.Math.Seq.{take-append_seam, drop-append_seam}
@@ -9,12 +9,11 @@ use Rattle.std.proofs.lemmas.List.Sums.{AllPass-from_list_all}
 use Rattle.std.proofs.lemmas.List.Splits.{slice_split_at}
 use Rattle.std.proofs.lemmas.Bool.Decides.{nat_tests}
 use Rattle.teal_value.specs.Answer.{◌>>=◌}
-use Rattle.teal_text.specs.declared.fault.TextFault.{TextFault}
 use Rattle.teal_text.specs.declared.fault.TextFaultKind.{TextFaultKind}
 use Rattle.teal_text.specs.declared.scan.FirstToken.{FirstToken}
 use Rattle.teal_text.specs.declared.token.Token.{Token}
-use Rattle.teal_text.specs.Tokens.{is_blank, blank_len, begins_comment, word_len, is_ended, is_base64_word, announces_base64, first_token, with_token, tokens_from, tokens_of}
-use Rattle.teal_text.specs.Lines.{LineTokens, on_line, with_line, lines_from, lines_of, is_line_feed}
+use Rattle.teal_text.specs.Tokens.{is_blank, blank_len, begins_comment, word_len, is_base64_word, announces_base64, first_token, tokens_from, tokens_of}
+use Rattle.teal_text.specs.Lines.{LineTokens, on_line, with_line, lines_from, is_line_feed}
 use Rattle.teal_text.specs.PlainWords.{is_plain_byte, is_plain_word, is_plain_line, spaced, line_of_words, text_of_lines, tokens_of_words, lines_of_words, words_at}
 use Rattle.teal_text.proofs.Reading.{step}
 use Rattle.teal_text.proofs.LineReading.{has_first}

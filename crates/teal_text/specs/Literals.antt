@@ -11,7 +11,7 @@ use Rattle.teal_text.specs.declared.string.StringState.TheVariants.{Plain}
 use Rattle.teal_text.specs.Tokens.{is_base64_name}
 use Rattle.teal_text.specs.Strings.{string_value}
 
--- a text of bytes in base64 of the standard alphabet, with its padding whole or absent
+-- a text of bytes in base64 of the standard alphabet, with its padding complete or absent
 abbrev pub IsBase64 : List ℕ → List ℕ → Type 0
 IsBase64 text bytes = (text ≡ base64.encode_of standard bytes) ⊎ (text ≡ base64.encode_of standard_no_pad bytes)
 
