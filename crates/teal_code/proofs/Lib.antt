@@ -1,0 +1,4 @@
+pub mod Reading
+pub mod Digits
+pub mod ManyReading
+pub mod VaruintWriting

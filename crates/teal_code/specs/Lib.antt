@@ -1,1 +1,4 @@
+pub mod Varuint
+pub mod Grammar
 pub mod Reader
+pub mod Spelling

@@ -3,7 +3,10 @@
 #![tactic(auto)]
 
 mod decode;
+mod encode;
 mod instr;
+pub mod laws;
 
-pub use decode::{CodeError, CodeFault};
+pub use decode::{CodeError, CodeFault, decode_at, varuint_of};
+pub use encode::{encode_into, varuint_bytes};
 pub use instr::{Immediates, Instr};

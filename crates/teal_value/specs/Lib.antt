@@ -1,1 +1,3 @@
 pub mod Answer
+pub mod Base32
+pub mod AddressText

@@ -3,6 +3,8 @@
 #![tactic(auto)]
 
 mod address;
+mod address_spelling;
+mod base32;
 mod byte_string;
 mod failure;
 mod fault;
@@ -10,6 +12,12 @@ mod state_key;
 mod value;
 
 pub use address::Address;
+pub use address_spelling::{
+    AddressFault, address_has_one_text, address_of_bytes, address_of_text, address_text,
+};
+pub use base32::{
+    BadText, base32_decode, base32_decode_bytes, base32_encode, base32_has_two_spellings,
+};
 pub use byte_string::{ByteString, ByteStrings, Uints};
 pub use failure::Failure;
 pub use fault::Fault;

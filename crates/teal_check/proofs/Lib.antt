@@ -1,0 +1,4 @@
+pub mod Placing
+pub mod Starts
+pub mod Targeting
+pub mod CheckedPrograms

@@ -1,0 +1,30 @@
+//! Why bytes are no program.
+
+use teal_code::CodeFault;
+use teal_value::Failure;
+
+/// The first rule of programs that bytes break. A place is that of the instruction that breaks it.
+#[derive(Clone, Copy, Debug, PartialEq, Eq)]
+pub enum CheckFault {
+    /// The version is neither 2 nor 3.
+    Version,
+    /// There are no bytes, or more than 1024.
+    Length,
+    /// No instruction is read at the place, or no version at place 0.
+    Code { place: u16, fault: CodeFault },
+    /// The opcode is one of the public table that this machine leaves out.
+    OutOfProfile { place: u16 },
+    /// A branch's offset is above 32767, which the public encoding reads as a backward branch.
+    Backward { place: u16 },
+    /// A branch's target is neither an instruction's place nor the end.
+    NotAligned { place: u16 },
+    /// A branch's target lies behind the end.
+    PastEnd { place: u16 },
+    /// The costs of the instructions add up to more than 700.
+    Cost,
+    /// The opcode has no such field.
+    UnknownField { place: u16 },
+}
+
+/// A [`CheckFault`], or want of memory.
+pub type CheckError = Failure<CheckFault>;

@@ -1,0 +1,5 @@
+pub mod Reading
+pub mod LineReading
+pub mod Numerals
+mod Rows
+pub mod TokenOrder

@@ -1,0 +1,6 @@
+pub mod Strings
+pub mod Tokens
+pub mod TokenOrder
+pub mod Lines
+pub mod Numbers
+pub mod Literals

@@ -1,0 +1,123 @@
+//! Lines and their tokens.
+
+ghost use Rattle.std.specs.Prelude.{◌≡◌, ◌+◌, ◌<◌, ◌^◌, ◌≤◌, ℕ, List, Ok, length, drop, All, IfOk};
+ghost use Rattle.std.specs.Str.Lines.{strip_carriage_return};
+ghost use Rattle.teal_value.specs.Answer.{Gives};
+ghost use Rattle.teal_text.specs.Tokens.{tokens_of, LiesWithin};
+ghost use Rattle.teal_text.specs.TokenOrder.{LieInOrder};
+ghost use Rattle.teal_text.specs.declared.token.Token.{Token};
+ghost use Rattle.teal_text.specs.Lines.{views, lines_of, on_line, line_len, line_text};
+
+use crate::fault::{TextError, TextFault};
+use crate::scan::{announces_base64, blank_len, first_token};
+use crate::token::Token;
+use std::alloc::Global;
+use teal_value::Failure;
+
+/// A line, with its number from 1 and its tokens from left to right.
+#[derive(Debug, Drop)]
+pub struct Line {
+    pub number: usize,
+    pub tokens: Vec<Token>,
+}
+
+/// The lines of a text, those without a token too.
+///
+/// A line feed ends a line, and a carriage return directly before it is no part of the line.
+pub fn lines(alloc: Global, text: &str) -> Result<Vec<Line>, TextError>
+    ensures value { Gives (λ v. views v.items) result (lines_of text.now) }
+    ensures within { IfOk result (λ v. All (λ line. All (LiesWithin 0 (length text.now)) line.tokens.items) v.items) }
+{
+    let mut lines = Vec::new(alloc);
+    let bytes = text.as_bytes();
+    let mut rest = bytes;
+    while !rest.is_empty() {
+        let number = lines.len() + 1;
+        let place = bytes.len() - rest.len();
+        let (line, next) = first_line(rest);
+        let tokens = tokens_of(alloc, number, place, line)?;
+        lines.push(Line { number, tokens })?;
+        rest = next;
+    }
+    Ok(lines)
+}
+
+/// The law of a line's tokens: they lie in order in their line, only blanks stand between them, and only blanks and a
+/// comment stand behind the last.
+pub fn tokens_lie_in_order()
+    ensures { (place : ℕ) (line : List ℕ) (tokens : List Token) → tokens_of place line ≡ Ok tokens → LieInOrder place line tokens }
+{}
+
+/// The first line, and what follows its line feed.
+#[tactic(auto, unfolding(crate::specs::Lines::line_text))]
+fn first_line(bytes: &[u8]) -> (&[u8], &[u8])
+    ensures line { result.0.now ≡ line_text bytes.now }
+    ensures shorter { length result.0.now ≤ length bytes.now }
+    ensures next { result.1.now ≡ drop (line_len bytes.now + 1) bytes.now }
+{
+    let len = line_len(bytes);
+    if len == bytes.len() {
+        (bytes, &[])
+    } else {
+        let (line, after) = bytes.split_at(len);
+        (without_carriage_return(line), &after[1..])
+    }
+}
+
+fn line_len(bytes: &[u8]) -> usize
+    ensures value { result ≡ line_len bytes.now }
+    ensures within { result ≤ length bytes.now }
+{
+    for (i, byte) in bytes.iter().enumerate() {
+        if *byte == b'\n' {
+            return i;
+        }
+    }
+    bytes.len()
+}
+
+fn without_carriage_return(line: &[u8]) -> &[u8]
+    ensures { result.now ≡ strip_carriage_return line.now }
+{
+    match line {
+        [front @ .., b'\r'] => front,
+        _ => line,
+    }
+}
+
+/// The tokens of the line of this number, which begins at a place of the text.
+fn tokens_of(
+    alloc: Global,
+    number: usize,
+    place: usize,
+    line: &[u8],
+) -> Result<Vec<Token>, TextError>
+    requires { place + length line.now < 2 ^ 64 }
+    ensures value { Gives (λ v. v.items) result (on_line number (tokens_of place line.now)) }
+    ensures within { IfOk result (λ v. All (LiesWithin place (place + length line.now)) v.items) }
+{
+    let mut tokens = Vec::new(alloc);
+    let mut rest = line;
+    let mut start = place;
+    let mut base64 = false;
+    loop {
+        let gap = blank_len(rest);
+        let (_, here) = rest.split_at(gap);
+        start += gap;
+        let token = match first_token(here, base64) {
+            Ok(Some(token)) => token,
+            Ok(None) => return Ok(tokens),
+            Err(kind) => return Err(Failure::Fault(TextFault { line: number, kind })),
+        };
+        let (text, after) = here.split_at(token.len);
+        let end = start + token.len;
+        tokens.push(Token {
+            start,
+            end,
+            string: token.string,
+        })?;
+        base64 = announces_base64(text, after);
+        rest = after;
+        start = end;
+    }
+}
