@@ -67,7 +67,7 @@ target call = elim (creates call) [ true ↦ new_target call | false ↦ called_
 abbrev pub sender_item : CallData → ℕ → Item
 sender_item call id = item.Local call.sender id
 
-abbrev is_opted_in : CallData → ℕ → Act Why Bool
+abbrev pub is_opted_in : CallData → ℕ → Act Why Bool
 is_opted_in call id = reads (λ v. is_some (local_state_in v)) (sender_item call id)
 
 -- Who opts in isn't in; who closes out or clears is in.

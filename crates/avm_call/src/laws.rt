@@ -1,8 +1,13 @@
 //! The laws of runs and calls, each the contract of a function without work.
 
-ghost use Rattle.avm_call.specs.Ends.{PathsEnd};
+ghost use Rattle.avm_call.specs.Ends.{PathsEnd, CallsAskLittle};
 
 /// Every path of a program ends, and asks for at most three items a step.
 pub fn paths_end()
     ensures { PathsEnd }
+{}
+
+/// A call asks for at most two items before its program, and for three a step.
+pub fn calls_ask_little()
+    ensures { CallsAskLittle }
 {}
