@@ -17,7 +17,7 @@ is_Equal Greater e = absurd cc
 
 module _ {K : Type 0} {R : K → K → Ordering} (o : IsTotalOrder R) where
   -- what stands above x stands above a key that ties with it, and above one below it
-  above_tied : (k x : K) (ks : List K) → R k x ≡ Equal → AllByRecursion (λ y. R x y ≡ Less) ks → AllByRecursion (λ y. R k y ≡ Less) ks
+  pub above_tied : (k x : K) (ks : List K) → R k x ≡ Equal → AllByRecursion (λ y. R x y ≡ Less) ks → AllByRecursion (λ y. R k y ≡ Less) ks
   above_tied k x [] p h = tt
   above_tied k x (y ∷ ks) p h = (o.congr k x y p ∙ h.0, above_tied k x ks p h.1)
 
@@ -61,7 +61,7 @@ module _ {K X : Type 0} {R : K → K → Ordering} (o : IsTotalOrder R) where
 
   -- ---- after a removal
 
-  below_none : (k : K) (es : List (K × X)) → AllByRecursion (λ y. R k y ≡ Less) (keys_of es) → lookup (is_at (R k)) es ≡ None
+  pub below_none : (k : K) (es : List (K × X)) → AllByRecursion (λ y. R k y ≡ Less) (keys_of es) → lookup (is_at (R k)) es ≡ None
   below_none k [] h = refl
   below_none k (e ∷ es) h = ap (λ s. cond (is_eq s) (Some e.1) (lookup (is_at (R k)) es)) h.0 ∙ below_none k es h.1
 
