@@ -21,7 +21,7 @@ module _ {K : Type 0} {R : K → K → Ordering} (o : IsTotalOrder R) where
   above_tied k x [] p h = tt
   above_tied k x (y ∷ ks) p h = (o.congr k x y p ∙ h.0, above_tied k x ks p h.1)
 
-  all_below : (x k : K) (ks : List K) → R x k ≡ Less → AllByRecursion (λ y. R k y ≡ Less) ks → AllByRecursion (λ y. R x y ≡ Less) ks
+  pub all_below : (x k : K) (ks : List K) → R x k ≡ Less → AllByRecursion (λ y. R k y ≡ Less) ks → AllByRecursion (λ y. R x y ≡ Less) ks
   all_below x k [] p h = tt
   all_below x k (y ∷ ks) p h = (o.trans x k y p h.0, all_below x k ks p h.1)
 

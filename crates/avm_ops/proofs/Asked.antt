@@ -23,96 +23,93 @@ use Rattle.avm_ops.specs.Immediates.{index_of, field_of, offset_of, uint_of, byt
 use Rattle.avm_ops.specs.Numbers.{is_nonzero}
 use Rattle.avm_ops.specs.Stack.{target_of, branches, branches_if}
 use Rattle.avm_ops.specs.Fields.{global_at}
-use Rattle.avm_ops.specs.States.{value_length, foreign_application, global_entry, may_put, keeps_kind, global_put_over, global_delete_of}
+use Rattle.avm_ops.specs.States.{value_length, foreign_application, global_entry, may_put, global_put_over, global_delete_of}
 use Rattle.avm_ops.specs.Effect.{effect}
-use Rattle.avm_ops.specs.Steps.{IsForward, GoesForward}
+use Rattle.avm_ops.specs.Steps.{branch_target, IsFlowTo, GoesOn}
 
 -- ---- rows without questions
 
-then_ok : {A : Type 0} (place : ℕ) (r : Result A Fault) (f : A → Stepped) → ((a : A) → GoesForward place (f a)) → GoesForward place (r >>= f)
-then_ok place (Ok a) f h = h a
-then_ok place (Err e) f h = tt
+then_ok : {A : Type 0} (target : Option ℕ) (r : Result A Fault) (f : A → Stepped) → ((a : A) → GoesOn target (f a)) → GoesOn target (r >>= f)
+then_ok target (Ok a) f h = h a
+then_ok target (Err e) f h = tt
 
-either : (place : ℕ) (b : Bool) (x y : Stepped) → GoesForward place x → GoesForward place y → GoesForward place (if b then x else y)
-either place true x y h g = h
-either place false x y h g = g
+either : (target : Option ℕ) (b : Bool) (x y : Stepped) → GoesOn target x → GoesOn target y → GoesOn target (if b then x else y)
+either target true x y h g = h
+either target false x y h g = g
 
-pushed : (c : Context) (v : Value) → GoesForward c.machine.place (pushes c v)
-pushed c v = either c.machine.place (nat_lt (length c.machine.stack) 1000) _ _ tt tt
+pushed : (target : Option ℕ) (c : Context) (v : Value) → GoesOn target (pushes c v)
+pushed target c v = either target (nat_lt (length c.machine.stack) 1000) _ _ tt tt
 
-pushed_pair : (c : Context) (v top : Value) → GoesForward c.machine.place (pushes_pair c v top)
-pushed_pair c v top = either c.machine.place (nat_le (length c.machine.stack + 2) 1000) _ _ tt tt
-
-behind : (c : Context) (offset : ℕ) → c.machine.place < c.machine.place + 3 + offset
-behind c offset = omega arith
+pushed_pair : (target : Option ℕ) (c : Context) (v top : Value) → GoesOn target (pushes_pair c v top)
+pushed_pair target c v top = either target (nat_le (length c.machine.stack + 2) 1000) _ _ tt tt
 
 -- ---- rows that ask
 
-then_act : {A : Type 0} (n place : ℕ) (r : Result A Fault) (f : A → Act Fault After) → ((a : A) → AsksAtMost Any n (GoesForward place) (f a)) → AsksAtMost Any n (GoesForward place) (on_ok f r)
-then_act n place (Ok a) f h = h a
-then_act n place (Err e) f h = tt
+then_act : {A : Type 0} (n : ℕ) (target : Option ℕ) (r : Result A Fault) (f : A → Act Fault After) → ((a : A) → AsksAtMost Any n (GoesOn target) (f a)) → AsksAtMost Any n (GoesOn target) (on_ok f r)
+then_act n target (Ok a) f h = h a
+then_act n target (Err e) f h = tt
 
-then_found : {A : Type 0} (n place : ℕ) (o : Option A) (e : Fault) (f : A → Act Fault After) → ((a : A) → AsksAtMost Any n (GoesForward place) (f a)) → AsksAtMost Any n (GoesForward place) (and_then (found o e) (on_ok f))
-then_found n place None e f h = tt
-then_found n place (Some a) e f h = h a
+then_found : {A : Type 0} (n : ℕ) (target : Option ℕ) (o : Option A) (e : Fault) (f : A → Act Fault After) → ((a : A) → AsksAtMost Any n (GoesOn target) (f a)) → AsksAtMost Any n (GoesOn target) (and_then (found o e) (on_ok f))
+then_found n target None e f h = tt
+then_found n target (Some a) e f h = h a
 
-then_test : (n place : ℕ) (b : Bool) (e : Fault) (f : Unit {0} → Act Fault After) → AsksAtMost Any n (GoesForward place) (f tt) → AsksAtMost Any n (GoesForward place) (and_then (test b e) (on_ok f))
-then_test n place true e f h = h
-then_test n place false e f h = tt
+then_test : (n : ℕ) (target : Option ℕ) (b : Bool) (e : Fault) (f : Unit {0} → Act Fault After) → AsksAtMost Any n (GoesOn target) (f tt) → AsksAtMost Any n (GoesOn target) (and_then (test b e) (on_ok f))
+then_test n target true e f h = h
+then_test n target false e f h = tt
 
-entry_by : (n place id : ℕ) (key : List ℕ) (f : Option Value → Act Fault After) → 0 < n → ((v : Option Value) → AsksAtMost Any (n - 1) (GoesForward place) (f v)) → (b : Bool)
-    → AsksAtMost Any n (GoesForward place) (and_then (if b then reads entry_in (item.Key id key) else Gives (Ok None)) (on_ok f))
-entry_by n place id key f some h true = (some, λ v _. h (entry_in v))
-entry_by n place id key f some h false = at_most-more Any (n - 1) n (GoesForward place) (f None) (omega arith) (h None)
+entry_by : (n : ℕ) (target : Option ℕ) (id : ℕ) (key : List ℕ) (f : Option Value → Act Fault After) → 0 < n → ((v : Option Value) → AsksAtMost Any (n - 1) (GoesOn target) (f v)) → (b : Bool)
+    → AsksAtMost Any n (GoesOn target) (and_then (if b then reads entry_in (item.Key id key) else Gives (Ok None)) (on_ok f))
+entry_by n target id key f some h true = (some, λ v _. h (entry_in v))
+entry_by n target id key f some h false = at_most-more Any (n - 1) n (GoesOn target) (f None) (omega arith) (h None)
 
-entry_asks : (n place id : ℕ) (key : List ℕ) (f : Option Value → Act Fault After) → 0 < n → ((v : Option Value) → AsksAtMost Any (n - 1) (GoesForward place) (f v)) → AsksAtMost Any n (GoesForward place) (and_then (global_entry id key) (on_ok f))
-entry_asks n place id key f some h = entry_by n place id key f some h (nat_le (length key) 64)
+entry_asks : (n : ℕ) (target : Option ℕ) (id : ℕ) (key : List ℕ) (f : Option Value → Act Fault After) → 0 < n → ((v : Option Value) → AsksAtMost Any (n - 1) (GoesOn target) (f v)) → AsksAtMost Any n (GoesOn target) (and_then (global_entry id key) (on_ok f))
+entry_asks n target id key f some h = entry_by n target id key f some h (nat_le (length key) 64)
 
-foreign_by : (n place : ℕ) (c : Context) (i : ℕ) (f : ℕ → Act Fault After) → ((id : ℕ) → AsksAtMost Any n (GoesForward place) (f id)) → (b : Bool)
-    → AsksAtMost Any n (GoesForward place) (and_then (if b then Gives (Ok c.current) else found (slice_get c.call.foreign_applications (i - 1)) fault.NoForeign) (on_ok f))
-foreign_by n place c i f h true = h c.current
-foreign_by n place c i f h false = then_found n place _ _ f h
+foreign_by : (n : ℕ) (target : Option ℕ) (c : Context) (i : ℕ) (f : ℕ → Act Fault After) → ((id : ℕ) → AsksAtMost Any n (GoesOn target) (f id)) → (b : Bool)
+    → AsksAtMost Any n (GoesOn target) (and_then (if b then Gives (Ok c.current) else found (slice_get c.call.foreign_applications (i - 1)) fault.NoForeign) (on_ok f))
+foreign_by n target c i f h true = h c.current
+foreign_by n target c i f h false = then_found n target _ _ f h
 
-foreign_asks : (n place : ℕ) (c : Context) (i : ℕ) (f : ℕ → Act Fault After) → ((id : ℕ) → AsksAtMost Any n (GoesForward place) (f id)) → AsksAtMost Any n (GoesForward place) (and_then (foreign_application c i) (on_ok f))
-foreign_asks n place c i f h = foreign_by n place c i f h (i == 0)
+foreign_asks : (n : ℕ) (target : Option ℕ) (c : Context) (i : ℕ) (f : ℕ → Act Fault After) → ((id : ℕ) → AsksAtMost Any n (GoesOn target) (f id)) → AsksAtMost Any n (GoesOn target) (and_then (foreign_application c i) (on_ok f))
+foreign_asks n target c i f h = foreign_by n target c i f h (i == 0)
 
-may_put_by : (n place : ℕ) (f : Unit {0} → Act Fault After) → AsksAtMost Any n (GoesForward place) (f tt) → (b d : Bool)
-    → AsksAtMost Any n (GoesForward place) (and_then (and_then (test b fault.KeyLength) (on_ok (λ _. test d fault.TooLong))) (on_ok f))
-may_put_by n place f h true true = h
-may_put_by n place f h true false = tt
-may_put_by n place f h false d = tt
+may_put_by : (n : ℕ) (target : Option ℕ) (f : Unit {0} → Act Fault After) → AsksAtMost Any n (GoesOn target) (f tt) → (b d : Bool)
+    → AsksAtMost Any n (GoesOn target) (and_then (and_then (test b fault.KeyLength) (on_ok (λ _. test d fault.TooLong))) (on_ok f))
+may_put_by n target f h true true = h
+may_put_by n target f h true false = tt
+may_put_by n target f h false d = tt
 
-may_put_asks : (n place : ℕ) (key : List ℕ) (v : Value) (f : Unit {0} → Act Fault After) → AsksAtMost Any n (GoesForward place) (f tt) → AsksAtMost Any n (GoesForward place) (and_then (may_put key v) (on_ok f))
-may_put_asks n place key v f h = may_put_by n place f h (nat_le (length key) 64) (nat_le (value_length v) 64)
+may_put_asks : (n : ℕ) (target : Option ℕ) (key : List ℕ) (v : Value) (f : Unit {0} → Act Fault After) → AsksAtMost Any n (GoesOn target) (f tt) → AsksAtMost Any n (GoesOn target) (and_then (may_put key v) (on_ok f))
+may_put_asks n target key v f h = may_put_by n target f h (nat_le (length key) 64) (nat_le (value_length v) 64)
 
-put_over_asks : (c : Context) (key : List ℕ) (v : Value) (old : Option Value) (b : Bool) → AsksAtMost Any 2 (GoesForward c.machine.place) (global_put_over c key v old b)
-put_over_asks c key v old true = tt
-put_over_asks c key v old false = (omega arith, λ n _. (omega arith, λ l _. search (rules, then_test)))
+put_over_asks : (target : Option ℕ) (c : Context) (key : List ℕ) (v : Value) (old : Option Value) (b : Bool) → AsksAtMost Any 2 (GoesOn target) (global_put_over c key v old b)
+put_over_asks target c key v old true = tt
+put_over_asks target c key v old false = (omega arith, λ n _. (omega arith, λ l _. search (rules, then_test)))
 
-delete_asks : (c : Context) (key : List ℕ) (old : Option Value) → AsksAtMost Any 2 (GoesForward c.machine.place) (global_delete_of c key old)
-delete_asks c key None = tt
-delete_asks c key (Some old) = (omega arith, λ n _. tt)
+delete_asks : (target : Option ℕ) (c : Context) (key : List ℕ) (old : Option Value) → AsksAtMost Any 2 (GoesOn target) (global_delete_of c key old)
+delete_asks target c key None = tt
+delete_asks target c key (Some old) = (omega arith, λ n _. tt)
 
-behind_if : (c : Context) (offset : ℕ) (b : Bool) → GoesForward c.machine.place (Ok (if b then record (next_with_stack c (drop 1 c.machine.stack)) { flow = target_of c offset } else next_with_stack c (drop 1 c.machine.stack)))
-behind_if c offset true = behind c offset
-behind_if c offset false = tt
+branch_if : (c : Context) (offset : ℕ) (b : Bool) → GoesOn (Some (c.machine.place + 3 + offset)) (Ok (if b then record (next_with_stack c (drop 1 c.machine.stack)) { flow = target_of c offset } else next_with_stack c (drop 1 c.machine.stack)))
+branch_if c offset true = refl
+branch_if c offset false = tt
 
-global_asks : (c : Context) (f : Option GlobalField) → AsksAtMost Any 3 (GoesForward c.machine.place) (and_then (global_at c f) (on_ok (λ v. Gives (pushes c v))))
-global_asks c None = tt
-global_asks c (Some global.CreatorAddress) = (omega arith, λ v _. pushed c _)
-global_asks c (Some global.MinTxnFee) = pushed c _
-global_asks c (Some global.MinBalance) = pushed c _
-global_asks c (Some global.MaxTxnLife) = pushed c _
-global_asks c (Some global.ZeroAddress) = pushed c _
-global_asks c (Some global.GroupSize) = pushed c _
-global_asks c (Some global.LogicSigVersion) = pushed c _
-global_asks c (Some global.Round) = pushed c _
-global_asks c (Some global.LatestTimestamp) = pushed c _
-global_asks c (Some global.CurrentApplicationId) = pushed c _
+global_asks : (target : Option ℕ) (c : Context) (f : Option GlobalField) → AsksAtMost Any 3 (GoesOn target) (and_then (global_at c f) (on_ok (λ v. Gives (pushes c v))))
+global_asks target c None = tt
+global_asks target c (Some global.CreatorAddress) = (omega arith, λ v _. pushed target c _)
+global_asks target c (Some global.MinTxnFee) = pushed target c _
+global_asks target c (Some global.MinBalance) = pushed target c _
+global_asks target c (Some global.MaxTxnLife) = pushed target c _
+global_asks target c (Some global.ZeroAddress) = pushed target c _
+global_asks target c (Some global.GroupSize) = pushed target c _
+global_asks target c (Some global.LogicSigVersion) = pushed target c _
+global_asks target c (Some global.Round) = pushed target c _
+global_asks target c (Some global.LatestTimestamp) = pushed target c _
+global_asks target c (Some global.CurrentApplicationId) = pushed target c _
 
 -- ---- row by row
 
-pub effect_asks : (c : Context) (o : Opcode) (i : Immediates) → AsksAtMost Any 3 (GoesForward c.machine.place) (effect c o i)
+pub effect_asks : (c : Context) (o : Opcode) (i : Immediates) → AsksAtMost Any 3 (GoesOn (branch_target c.machine.place o i)) (effect c o i)
 unfolding effect
 effect_asks c op.Err i = tt
 effect_asks c op.Sha256 i = search (rules, then_ok)
@@ -153,17 +150,17 @@ effect_asks c op.Bytec1 i = search (rules, then_ok, pushed)
 effect_asks c op.Bytec2 i = search (rules, then_ok, pushed)
 effect_asks c op.Bytec3 i = search (rules, then_ok, pushed)
 effect_asks c op.Txn i = search (rules, then_act, pushed)
-effect_asks c op.Global i = global_asks c (global_field_at (field_of i))
+effect_asks c op.Global i = global_asks None c (global_field_at (field_of i))
 effect_asks c op.Gtxn i = search (rules, then_act, pushed)
-effect_asks c op.Load i = pushed c (unwrap_or (slice_get c.machine.scratch (index_of i)) (Uint 0))
+effect_asks c op.Load i = pushed None c (unwrap_or (slice_get c.machine.scratch (index_of i)) (Uint 0))
 effect_asks c op.Store i = search (rules, then_ok)
 effect_asks c op.Txna i = search (rules, then_act, pushed)
 effect_asks c op.Gtxna i = search (rules, then_act, pushed)
 effect_asks c op.Gtxns i = search (rules, then_act)
 effect_asks c op.Gtxnsa i = search (rules, then_act)
-effect_asks c op.Bnz i = search (rules, then_ok, behind_if)
-effect_asks c op.Bz i = search (rules, then_ok, behind_if)
-effect_asks c op.B i = behind c (offset_of i)
+effect_asks c op.Bnz i = search (rules, then_ok, branch_if)
+effect_asks c op.Bz i = search (rules, then_ok, branch_if)
+effect_asks c op.B i = refl
 effect_asks c op.Return i = search (rules, then_ok)
 effect_asks c op.Assert i = search (rules, then_ok)
 effect_asks c op.Pop i = search (rules, then_ok)
@@ -188,5 +185,5 @@ effect_asks c op.AppLocalPut i = search (rules, then_act, then_found, may_put_as
 effect_asks c op.AppGlobalPut i = search (rules, then_act, may_put_asks, entry_asks, put_over_asks)
 effect_asks c op.AppLocalDel i = search (rules, then_act, then_found)
 effect_asks c op.AppGlobalDel i = search (rules, then_act, entry_asks, delete_asks)
-effect_asks c op.Pushbytes i = pushed c (Bytes (bytes_of i))
-effect_asks c op.Pushint i = pushed c (Uint (uint_of i))
+effect_asks c op.Pushbytes i = pushed None c (Bytes (bytes_of i))
+effect_asks c op.Pushint i = pushed None c (Uint (uint_of i))

@@ -7,3 +7,4 @@ pub mod Fields
 pub mod States
 pub mod Effect
 pub mod Steps
+pub mod TakenOperands
