@@ -1,24 +1,23 @@
 -- A call asks for at most two items before its program, and three a step.
-use Rattle.std.proofs.Common.{rules, ◌≡◌, ◌<◌, ◌≤◌, ◌+◌, ◌-◌, ◌*◌, ◌^◌, ℕ, Bool, true, false, nat_le, List, [], ◌∷◌, length, Option, None, Some, Result, Ok, Err, refl, sym, ap, subst, arith, leb→le}
+use Rattle.std.proofs.Common.{◌≡◌, ◌≤◌, ◌+◌, ◌-◌, ◌*◌, ◌^◌, ℕ, Bool, true, false, nat_le, length, Option, None, Some, Result, Ok, Err, refl, sym, subst, arith, leb→le}
 use Rattle.std.specs.Prelude.{T, ◌==◌, ◌||◌, ◌&&◌, not, IsTrue, is_some}
 use Rattle.avm_ledger.specs.declared.application.Application.{Application}
 use Rattle.avm_ledger.specs.declared.header.Header.{Header}
 use Rattle.avm_items.specs.declared.call_data.Completion.{Completion}
 use Rattle.avm_items.specs.declared.call_data.Completion.TheVariants as completion
 use Rattle.avm_items.specs.declared.call_data.CallData.{CallData}
-use Rattle.avm_items.specs.declared.item.Item.{Item}
 use Rattle.avm_items.specs.declared.item_value.ItemValue.{ItemValue}
 use Rattle.avm_items.specs.declared.item_value.ItemValue.TheVariants as value
 use Rattle.avm_items.specs.CallFields.{creates, clears}
 use Rattle.avm_items.specs.Items.{next_id_in, application_in, local_state_in}
-use Rattle.avm_items.specs.Asks.{Ask, Gives, and_then}
-use Rattle.avm_items.specs.Acts.{Act, done, stop, on_ok, reads, test, ◌>>=◌}
+use Rattle.avm_items.specs.Asks.{Gives, and_then}
+use Rattle.avm_items.specs.Acts.{Act, done, on_ok, test, ◌>>=◌}
 use Rattle.avm_items.specs.Counting.{AsksAtMost, Any}
 use Rattle.avm_items.proofs.Counting.{at_most-more, at_most-then, at_most-fewer}
 use Rattle.avm_call.specs.declared.outcome.Why.{Why}
 use Rattle.avm_call.specs.declared.outcome.Why.TheVariants as why
-use Rattle.avm_call.specs.Runs.{Execution, whole_path, program_result, ended_at}
-use Rattle.avm_call.specs.Calls.{CallResult, Target, created, new_target, called_target, target, sender_item, is_opted_in, opt_in_test, admitted, prepared, program_of, execution, ending, runs, runs_on, goes_on, call_result}
+use Rattle.avm_call.specs.Runs.{whole_path, program_result, ended_at}
+use Rattle.avm_call.specs.Calls.{Target, created, new_target, called_target, target, is_opted_in, opt_in_test, admitted, prepared, program_of, execution, ending, runs, runs_on, goes_on, call_result}
 use Rattle.avm_call.specs.Ends.{HasEnded, has_short_programs}
 use Rattle.avm_call.proofs.Paths.{paths_end}
 

@@ -1,12 +1,11 @@
 -- A path goes from instruction to instruction, ever further, so it has at most as many steps as there are instructions.
-use Rattle.std.proofs.Common.{◌≡◌, ◌<◌, ◌≤◌, ◌+◌, ◌-◌, ◌*◌, ℕ, zero, suc, Bool, true, false, nat_le, if◌then◌else◌, List, [], ◌∷◌, length, Option, None, Some, Result, Ok, Err, refl, sym, ap, ◌∙◌, subst, arith, eq-eqb, leb→le}
+use Rattle.std.proofs.Common.{◌≡◌, ◌<◌, ◌≤◌, ◌+◌, ◌-◌, ◌*◌, ℕ, zero, suc, Bool, true, false, nat_le, if◌then◌else◌, List, [], ◌∷◌, length, Result, Ok, Err, refl, sym, ap, subst, arith, eq-eqb, leb→le}
 use Rattle.std.specs.Prelude.{T, ◌==◌, ◌||◌}
-use Rattle.std.specs.List.{list_any}
 use Rattle.std.proofs.lemmas.Bool.{leb-false, eqb-true}
 use Rattle.teal_code.specs.declared.decode.CodeFault.{CodeFault}
 use Rattle.teal_code.specs.declared.instr.Instr.{Instr}
 use Rattle.avm_items.specs.Items.{ItemMap}
-use Rattle.avm_items.specs.Asks.{Ask, Gives, and_then, remaining_questions}
+use Rattle.avm_items.specs.Asks.{Gives, and_then, remaining_questions}
 use Rattle.avm_items.specs.Counting.{AsksAtMost, Any}
 use Rattle.avm_items.proofs.Counting.{at_most-more, at_most-then}
 use Rattle.avm_cpu.specs.declared.flow.Flow.{Flow}
@@ -15,7 +14,7 @@ use Rattle.avm_ops.specs.Frame.{Stepped}
 use Rattle.avm_ops.specs.Effect.{effect}
 use Rattle.avm_ops.specs.Steps.{branch_target, IsFlowTo, GoesOn}
 use Rattle.avm_call.specs.declared.outcome.Ended.{Ended}
-use Rattle.avm_call.specs.Runs.{Execution, Position, version_at, instruction_at, context_at, place_after, known_itself, result_at_end, stepped, executed, step, start, run_from, path}
+use Rattle.avm_call.specs.Runs.{Execution, Position, version_at, instruction_at, context_at, place_after, known_itself, result_at_end, stepped, executed, start, run_from, path}
 use Rattle.avm_call.specs.Ends.{HasEnded, is_start, is_start_or_end, IsLaidOut}
 use Rattle.avm_call.proofs.Paths.{read_on, behind_by, executed_asks, goes_on}
 

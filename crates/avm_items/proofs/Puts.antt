@@ -1,15 +1,14 @@
 -- The laws of setting and reading the items of a ledger, by the laws of finite maps.
 use Rattle.std.proofs.Common.{◌≡◌, ℕ, ◌==◌, Bool, true, false, List, [], ◌∷◌, ◌++◌, Option, None, Some, refl, sym, ap, ◌∙◌, subst, cond, eq-eqb}
 use Rattle.std.specs.Prelude.{is_none}
-use Rattle.std.specs.Ordering.{is_eq, nat_cmp, on, ordering_then}
+use Rattle.std.specs.Ordering.{is_eq, nat_cmp, ordering_then}
 use Rattle.std.specs.declared.cmp.Ordering.{Ordering}
 use Rattle.std.specs.declared.cmp.Ordering.TheVariants.{Less, Equal, Greater}
 use Rattle.std.specs.Cmp.{IsTotalOrder, on_total, tied_itself}
-use Rattle.std.specs.Cmp.Lexicographic.{slice_cmp}
 use Rattle.std.proofs.lemmas.Cmp.{nat_cmp_total, nat_list_cmp_total, then_total}
 use Rattle.std.specs.FinMap.{nat_cmp-IsAntisymmetric, slice_cmp-IsAntisymmetric}
-use Rattle.std.specs.Map.{lookup, remove_entry, keys_of}
-use Rattle.std.specs.BTreeMap.{insert_entry, is_at}
+use Rattle.std.specs.Map.{lookup, keys_of}
+use Rattle.std.specs.BTreeMap.{is_at}
 use Rattle.std.specs.List.Sorted.{IsStrictlySortedBy}
 use Rattle.teal_value.specs.declared.address.Address.{Address}
 use Rattle.teal_value.specs.declared.value.Value.{Value}
@@ -22,10 +21,10 @@ use Rattle.avm_items.specs.declared.item.Item.TheVariants as item
 use Rattle.avm_items.specs.declared.item_value.ItemValue.{ItemValue}
 use Rattle.avm_items.specs.declared.item_value.ItemValue.TheVariants as value
 use Rattle.avm_items.specs.Items.{item_cmp, sort_key, key_value}
-use Rattle.avm_items.specs.LedgerItems.{at, put_one, is_of_gone, with_row, with_state, row_value, counts_value, entry_value, local_value}
+use Rattle.avm_items.specs.LedgerItems.{at, put_one, with_row, with_state, row_value, counts_value, entry_value, local_value}
 use Rattle.std.specs.Prelude.{◌||◌, length, unwrap_or}
 use Rattle.std.specs.List.{AllByRecursion}
-use Rattle.std.proofs.Common.{◌+◌, arith, length-append}
+use Rattle.std.proofs.Common.{arith, length-append}
 use Rattle.avm_items.specs.Items.{ItemMap, value_in}
 use Rattle.avm_items.specs.LedgerItems.{put}
 use Rattle.avm_items.specs.PutLaws.{MaySet, changes_with, is_counts, deletes, is_deleted_by, MayPut, MayPutAll}

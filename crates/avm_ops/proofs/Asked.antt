@@ -1,6 +1,6 @@
 -- An instruction asks for at most three items, and a run goes on behind it: by families, and then row by row.
-use Rattle.std.proofs.Common.{rules, ◌≡◌, ◌<◌, ◌≤◌, ◌+◌, ◌-◌, ℕ, Bool, true, false, nat_lt, nat_le, if◌then◌else◌, List, [], ◌∷◌, length, Option, None, Some, Result, Ok, Err, refl, arith}
-use Rattle.std.specs.Prelude.{◌==◌, not, drop, slice_get, unwrap_or}
+use Rattle.std.proofs.Common.{rules, ◌<◌, ◌+◌, ◌-◌, ℕ, Bool, true, false, nat_lt, nat_le, if◌then◌else◌, List, length, Option, None, Some, Result, Ok, Err, refl, arith}
+use Rattle.std.specs.Prelude.{◌==◌, drop, slice_get, unwrap_or}
 use Rattle.teal_value.specs.Answer.{◌>>=◌}
 use Rattle.teal_value.specs.declared.value.Value.{Value}
 use Rattle.teal_value.specs.declared.value.Value.TheVariants.{Uint, Bytes}
@@ -12,20 +12,19 @@ use Rattle.teal_table.specs.declared.global_fields.GlobalField.{GlobalField}
 use Rattle.teal_table.specs.declared.global_fields.GlobalField.TheVariants as global
 use Rattle.teal_table.specs.Fields.{global_field_at}
 use Rattle.teal_code.specs.declared.instr.Immediates.{Immediates}
-use Rattle.avm_items.specs.Asks.{Ask, Gives, Asks, and_then}
+use Rattle.avm_items.specs.Asks.{Gives, and_then}
 use Rattle.avm_items.specs.Acts.{Act, on_ok, found, test, reads}
 use Rattle.avm_items.specs.declared.item.Item.TheVariants as item
 use Rattle.avm_items.specs.Items.{entry_in}
 use Rattle.avm_items.specs.Counting.{AsksAtMost, Any}
 use Rattle.avm_items.proofs.Counting.{at_most-more}
-use Rattle.avm_ops.specs.Frame.{Context, After, Stepped, pushes, pushes_pair, next_with, next_with_stack}
-use Rattle.avm_ops.specs.Immediates.{index_of, field_of, offset_of, uint_of, bytes_of}
-use Rattle.avm_ops.specs.Numbers.{is_nonzero}
-use Rattle.avm_ops.specs.Stack.{target_of, branches, branches_if}
+use Rattle.avm_ops.specs.Frame.{Context, After, Stepped, pushes, pushes_pair, next_with_stack}
+use Rattle.avm_ops.specs.Immediates.{index_of, field_of, uint_of, bytes_of}
+use Rattle.avm_ops.specs.Stack.{target_of}
 use Rattle.avm_ops.specs.Fields.{global_at}
 use Rattle.avm_ops.specs.States.{value_length, foreign_application, global_entry, may_put, global_put_over, global_delete_of}
 use Rattle.avm_ops.specs.Effect.{effect}
-use Rattle.avm_ops.specs.Steps.{branch_target, IsFlowTo, GoesOn}
+use Rattle.avm_ops.specs.Steps.{branch_target, GoesOn}
 
 -- ---- rows without questions
 

@@ -1,6 +1,6 @@
 -- Each kind of operands tests for underflow and then for types, and so does each row of the opcode table.
-use Rattle.std.proofs.Common.{◌≡◌, ◌<◌, ◌≤◌, ◌+◌, ℕ, Bool, true, false, List, [], ◌∷◌, length, Result, Ok, Err, refl, sym, ap, ◌∙◌, arith}
-use Rattle.std.specs.Prelude.{◌&&◌, reverse}
+use Rattle.std.proofs.Common.{◌≡◌, ◌<◌, ◌≤◌, false, List, [], ◌∷◌, length, Result, Err, refl, ap, arith}
+use Rattle.std.specs.Prelude.{reverse}
 use Rattle.teal_value.specs.Answer.{◌>>=◌}
 use Rattle.teal_value.specs.declared.value.Value.{Value}
 use Rattle.teal_value.specs.declared.value.Value.TheVariants.{Uint, Bytes}
@@ -16,7 +16,7 @@ use Rattle.avm_items.specs.Acts.{Act, stop, on_ok}
 use Rattle.avm_cpu.specs.Operands.{one_uint, one_bytes, one_value, two_uints, two_bytes, two_values, uint_and_bytes, bytes_and_uint, bytes_and_value, value_and_uint, bytes_and_two_uints, value_and_two_uints, two_values_and_uint, two_uints_and_bytes, uint_bytes_and_value}
 use Rattle.avm_ops.specs.Frame.{Context, After, Stepped}
 use Rattle.avm_ops.specs.Effect.{effect}
-use Rattle.avm_ops.specs.TakenOperands.{is_kind, are_kinds}
+use Rattle.avm_ops.specs.TakenOperands.{are_kinds}
 
 -- ---- operands by kind
 
