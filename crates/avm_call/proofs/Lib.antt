@@ -1,3 +1,4 @@
 pub mod Paths
 pub mod Asked
 pub mod Steps
+pub mod LaidOut
