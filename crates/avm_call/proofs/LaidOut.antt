@@ -1,9 +1,8 @@
 -- The instructions of a checked program stand one behind another, and its branches lead to one of them or the end.
-use Rattle.std.proofs.Common.{◌≡◌, ◌<◌, ◌≤◌, ◌+◌, ◌-◌, ◌*◌, ℕ, zero, suc, Bool, true, false, cond, eqb, ltb, if◌then◌else◌, List, [], ◌∷◌, length, drop, get_or, Option, None, Some, Result, Ok, Err, refl, sym, ap, ◌∙◌, subst, arith, inl, inr, eq-eqb, length-drop}
-use Rattle.std.specs.Prelude.{◌⊎◌, ◌==◌, ◌||◌, is_some}
-use Rattle.std.specs.List.{list_any}
+use Rattle.std.proofs.Common.{◌≡◌, ◌<◌, ◌≤◌, ◌+◌, ◌-◌, ◌*◌, ℕ, zero, suc, Bool, true, false, eqb, ltb, if◌then◌else◌, List, [], ◌∷◌, length, drop, get_or, Option, None, Some, Result, Ok, Err, refl, sym, ap, ◌∙◌, subst, arith, inl, inr, eq-eqb, length-drop}
+use Rattle.std.specs.Prelude.{◌==◌, ◌||◌, is_some, is_ok}
 use Rattle.std.specs.Option.{ok_or, option_map}
-use Rattle.std.proofs.lemmas.Bool.{eqb-true}
+use Rattle.std.proofs.lemmas.Bool.{eqb-true, ltb-false}
 use Rattle.teal_value.specs.Answer.{◌>>=◌}
 use Rattle.teal_value.proofs.Binding.{bind_ok, chosen}
 use Rattle.teal_table.specs.declared.shape.Shape.TheVariants as shape
@@ -23,14 +22,15 @@ use Rattle.teal_check.specs.declared.fault.CheckFault.TheVariants as fault
 use Rattle.teal_check.specs.declared.program.Placed.{Placed}
 use Rattle.teal_check.specs.WellFormed.{WellFormed, on_code, version_of, with_known_field, has_field, placed_at, placed_from, places, index_of, number_at, target_of, with_targets, affordable, checked}
 use Rattle.teal_check.specs.WellFormed as check
-use Rattle.teal_check.proofs.CheckedPrograms.{placed_forward, targets_keep, length-places}
+use Rattle.teal_check.proofs.CheckedPrograms.{placed_forward, placed_rises, targets_keep, length-places}
 use Rattle.avm_ops.specs.Immediates.{offset_of}
 use Rattle.avm_ops.specs.Steps.{branch_target}
 use Rattle.avm_items.specs.Items.{ItemMap}
 use Rattle.avm_items.specs.Counting.{AsksAtMost, Any}
-use Rattle.avm_call.specs.Runs.{Execution, version_numbered, version_at, path}
+use Rattle.avm_items.proofs.Counting.{at_most-more}
+use Rattle.avm_call.specs.Runs.{Execution, version_numbered, version_at, path, whole_path}
 use Rattle.avm_call.specs.Ends.{HasEnded, is_start, is_start_or_end, IsLaidOut}
-use Rattle.avm_call.proofs.Steps.{steps_are_instructions}
+use Rattle.avm_call.proofs.Steps.{steps_are_instructions, whole_path_steps}
 
 -- ---- the version
 
@@ -318,3 +318,130 @@ laid_out bytes w e =
 pub checked_steps : (e : Execution) (writes : ItemMap) (w : WellFormed) → checked e.program ≡ Ok w → AsksAtMost Any (3 * length w.placed) HasEnded (path e writes (length w.placed + 1))
 checked_steps e writes w h =
     subst (λ n. AsksAtMost Any (3 * n) HasEnded (path e writes (n + 1))) (length-places w.placed) (steps_are_instructions e writes (places w.placed) (laid_out e.program w h))
+
+-- ---- at most 700 instructions, each of which costs something
+
+costs_something : (o : Opcode) → 0 < (row_of o).cost
+unfolding row_of
+costs_something op.Err = omega arith
+costs_something op.Sha256 = omega arith
+costs_something op.Sha512_256 = omega arith
+costs_something op.Add = omega arith
+costs_something op.Subtract = omega arith
+costs_something op.Divide = omega arith
+costs_something op.Multiply = omega arith
+costs_something op.Less = omega arith
+costs_something op.Greater = omega arith
+costs_something op.LessOrEqual = omega arith
+costs_something op.GreaterOrEqual = omega arith
+costs_something op.And = omega arith
+costs_something op.Or = omega arith
+costs_something op.Equal = omega arith
+costs_something op.NotEqual = omega arith
+costs_something op.Not = omega arith
+costs_something op.Len = omega arith
+costs_something op.Itob = omega arith
+costs_something op.Btoi = omega arith
+costs_something op.Remainder = omega arith
+costs_something op.BitOr = omega arith
+costs_something op.BitAnd = omega arith
+costs_something op.BitXor = omega arith
+costs_something op.BitNot = omega arith
+costs_something op.Mulw = omega arith
+costs_something op.Addw = omega arith
+costs_something op.Intcblock = omega arith
+costs_something op.Intc = omega arith
+costs_something op.Intc0 = omega arith
+costs_something op.Intc1 = omega arith
+costs_something op.Intc2 = omega arith
+costs_something op.Intc3 = omega arith
+costs_something op.Bytecblock = omega arith
+costs_something op.Bytec = omega arith
+costs_something op.Bytec0 = omega arith
+costs_something op.Bytec1 = omega arith
+costs_something op.Bytec2 = omega arith
+costs_something op.Bytec3 = omega arith
+costs_something op.Txn = omega arith
+costs_something op.Global = omega arith
+costs_something op.Gtxn = omega arith
+costs_something op.Load = omega arith
+costs_something op.Store = omega arith
+costs_something op.Txna = omega arith
+costs_something op.Gtxna = omega arith
+costs_something op.Gtxns = omega arith
+costs_something op.Gtxnsa = omega arith
+costs_something op.Bnz = omega arith
+costs_something op.Bz = omega arith
+costs_something op.B = omega arith
+costs_something op.Return = omega arith
+costs_something op.Assert = omega arith
+costs_something op.Pop = omega arith
+costs_something op.Dup = omega arith
+costs_something op.Dup2 = omega arith
+costs_something op.Dig = omega arith
+costs_something op.Swap = omega arith
+costs_something op.Select = omega arith
+costs_something op.Concat = omega arith
+costs_something op.Substring = omega arith
+costs_something op.Substring3 = omega arith
+costs_something op.Getbit = omega arith
+costs_something op.Setbit = omega arith
+costs_something op.Getbyte = omega arith
+costs_something op.Setbyte = omega arith
+costs_something op.AppOptedIn = omega arith
+costs_something op.AppLocalGet = omega arith
+costs_something op.AppLocalGetEx = omega arith
+costs_something op.AppGlobalGet = omega arith
+costs_something op.AppGlobalGetEx = omega arith
+costs_something op.AppLocalPut = omega arith
+costs_something op.AppGlobalPut = omega arith
+costs_something op.AppLocalDel = omega arith
+costs_something op.AppGlobalDel = omega arith
+costs_something op.Pushbytes = omega arith
+costs_something op.Pushint = omega arith
+
+count_below_cost : (ps : List Placed) → length ps ≤ check.cost_of ps
+count_below_cost [] = omega arith
+count_below_cost (p ∷ ps) =
+    let one = costs_something p.instr.opcode in
+    let rest = count_below_cost ps in
+    omega arith
+
+-- how long a checked program is, in instructions and in bytes
+record IsFew (bytes : List ℕ) (w : WellFormed) : Type 0 where
+  instructions : length w.placed ≤ 700
+  in_bytes : length w.placed ≤ length bytes
+
+few_afforded : (version : Version) (bytes : List ℕ) (ps : List Placed) (w : WellFormed) → affordable version bytes ps ≡ Ok w → length ps ≤ 700
+few_afforded version bytes ps w e =
+    elim (chosen (ltb 700 (check.cost_of ps)) _ _ _ e) [
+      | inl (more, bad) ↦ absurd cc
+      | inr (fits, one) ↦
+          let cost = ltb-false 700 (check.cost_of ps) fits in
+          let count = count_below_cost ps in
+          omega arith
+    ]
+
+few : (bytes : List ℕ) (w : WellFormed) → checked bytes ≡ Ok w → IsFew bytes w
+unfolding checked
+few bytes w e =
+    elim (chosen (eqb (length bytes) 0 || ltb 1024 (length bytes)) _ _ _ e) [
+      | inl (outside, bad) ↦ absurd cc
+      | inr (inside, more) ↦
+          let (v, first, others) = bind_ok (check.version_at bytes) _ _ more in
+          let (ps, placed, rest) = bind_ok (placed_from (length bytes) v.0 bytes v.1) _ _ others in
+          let (qs, resolved, last) = bind_ok (with_targets (places ps) (length bytes) ps) _ _ rest in
+          let same = ap length (afforded v.0 bytes qs w last) in
+          let keeps = targets_keep (places ps) (length bytes) ps qs resolved in
+          let rises = placed_rises (length bytes) v.0 bytes v.1 ps (version_within bytes v first) placed in
+          let afford = few_afforded v.0 bytes qs w last in
+          record { instructions = omega (arith, same, afford); in_bytes = omega (arith, same, keeps.1, rises.1) }
+    ]
+
+pub program_asks : (e : Execution) (writes : ItemMap) (r : Result WellFormed CheckFault) → checked e.program ≡ r → is_ok r ≡ true → AsksAtMost Any (3 * 700) HasEnded (whole_path e writes)
+program_asks e writes (Err f) is h = absurd cc
+program_asks e writes (Ok w) is h =
+    let short = few e.program w is in
+    let count = length-places w.placed in
+    at_most-more Any (3 * length (places w.placed)) (3 * 700) HasEnded (whole_path e writes) (omega (arith, short.instructions, count))
+    (whole_path_steps e writes (places w.placed) (laid_out e.program w is) (omega (arith, short.in_bytes, count)))

@@ -1,4 +1,4 @@
 pub mod Paths
-pub mod Asked
 pub mod Steps
 pub mod LaidOut
+pub mod Asked

@@ -14,7 +14,7 @@ use Rattle.avm_ops.specs.Frame.{Stepped}
 use Rattle.avm_ops.specs.Effect.{effect}
 use Rattle.avm_ops.specs.Steps.{branch_target, IsFlowTo, GoesOn}
 use Rattle.avm_call.specs.declared.outcome.Ended.{Ended}
-use Rattle.avm_call.specs.Runs.{Execution, Position, version_at, instruction_at, context_at, place_after, known_itself, result_at_end, stepped, executed, start, run_from, path}
+use Rattle.avm_call.specs.Runs.{Execution, Position, version_at, instruction_at, context_at, place_after, known_itself, result_at_end, stepped, executed, start, run_from, path, whole_path}
 use Rattle.avm_call.specs.Ends.{HasEnded, is_start, is_start_or_end, IsLaidOut}
 use Rattle.avm_call.proofs.Paths.{read_on, behind_by, executed_asks, goes_on}
 
@@ -138,3 +138,10 @@ steps_are_instructions e writes starts laid =
     let few = left_in_all p.place starts in
     at_most-more Any (3 * left_from p.place starts) (3 * length starts) HasEnded (path e writes (length starts + 1)) (omega arith)
     (run_laid e starts laid (length starts + 1) p laid.first (omega arith))
+
+pub whole_path_steps : (e : Execution) (writes : ItemMap) (starts : List ℕ) → IsLaidOut e.program starts → length starts ≤ length e.program → AsksAtMost Any (3 * length starts) HasEnded (whole_path e writes)
+whole_path_steps e writes starts laid short =
+    let p = start e.program writes in
+    let few = left_in_all p.place starts in
+    at_most-more Any (3 * left_from p.place starts) (3 * length starts) HasEnded (whole_path e writes) (omega arith)
+    (run_laid e starts laid (length e.program + 1) p laid.first (omega arith))

@@ -19,7 +19,7 @@ pub fn checked_programs()
     ensures steps { CheckedStepsAreInstructions }
 {}
 
-/// A call asks for at most two items before its program, and for three a step.
+/// A call asks for at most two items before its program, and for three at each of at most 700 instructions.
 pub fn calls_ask_little()
     ensures { CallsAskLittle }
 {}
