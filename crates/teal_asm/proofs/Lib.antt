@@ -2,3 +2,4 @@ pub mod Each
 pub mod Literals
 pub mod Emitting
 pub mod Gathering
+pub mod Bodying

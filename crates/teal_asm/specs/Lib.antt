@@ -5,3 +5,4 @@ pub mod Meaning
 pub mod Program
 pub mod Shown
 pub mod Instructions
+pub mod Bodies

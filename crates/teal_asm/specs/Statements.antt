@@ -120,6 +120,10 @@ behind before s =
     else if gathers_too_many (before ++ s ∷ []) then Err kind.TooManyConstants
     else Ok s
 
+-- the statements with one more
+abbrev pub appended : {F : Type 0} → List Statement → Result Statement F → Result (List Statement) F
+appended before r = r >>= λ s. Ok (before ++ s ∷ [])
+
 -- ---- a line
 
 -- the name of a label: a word that ends in `:`, with a character before it at least

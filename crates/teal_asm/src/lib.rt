@@ -6,6 +6,7 @@
 #![tactic(auto)]
 
 mod arity;
+mod body;
 mod command;
 mod emit;
 mod fault;
