@@ -2,12 +2,15 @@
 use Rattle.std.proofs.Common.{◌≡◌, ℕ, zero, suc, ◌+◌, ◌≤◌, Bool, true, false, cond, ltb, ◌&&◌, ◌||◌, nat_eq, List, [], ◌∷◌, ◌++◌, length, Option, Some, None, Result, Ok, Err, refl, sym, ap, ◌∙◌, append_assoc, arith}
 use Rattle.std.specs.List.{flat_map, list_any}
 use Rattle.std.specs.Str.{bytes_eq}
+use Rattle.std.specs.Map.{lookup}
+use Rattle.std.specs.Prelude.{is_some}
+use Rattle.std.specs.Option.{option_map_or, ForSome}
 use Rattle.std.proofs.lemmas.List.{append-nil}
 use Rattle.std.proofs.lemmas.Bool.{ltb-false}
 use Rattle.teal_asm.specs.declared.statement.Statement.{Statement}
 use Rattle.teal_asm.specs.declared.command.Command.{Command}
 use Rattle.teal_asm.specs.declared.fault.AsmFaultKind.TheVariants as kind
-use Rattle.teal_asm.specs.Statements.{gathered_uint, gathered_string, is_uint_block, is_byte_block, distinct, gathered_uints, gathered_strings, mixes_blocks, gathers_too_many, behind, appended}
+use Rattle.teal_asm.specs.Statements.{gathered_uint, gathered_string, is_uint_block, is_byte_block, distinct, gathered_uints, gathered_strings, mixes_blocks, gathers_too_many, behind, appended, has_label}
 use Rattle.teal_asm.specs.Meaning.{commands_in, label_entry, labels_from}
 use Rattle.teal_asm.specs.declared.body.Body.{Body}
 use Rattle.teal_asm.specs.Bodies.{command_count, IsBody}
@@ -123,3 +126,25 @@ body_is b ss are uints strings labels commands uint_block byte_block few_uints f
   few_uints = few_uints;
   few_strings = few_strings;
 }
+
+-- a label that is there has a number
+pub label_there : (n : ℕ) (ss : List Statement) (name : List ℕ) → is_some (lookup (bytes_eq name) (labels_from n ss)) ≡ list_any (has_label name) ss
+unfolding labels_from
+label_there n [] name = refl
+label_there n (s ∷ ss) name = at_label s.label (label_there (n + commands_in s.command) ss name)
+  where
+    at_test : (b : Bool) (k : ℕ) (o : Option ℕ) {r : Bool} → is_some o ≡ r → is_some (cond b (Some k) o) ≡ (b || r)
+    at_test true k o e = refl
+    at_test false k o e = e
+    at_label : (label : Option (List ℕ)) → is_some (lookup (bytes_eq name) (labels_from (n + commands_in s.command) ss)) ≡ list_any (has_label name) ss
+        → is_some (lookup (bytes_eq name) (label_entry label n ++ labels_from (n + commands_in s.command) ss)) ≡ (option_map_or (λ l. bytes_eq name l) label false || list_any (has_label name) ss)
+    at_label None e = e
+    at_label (Some l) e = at_test (bytes_eq name l) n _ e
+
+no_value : {A : Type 0} (o : Option A) → is_some o ≡ false → o ≡ None
+no_value None e = refl
+no_value (Some x) e = absurd cc
+
+-- a label that no statement has is new
+pub is_fresh : (b : Body) → IsBody b → (label : Option (List ℕ)) → ForSome label (λ name. list_any (has_label name) b.statements.items ≡ false) → ForSome label (λ name. lookup (bytes_eq name) b.labels ≡ None)
+is_fresh b is label fresh = λ name e. no_value _ (ap (λ ls. is_some (lookup (bytes_eq name) ls)) is.labels ∙ label_there 0 b.statements.items name ∙ fresh name e)

@@ -3,3 +3,4 @@ pub mod Literals
 pub mod Emitting
 pub mod Gathering
 pub mod Bodying
+pub mod LineByLine

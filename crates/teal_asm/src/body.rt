@@ -1,11 +1,12 @@
 //! The statements of a text, one behind another, with what they gather.
 
-ghost use Rattle.std.specs.Prelude.{◌≡◌, ◌≤◌, ◌++◌, ◌&&◌, ◌||◌, [], None, length, nat_lt, nat_eq, OnOk};
+ghost use Rattle.std.specs.Prelude.{◌≡◌, ◌≤◌, ◌++◌, ◌&&◌, ◌||◌, [], None, false, length, nat_lt, nat_eq, OnOk};
+ghost use Rattle.std.specs.List.{list_any};
 ghost use Rattle.std.specs.Map.{lookup};
 ghost use Rattle.std.specs.Option.{ForSome};
 ghost use Rattle.std.specs.Str.{bytes_eq};
 ghost use Rattle.teal_value.specs.Answer.{Leaves};
-ghost use Rattle.teal_asm.specs.Statements.{appended, behind, distinct, gathered_uint, gathered_string, is_uint_block, is_byte_block};
+ghost use Rattle.teal_asm.specs.Statements.{appended, behind, distinct, gathered_uint, gathered_string, has_label, is_uint_block, is_byte_block};
 ghost use Rattle.teal_asm.specs.Meaning.{commands_in, label_entry};
 
 use crate::command::Command;
@@ -56,7 +57,7 @@ impl Body {
     /// Adds a statement whose label is new. After a refusal the body is of no more use.
     pub fn add(&mut self, alloc: Global, statement: Statement) -> Result<(), LineError>
         requires body { IsBody self.old }
-        requires fresh { ForSome statement.label (λ name. lookup (bytes_eq name) self.old.labels ≡ None) }
+        requires fresh { ForSome statement.label (λ name. list_any (has_label name) self.old.statements.items ≡ false) }
         ensures leaves { Leaves result self.new.statements.items (appended self.old.statements.items (behind self.old.statements.items statement)) }
         ensures kept { OnOk result (IsBody self.new) }
     {
@@ -73,6 +74,14 @@ impl Body {
         self.commands += commands_in(&statement.command);
         self.statements.push(statement)?;
         Ok(())
+    }
+
+    /// Whether a statement has the label.
+    pub fn has_label(&self, name: &[u8]) -> bool
+        requires { IsBody self.now }
+        ensures { result ≡ list_any (has_label name.now) self.now.statements.items }
+    {
+        self.labels.number_of(name).is_some()
     }
 
     fn mixes_blocks(&self) -> bool

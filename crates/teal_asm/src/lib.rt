@@ -11,7 +11,10 @@ mod command;
 mod emit;
 mod fault;
 mod gathered;
+mod line;
+mod lines;
 mod operand;
+mod resolve;
 mod statement;
 
 pub use command::Command;

@@ -4,7 +4,7 @@ use Rattle.std.specs.Str.{bytes_eq}
 use Rattle.teal_asm.specs.Statements.{distinct, gathered_uint, gathered_string, is_uint_block, is_byte_block}
 use Rattle.teal_asm.specs.Bodies.{command_count}
 use Rattle.teal_asm.specs.Meaning.{labels_from, label_entry}
-use Rattle.teal_asm.proofs.Bodying.{Behind, uints-push, strings-push, list_any-push, labels-push, command_count-push, command_count-le, is_mixed, is_too_many, is_behind, few, body_is}
+use Rattle.teal_asm.proofs.Bodying.{Behind, uints-push, strings-push, list_any-push, labels-push, command_count-push, command_count-le, is_mixed, is_too_many, is_behind, few, body_is, is_fresh}
 use Rattle.teal_asm.proofs.body.Body.add.Goals as goal
 
 pub returns-then-mixes_blocks-clause-leaves : goal.returns-then-mixes_blocks-clause-leaves
@@ -64,3 +64,6 @@ returns-clause-kept c =
       (c.with_byte_block-self.ensures ∙ ap (λ x. x || is_byte_block s.command) b.byte_block ∙ sym (list_any-push (λ t. is_byte_block t.command) ss s))
       short.0
       short.1
+
+pub note_label-requires : goal.note_label-requires
+note_label-requires c = is_fresh c.args.self.now c.requires.body c.args.statement.label c.requires.fresh
