@@ -1,0 +1,4 @@
+pub mod Lists
+pub mod Follow
+pub mod PlainConstants
+pub mod PlainPaths
