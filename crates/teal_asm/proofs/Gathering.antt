@@ -44,7 +44,7 @@ from_test : (b : Bool) (i j : ℕ) → cond b (Some i) None ≡ Some j → i ≡
 from_test true i j e = cc
 from_test false i j e = absurd cc
 
-not_from_test : (b : Bool) (i : ℕ) → cond b (Some i) None ≡ None → b ≡ false
+pub not_from_test : (b : Bool) (i : ℕ) → cond b (Some i) None ≡ None → b ≡ false
 not_from_test true i e = absurd cc
 not_from_test false i e = refl
 

@@ -4,3 +4,4 @@ pub mod Emitting
 pub mod Gathering
 pub mod Bodying
 pub mod LineByLine
+pub mod Resolving

@@ -6,3 +6,4 @@ pub mod Program
 pub mod Shown
 pub mod Instructions
 pub mod Bodies
+pub mod Constants
