@@ -1,0 +1,4 @@
+pub mod Paths
+pub mod Steps
+pub mod LaidOut
+pub mod Asked

@@ -1,6 +1,6 @@
 -- What a call does (AVM specification, application call transactions): the tests before its program, what is prepared
 -- for it, its run, and what comes after.
-use Rattle.std.specs.Prelude.{ℕ, ◌+◌, ◌-◌, ◌^◌, ◌==◌, ◌||◌, Bool, true, false, not, if◌then◌else◌, List, [], ◌∷◌, filter, Option, Some, None, is_some, is_none, Result, Ok, Err}
+use Rattle.std.specs.Prelude.{ℕ, ◌+◌, ◌-◌, ◌^◌, ◌==◌, ◌||◌, Bool, true, false, not, if◌then◌else◌, List, [], filter, Option, Some, None, is_some, Result, Ok, Err}
 use Rattle.avm_ledger.specs.declared.application.Application.{Application}
 use Rattle.avm_ledger.specs.declared.header.Header.{Header}
 use Rattle.avm_ledger.specs.Schemas.{no_entries}
@@ -9,12 +9,11 @@ use Rattle.avm_items.specs.declared.call_data.Completion.TheVariants as completi
 use Rattle.avm_items.specs.declared.call_data.CallData.{CallData}
 use Rattle.avm_items.specs.declared.item.Item.{Item}
 use Rattle.avm_items.specs.declared.item.Item.TheVariants as item
-use Rattle.avm_items.specs.declared.item_value.ItemValue.{ItemValue}
 use Rattle.avm_items.specs.declared.item_value.ItemValue.TheVariants as value
 use Rattle.avm_items.specs.CallFields.{creates, clears}
 use Rattle.avm_items.specs.Items.{ItemMap, with_item, next_id_in, application_in, local_state_in}
 use Rattle.avm_items.specs.Asks.{Ask, Gives, and_then}
-use Rattle.avm_items.specs.Acts.{Act, done, stop, reads, test, ◌>>=◌}
+use Rattle.avm_items.specs.Acts.{Act, done, reads, test, ◌>>=◌}
 use Rattle.avm_call.specs.declared.outcome.Ended.{Ended}
 use Rattle.avm_call.specs.declared.outcome.Ended.TheVariants as ended
 use Rattle.avm_call.specs.declared.outcome.Why.{Why}
@@ -67,7 +66,7 @@ target call = elim (creates call) [ true ↦ new_target call | false ↦ called_
 abbrev pub sender_item : CallData → ℕ → Item
 sender_item call id = item.Local call.sender id
 
-abbrev is_opted_in : CallData → ℕ → Act Why Bool
+abbrev pub is_opted_in : CallData → ℕ → Act Why Bool
 is_opted_in call id = reads (λ v. is_some (local_state_in v)) (sender_item call id)
 
 -- Who opts in isn't in; who closes out or clears is in.

@@ -1,6 +1,5 @@
 -- Calls over a ledger without applications, on which replay is computed.
-use Rattle.std.specs.Prelude.{ℕ, List, [], ◌∷◌, replicate, Option, Some, None}
-use Rattle.teal_value.specs.declared.address.Address.{Address}
+use Rattle.std.specs.Prelude.{ℕ, List, [], ◌∷◌, Option, Some, None}
 use Rattle.teal_value.specs.declared.value.Value.{Value}
 use Rattle.avm_ledger.specs.declared.schema.Schema.{Schema}
 use Rattle.avm_ledger.specs.declared.header.Profile.TheVariants as profile

@@ -2,6 +2,7 @@
 //! tests before it, what is prepared for it, and what comes after.
 #![tactic(auto)]
 
+pub mod laws;
 mod outcome;
 pub mod worked;
 

@@ -1,29 +1,33 @@
 -- The laws of setting and reading the items of a ledger, by the laws of finite maps.
 use Rattle.std.proofs.Common.{◌≡◌, ℕ, ◌==◌, Bool, true, false, List, [], ◌∷◌, ◌++◌, Option, None, Some, refl, sym, ap, ◌∙◌, subst, cond, eq-eqb}
 use Rattle.std.specs.Prelude.{is_none}
-use Rattle.std.specs.Ordering.{is_eq, nat_cmp, on, ordering_then}
+use Rattle.std.specs.Ordering.{is_eq, nat_cmp, ordering_then}
 use Rattle.std.specs.declared.cmp.Ordering.{Ordering}
 use Rattle.std.specs.declared.cmp.Ordering.TheVariants.{Less, Equal, Greater}
 use Rattle.std.specs.Cmp.{IsTotalOrder, on_total, tied_itself}
-use Rattle.std.specs.Cmp.Lexicographic.{slice_cmp}
 use Rattle.std.proofs.lemmas.Cmp.{nat_cmp_total, nat_list_cmp_total, then_total}
 use Rattle.std.specs.FinMap.{nat_cmp-IsAntisymmetric, slice_cmp-IsAntisymmetric}
-use Rattle.std.specs.Map.{lookup, remove_entry, keys_of}
-use Rattle.std.specs.BTreeMap.{insert_entry, is_at}
+use Rattle.std.specs.Map.{lookup, keys_of}
+use Rattle.std.specs.BTreeMap.{is_at}
 use Rattle.std.specs.List.Sorted.{IsStrictlySortedBy}
 use Rattle.teal_value.specs.declared.address.Address.{Address}
 use Rattle.teal_value.specs.declared.value.Value.{Value}
 use Rattle.avm_ledger.specs.declared.application.Application.{Application}
 use Rattle.avm_ledger.specs.Entries.{Entries, byte_cmp, value_of_key, with_entry, without_entry}
 use Rattle.avm_ledger.specs.Ledgers.{StoredApplication, Ledger, account_cmp, application_at, with_application, without_application, local_state_at, with_local_state, without_local_state, IsInKeyOrder, IsInOrder}
-use Rattle.avm_ledger.proofs.Maps.{lookup-inserted, lookup-inserted_other, lookup-removed, lookup-removed_other, is_Equal, sorted-inserted, sorted-removed, same_map}
+use Rattle.avm_ledger.proofs.Maps.{lookup-inserted, lookup-inserted_other, lookup-removed, lookup-removed_other, is_Equal, above_tied, below_none, sorted-inserted, sorted-removed, same_map}
 use Rattle.avm_items.specs.declared.item.Item.{Item}
 use Rattle.avm_items.specs.declared.item.Item.TheVariants as item
 use Rattle.avm_items.specs.declared.item_value.ItemValue.{ItemValue}
 use Rattle.avm_items.specs.declared.item_value.ItemValue.TheVariants as value
 use Rattle.avm_items.specs.Items.{item_cmp, sort_key, key_value}
-use Rattle.avm_items.specs.LedgerItems.{at, put_one, is_of_gone, with_row, with_state, row_value, counts_value, entry_value, local_value}
-use Rattle.avm_items.specs.PutLaws.{MaySet, changes_with}
+use Rattle.avm_items.specs.LedgerItems.{at, put_one, with_row, with_state, row_value, counts_value, entry_value, local_value}
+use Rattle.std.specs.Prelude.{◌||◌, length, unwrap_or}
+use Rattle.std.specs.List.{AllByRecursion}
+use Rattle.std.proofs.Common.{arith, length-append}
+use Rattle.avm_items.specs.Items.{ItemMap, value_in}
+use Rattle.avm_items.specs.LedgerItems.{put}
+use Rattle.avm_items.specs.PutLaws.{MaySet, changes_with, is_counts, deletes, is_deleted_by, MayPut, MayPutAll}
 
 account_total : IsTotalOrder account_cmp
 account_total = then_total (on_total (λ x. x.0.0) nat_list_cmp_total) (on_total (λ x. x.1) nat_cmp_total)
@@ -284,3 +288,102 @@ keeps_others l (item.Local who id) y (value.Local state) n c =
 keeps_others l (item.Local who id) y value.Absent n c =
     local_keeps l (without_local_state l who id) who id refl refl (λ x m. lookup-removed_other account_total x (who, id) l.local_states m) y n
 keeps_others l x y v n c = refl
+
+-- ---- many puts
+
+heads : {x y : ℕ} {xs ys : List ℕ} → x ∷ xs ≡ y ∷ ys → (x ≡ y) × (xs ≡ ys)
+heads e = (cc, cc)
+
+snoc_inj : (xs ys : List ℕ) (a b : ℕ) → xs ++ a ∷ [] ≡ ys ++ b ∷ [] → (xs ≡ ys) × (a ≡ b)
+snoc_inj [] [] a b e = (refl, (heads e).0)
+snoc_inj [] (y ∷ ys) a b e = let n : length (a ∷ []) ≡ length ((y ∷ ys) ++ b ∷ []) = ap length e in absurd (omega (arith, length-append ys (b ∷ [])))
+snoc_inj (x ∷ xs) [] a b e = let n : length ((x ∷ xs) ++ a ∷ []) ≡ length (b ∷ []) = ap length e in absurd (omega (arith, length-append xs (a ∷ [])))
+snoc_inj (x ∷ xs) (y ∷ ys) a b e =
+    let parts = heads e in
+    let rest = snoc_inj xs ys a b parts.1 in
+    ((λ i. parts.0 i ∷ rest.0 i), rest.1)
+
+keys_same : (x y : Item) → sort_key x ≡ sort_key y → x ≡ y
+keys_same item.NextApp item.NextApp e = refl
+keys_same (item.App a) (item.App b) e = ap item.App (heads (heads e).1).0
+keys_same (item.Counts a) (item.Counts b) e = ap item.Counts (heads (heads e).1).0
+keys_same (item.Key a k) (item.Key b l) e = let both = heads (heads e).1 in λ i. item.Key (both.0 i) (both.1 i)
+keys_same (item.Local who a) (item.Local other b) e =
+    let both = snoc_inj who.0 other.0 a b (heads e).1 in
+    let account = address_is who other both.0 in
+    λ i. item.Local (account i) (both.1 i)
+keys_same x y e = absurd (omega (arith, (heads e).0))
+
+item_same : (x y : Item) → item_cmp x y ≡ Equal → x ≡ y
+item_same x y e = keys_same x y (byte_same (sort_key x) (sort_key y) e)
+
+-- a new row keeps the keys of its application
+row_keeps_by : (l : Ledger) (id other : ℕ) (row : Application) (key : List ℕ) → (a : Option StoredApplication) → application_at l id ≡ a → (b : Bool) → is_eq (nat_cmp other id) ≡ b
+    → at (with_application l id (with_row a row)) (item.Key other key) ≡ at l (item.Key other key)
+row_keeps_by l id other row key a e false n = ap (λ x. entry_value x key) (other_application l id other (with_row a row) n)
+row_keeps_by l id other row key a e true same =
+    let other_is : other ≡ id = nat_cmp-IsAntisymmetric other id (is_Equal (nat_cmp other id) same) in
+    ap (λ q. at (with_application l id (with_row a row)) (item.Key q key)) other_is
+    ∙ ap (λ x. entry_value x key) (set_application l id (with_row a row))
+    ∙ kept a
+    ∙ sym (ap (λ x. entry_value x key) e)
+    ∙ sym (ap (λ q. at l (item.Key q key)) other_is)
+  where
+    kept : (a : Option StoredApplication) → entry_value (Some (with_row a row)) key ≡ entry_value a key
+    kept None = refl
+    kept (Some app) = refl
+
+is_key : Item → Bool
+is_key (item.Key id key) = true
+is_key _ = false
+
+changes_no_other : (y x : Item) → is_counts x ≡ false → is_key x ≡ false → changes_with y x ≡ false
+unfolding is_key
+changes_no_other (item.App id) (item.Counts other) c k = absurd cc
+changes_no_other (item.App id) (item.Key other key) c k = absurd cc
+changes_no_other (item.Key id key) (item.Counts other) c k = absurd cc
+changes_no_other y x c k = refl
+
+keeps_under : (l : Ledger) (y : Item) (v : ItemValue) (x : Item) → is_eq (item_cmp x y) ≡ false → is_counts x ≡ false → deletes y v x ≡ false → at (put_one l y v) x ≡ at l x
+unfolding is_key
+keeps_under l (item.App id) (value.App row) (item.Key other key) n c d = row_keeps_by l id other row key (application_at l id) refl (is_eq (nat_cmp other id)) refl
+keeps_under l (item.App id) value.Absent (item.Key other key) n c d = keeps_others l (item.App id) (item.Key other key) value.Absent n d
+keeps_under l (item.App id) v (item.Key other key) n c d = refl
+keeps_under l item.NextApp v (item.Key other key) n c d = keeps_others l item.NextApp (item.Key other key) v n refl
+keeps_under l (item.Counts id) v (item.Key other key) n c d = keeps_others l (item.Counts id) (item.Key other key) v n refl
+keeps_under l (item.Key id own) v (item.Key other key) n c d = keeps_others l (item.Key id own) (item.Key other key) v n refl
+keeps_under l (item.Local who id) v (item.Key other key) n c d = keeps_others l (item.Local who id) (item.Key other key) v n refl
+keeps_under l y v item.NextApp n c d = keeps_others l y item.NextApp v n (changes_no_other y item.NextApp c refl)
+keeps_under l y v (item.App other) n c d = keeps_others l y (item.App other) v n (changes_no_other y (item.App other) c refl)
+keeps_under l y v (item.Local who other) n c d = keeps_others l y (item.Local who other) v n (changes_no_other y (item.Local who other) c refl)
+keeps_under l y v (item.Counts other) n c d = absurd cc
+
+was_put : (l : Ledger) (y : Item) (v : ItemValue) → IsInOrder l → is_counts y ≡ false → MayPut l y v → at (put_one l y v) y ≡ v
+was_put l (item.Counts id) v o c m = absurd cc
+was_put l item.NextApp v o c m = has_what_was_put l item.NextApp v o m
+was_put l (item.App id) v o c m = has_what_was_put l (item.App id) v o m
+was_put l (item.Key id key) v o c m = has_what_was_put l (item.Key id key) v o m
+was_put l (item.Local who id) v o c m = has_what_was_put l (item.Local who id) v o m
+
+either_false : (a b : Bool) → (a || b) ≡ false → (a ≡ false) × (b ≡ false)
+either_false true b e = absurd cc
+either_false false b e = (refl, e)
+
+entry_by : (l : Ledger) (e : Item × ItemValue) (es : ItemMap) (x : Item) → IsInOrder l → AllByRecursion (λ y. item_cmp e.0 y ≡ Less) (keys_of es) → MayPut l e.0 e.1
+    → is_counts x ≡ false → deletes e.0 e.1 x ≡ false → (b : Bool) → is_eq (item_cmp x e.0) ≡ b
+    → unwrap_or (value_in es x) (at (put_one l e.0 e.1) x) ≡ unwrap_or (cond b (Some e.1) (value_in es x)) (at l x)
+entry_by l e es x o above m c d true same =
+    let tied = is_Equal (item_cmp x e.0) same in
+    let is : x ≡ e.0 = item_same x e.0 tied in
+    let none : value_in es x ≡ None = below_none item_total x es (above_tied item_total x e.0 (keys_of es) tied above) in
+    ap (λ found. unwrap_or found (at (put_one l e.0 e.1) x)) none ∙ ap (at (put_one l e.0 e.1)) is ∙ was_put l e.0 e.1 o (subst (λ z. is_counts z ≡ false) is c) m
+entry_by l e es x o above m c d false apart = ap (unwrap_or (value_in es x)) (keeps_under l e.0 e.1 x apart c d)
+
+pub has_what_was_put_last : (l : Ledger) (items : ItemMap) (x : Item) → IsInOrder l → IsStrictlySortedBy item_cmp (keys_of items) → MayPutAll l items
+    → is_counts x ≡ false → is_deleted_by items x ≡ false → at (put l items) x ≡ unwrap_or (value_in items x) (at l x)
+unfolding IsStrictlySortedBy
+has_what_was_put_last l [] x o s m c d = refl
+has_what_was_put_last l (e ∷ es) x o s m c d =
+    let none = either_false (deletes e.0 e.1 x) (is_deleted_by es x) d in
+    has_what_was_put_last (put_one l e.0 e.1) es x (stays_in_order l e.0 e.1 o) s.1 m.1 c none.1
+    ∙ entry_by l e es x o s.0 m.0 c none.0 (is_eq (item_cmp x e.0)) refl

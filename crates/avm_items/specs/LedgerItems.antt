@@ -1,7 +1,6 @@
 -- The items of a ledger: the value of each, a ledger with some of them set, and what differs between two ledgers.
-use Rattle.std.specs.Prelude.{◌≡◌, ℕ, Bool, true, false, not, List, [], ◌∷◌, filter, Option, Some, None, is_none, unwrap_or}
+use Rattle.std.specs.Prelude.{◌≡◌, ℕ, Bool, false, not, List, [], ◌∷◌, filter, Option, Some, None, is_none, unwrap_or}
 use Rattle.avm_ledger.specs.declared.application.Application.{Application}
-use Rattle.avm_ledger.specs.declared.schema.Schema.{Schema}
 use Rattle.avm_ledger.specs.Entries.{Entries, value_of_key, with_entry, without_entry}
 use Rattle.avm_ledger.specs.Schemas.{counts_in}
 use Rattle.avm_ledger.specs.Ledgers.{StoredApplication, Ledger, application_at, with_application, without_application, local_state_at, with_local_state, without_local_state}

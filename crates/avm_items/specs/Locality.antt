@@ -1,9 +1,9 @@
 -- A meaning depends on a ledger at the items alone that it asks for. The statements of the laws of questions.
-use Rattle.std.specs.Prelude.{◌≡◌, List, [], ◌∷◌, Option, None, Some, Result, Ok, Err}
+use Rattle.std.specs.Prelude.{◌≡◌, List, [], ◌∷◌, None, Some, Ok, Err}
 use Rattle.std.specs.List.{Contains}
 use Rattle.avm_items.specs.declared.item.Item.{Item}
 use Rattle.avm_items.specs.declared.item_value.ItemValue.{ItemValue}
-use Rattle.avm_items.specs.Items.{Look, Known, ItemMap, value_in, over}
+use Rattle.avm_items.specs.Items.{Look, Known, over}
 use Rattle.avm_items.specs.Asks.{Ask, Answer, and_then, result_over, items_asked, answer_from, remaining_questions}
 
 -- the second knows what the first knows

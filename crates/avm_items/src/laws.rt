@@ -1,7 +1,7 @@
 //! The laws of questions, each the contract of a function without work. They hold for every kind of result.
 
 ghost use Rattle.avm_items.specs.Counting.{AnswersLeaveLess};
-ghost use Rattle.avm_items.specs.PutLaws.{HasWhatWasPut, KeepsOthers, StaysInOrder, IsItsItems};
+ghost use Rattle.avm_items.specs.PutLaws.{HasWhatWasPut, KeepsOthers, StaysInOrder, HasWhatWasPutLast, IsItsItems};
 ghost use Rattle.avm_items.specs.Locality.{UsesWhatItAsks, StaysWithMore, HoldsOnLedgers, AsksForWhatIsUsed, WritesComeFirst, GoesOnInParts, GoesOnOverALedger};
 
 /// What is computed over a ledger depends on the items alone that it asks for.
@@ -38,14 +38,18 @@ pub fn goes_on_in_parts<A, B>()
 /// Each answer to a question leaves one item less to ask for, where the values are such as may come.
 pub fn answers_leave_less<A>()
     ensures { AnswersLeaveLess A }
-{
-}
+{}
 
 /// What an item of a ledger is after it is set, and what every other item is.
 pub fn puts_one_item()
     ensures put { HasWhatWasPut }
     ensures others { KeepsOthers }
     ensures order { StaysInOrder }
+{}
+
+/// What an item of a ledger is after many are set.
+pub fn puts_many_items()
+    ensures { HasWhatWasPutLast }
 {}
 
 /// Two ledgers with the same items are the same.

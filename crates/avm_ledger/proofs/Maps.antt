@@ -1,6 +1,6 @@
 -- Finite maps as entries by rising key: what is found after an insertion and after a removal, that both keep the order,
 -- and that two maps that answer alike are one.
-use Rattle.std.proofs.Common.{◌≡◌, Bool, true, false, List, [], ◌∷◌, Option, None, Some, refl, sym, ap, ◌∙◌, subst, cond}
+use Rattle.std.proofs.Common.{◌≡◌, Bool, true, false, List, [], ◌∷◌, None, Some, refl, sym, ap, ◌∙◌, cond}
 use Rattle.std.specs.Ordering.{is_eq, match_ordering, ordering_reverse}
 use Rattle.std.specs.declared.cmp.Ordering.{Ordering}
 use Rattle.std.specs.declared.cmp.Ordering.TheVariants.{Less, Equal, Greater}
@@ -17,11 +17,11 @@ is_Equal Greater e = absurd cc
 
 module _ {K : Type 0} {R : K → K → Ordering} (o : IsTotalOrder R) where
   -- what stands above x stands above a key that ties with it, and above one below it
-  above_tied : (k x : K) (ks : List K) → R k x ≡ Equal → AllByRecursion (λ y. R x y ≡ Less) ks → AllByRecursion (λ y. R k y ≡ Less) ks
+  pub above_tied : (k x : K) (ks : List K) → R k x ≡ Equal → AllByRecursion (λ y. R x y ≡ Less) ks → AllByRecursion (λ y. R k y ≡ Less) ks
   above_tied k x [] p h = tt
   above_tied k x (y ∷ ks) p h = (o.congr k x y p ∙ h.0, above_tied k x ks p h.1)
 
-  all_below : (x k : K) (ks : List K) → R x k ≡ Less → AllByRecursion (λ y. R k y ≡ Less) ks → AllByRecursion (λ y. R x y ≡ Less) ks
+  pub all_below : (x k : K) (ks : List K) → R x k ≡ Less → AllByRecursion (λ y. R k y ≡ Less) ks → AllByRecursion (λ y. R x y ≡ Less) ks
   all_below x k [] p h = tt
   all_below x k (y ∷ ks) p h = (o.trans x k y p h.0, all_below x k ks p h.1)
 
@@ -61,7 +61,7 @@ module _ {K X : Type 0} {R : K → K → Ordering} (o : IsTotalOrder R) where
 
   -- ---- after a removal
 
-  below_none : (k : K) (es : List (K × X)) → AllByRecursion (λ y. R k y ≡ Less) (keys_of es) → lookup (is_at (R k)) es ≡ None
+  pub below_none : (k : K) (es : List (K × X)) → AllByRecursion (λ y. R k y ≡ Less) (keys_of es) → lookup (is_at (R k)) es ≡ None
   below_none k [] h = refl
   below_none k (e ∷ es) h = ap (λ s. cond (is_eq s) (Some e.1) (lookup (is_at (R k)) es)) h.0 ∙ below_none k es h.1
 

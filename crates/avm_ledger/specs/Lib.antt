@@ -1,4 +1,4 @@
 pub mod Entries
-pub mod Schemas
 pub mod Ledgers
+pub mod Schemas
 pub mod Spellings

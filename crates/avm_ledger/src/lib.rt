@@ -4,6 +4,7 @@
 
 mod application;
 mod header;
+pub mod laws;
 mod schema;
 mod state;
 

@@ -1,2 +1,6 @@
 pub mod CommandNames
 pub mod Replies
+pub mod Lists
+pub mod Follow
+pub mod PlainConstants
+pub mod PlainPaths

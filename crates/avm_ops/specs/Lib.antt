@@ -6,3 +6,5 @@ pub mod Stack
 pub mod Fields
 pub mod States
 pub mod Effect
+pub mod Steps
+pub mod TakenOperands

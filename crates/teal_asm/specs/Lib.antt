@@ -4,3 +4,6 @@ pub mod Statements
 pub mod Meaning
 pub mod Program
 pub mod Shown
+pub mod Instructions
+pub mod Bodies
+pub mod Constants

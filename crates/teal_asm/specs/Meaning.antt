@@ -3,6 +3,7 @@
 -- the program's length.
 use Rattle.std.specs.Prelude.{ℕ, ◌+◌, ◌-◌, ◌==◌, Bool, if◌then◌else◌, nat_lt, nat_le, nat_eq, List, [], ◌∷◌, ◌++◌, length, Option, Some, None, Result, Ok, Err}
 use Rattle.std.specs.List.{position_or_len}
+use Rattle.std.specs.Map.{lookup}
 use Rattle.std.specs.Str.{bytes_eq}
 use Rattle.teal_value.specs.Answer.{◌>>=◌}
 use Rattle.teal_table.specs.declared.shape.Version.{Version}
@@ -11,12 +12,13 @@ use Rattle.teal_table.specs.declared.opcode.Opcode.TheVariants as op
 use Rattle.teal_code.specs.declared.instr.Immediates.{Immediates}
 use Rattle.teal_code.specs.declared.instr.Immediates.TheVariants as is
 use Rattle.teal_text.specs.Lines.{lines_of}
+use Rattle.teal_asm.specs.declared.statement.Statement.{Statement}
 use Rattle.teal_asm.specs.declared.command.Command.{Command}
 use Rattle.teal_asm.specs.declared.command.Command.TheVariants.{Int, Byte, Jump, Plain}
 use Rattle.teal_asm.specs.declared.fault.AsmFaultKind.TheVariants as kind
 use Rattle.teal_asm.specs.declared.fault.AsmFault.{AsmFault}
 use Rattle.teal_asm.specs.Operands.{Word}
-use Rattle.teal_asm.specs.Statements.{Statement, Words, fault_at, on_text, words_of_lines, pragma_version, statements, gathered_uints, gathered_strings, has_label}
+use Rattle.teal_asm.specs.Statements.{Words, fault_at, on_text, words_of_lines, pragma_version, statements, gathered_uints, gathered_strings}
 
 -- an instruction as a text means it: a branch names the number of the instruction that it leads to, the count for the end
 pub data Meant : Type 0 where
@@ -34,10 +36,17 @@ abbrev pub commands_in : Option Command → ℕ
 commands_in None = 0
 commands_in (Some c) = 1
 
--- the number of the instruction that a label stands before
-unfoldable pub label_number : ℕ → List Statement → Word → Option ℕ
-label_number n [] name = None
-label_number n (s ∷ ss) name = if has_label name s then Some n else label_number (n + commands_in s.command) ss name
+abbrev pub label_entry : Option Word → ℕ → List (Word × ℕ)
+label_entry None n = []
+label_entry (Some name) n = (name, n) ∷ []
+
+-- the labels, each with the number of the instruction that it stands before, where the first instruction has this number
+unfoldable pub labels_from : ℕ → List Statement → List (Word × ℕ)
+labels_from n [] = []
+labels_from n (s ∷ ss) = label_entry s.label n ++ labels_from (n + commands_in s.command) ss
+
+abbrev pub label_number : ℕ → List Statement → Word → Option ℕ
+label_number n ss name = lookup (bytes_eq name) (labels_from n ss)
 
 -- ---- gathered constants: a block of each kind that is used, in front
 

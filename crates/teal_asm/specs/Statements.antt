@@ -3,6 +3,8 @@ use Rattle.std.specs.Prelude.{ℕ, ◌-◌, ◌==◌, Bool, true, false, not, �
 use Rattle.std.specs.List.{list_any, flat_map}
 use Rattle.std.specs.Option.{ok_or, option_map_or}
 use Rattle.std.specs.Str.{bytes_eq}
+use Rattle.teal_value.specs.declared.failure.Failure.{Failure}
+use Rattle.teal_value.specs.declared.failure.Failure.TheVariants as failure
 use Rattle.teal_value.specs.Answer.{◌>>=◌}
 use Rattle.teal_table.specs.declared.shape.Version.{Version}
 use Rattle.teal_table.specs.declared.shape.Version.TheVariants.{Two, Three}
@@ -11,18 +13,14 @@ use Rattle.teal_code.specs.declared.instr.Immediates.TheVariants as is
 use Rattle.teal_text.specs.declared.fault.TextFault.{TextFault}
 use Rattle.teal_text.specs.declared.token.Token.{Token}
 use Rattle.teal_text.specs.Lines.{LineTokens, lines_of}
+use Rattle.teal_asm.specs.declared.statement.Statement.{Statement}
 use Rattle.teal_asm.specs.declared.command.Command.{Command}
 use Rattle.teal_asm.specs.declared.command.Command.TheVariants.{Int, Byte, Jump, Plain}
 use Rattle.teal_asm.specs.declared.fault.AsmFaultKind.{AsmFaultKind}
 use Rattle.teal_asm.specs.declared.fault.AsmFaultKind.TheVariants as kind
 use Rattle.teal_asm.specs.declared.fault.AsmFault.{AsmFault}
 use Rattle.teal_asm.specs.Operands.{Word, any_number}
-use Rattle.teal_asm.specs.Commands.{command}
-
-pub record Statement : Type 0 where
-  pub line : ℕ
-  pub label : Option Word
-  pub command : Option Command
+use Rattle.teal_asm.specs.Commands.{command, two_operands}
 
 -- a line that has tokens, as words
 pub record Words : Type 0 where
@@ -46,12 +44,13 @@ on_text (Err e) = fault_at e.line kind.Text
 abbrev pub word_at : List ℕ → Token → Word
 word_at text t = slice_range text t.start t.end
 
-abbrev pub words_in : List ℕ → ℕ → List Token → List Words
-words_in text line [] = []
-words_in text line (t ∷ ts) = record { line = line; first = word_at text t; more = map (word_at text) ts } ∷ []
+-- the words of a line, if it has some
+abbrev pub words_on : ℕ → List Word → List Words
+words_on line [] = []
+words_on line (w ∷ ws) = record { line = line; first = w; more = ws } ∷ []
 
 abbrev pub words_of_line : List ℕ → LineTokens → List Words
-words_of_line text l = words_in text l.number l.tokens
+words_of_line text l = words_on l.number (map (word_at text) l.tokens)
 
 -- the lines that have tokens
 abbrev pub words_of_lines : List ℕ → List LineTokens → List Words
@@ -63,15 +62,25 @@ abbrev pub version_numbered : ℕ → Result Version AsmFaultKind
 version_numbered n = if n == 2 then Ok Two else if n == 3 then Ok Three else Err kind.Version
 
 abbrev pub named_version : List Word → Result Version AsmFaultKind
-named_version (name ∷ number ∷ []) =
-    if bytes_eq name (codes "version") then (any_number number >>= version_numbered) else Err kind.Operands
-named_version _ = Err kind.Operands
+named_version ws = two_operands ws >>= λ p. if bytes_eq p.0 (codes "version") then (any_number p.1 >>= version_numbered) else Err kind.Operands
 
 abbrev pub is_pragma : Word → Bool
 is_pragma w = bytes_eq w (codes "#pragma")
 
 abbrev pub pragma_version : Words → Result Version AsmFault
 pragma_version l = if is_pragma l.first then on_line l.line (named_version l.more) else fault_at l.line kind.NoPragma
+
+-- the version that a line's first words name
+abbrev pub pragma_in : ℕ → List Words → Result Version AsmFault
+pragma_in line [] = fault_at line kind.NoPragma
+pragma_in line (l ∷ ls) = pragma_version l
+
+abbrev pub pragma_of : List ℕ → LineTokens → Result Version AsmFault
+pragma_of text l = pragma_in l.number (words_of_line text l)
+
+abbrev pub failure_on_line : ℕ → Failure AsmFaultKind → Failure AsmFault
+failure_on_line line failure.Memory = failure.Memory
+failure_on_line line (failure.Fault k) = failure.Fault (record { line = line; kind = k })
 
 -- ---- what came before a line
 
@@ -106,7 +115,7 @@ abbrev pub gathered_strings : List Statement → List (List ℕ)
 gathered_strings ss = distinct bytes_eq [] (flat_map (λ s. gathered_string s.command) ss)
 
 abbrev pub has_label : Word → Statement → Bool
-has_label name s = option_map_or (λ label. bytes_eq label name) s.label false
+has_label name s = option_map_or (λ label. bytes_eq name label) s.label false
 
 -- no explicit block beside gathered constants of its kind, and at most 256 of these
 abbrev pub mixes_blocks : List Statement → Bool
@@ -124,6 +133,10 @@ behind before s =
     else if gathers_too_many (before ++ s ∷ []) then Err kind.TooManyConstants
     else Ok s
 
+-- the statements with one more
+abbrev pub appended : {F : Type 0} → List Statement → Result Statement F → Result (List Statement) F
+appended before r = r >>= λ s. Ok (before ++ s ∷ [])
+
 -- ---- a line
 
 -- the name of a label: a word that ends in `:`, with a character before it at least
@@ -135,11 +148,14 @@ abbrev pub optional_command : Version → List Word → Result (Option Command) 
 optional_command version [] = Ok None
 optional_command version (name ∷ ws) = command version name ws >>= λ c. Ok (Some c)
 
-abbrev pub labelled : Version → List Statement → ℕ → Option Word → Word → List Word → Result Statement AsmFaultKind
-labelled version before line None w ws = command version w ws >>= λ c. behind before (record { line = line; label = None; command = Some c })
-labelled version before line (Some name) w ws =
+abbrev pub with_label : Version → List Statement → ℕ → Word → List Word → Result Statement AsmFaultKind
+with_label version before line name ws =
     if list_any (has_label name) before then Err kind.LabelTwice
     else (optional_command version ws >>= λ c. behind before (record { line = line; label = Some name; command = c }))
+
+abbrev pub labelled : Version → List Statement → ℕ → Option Word → Word → List Word → Result Statement AsmFaultKind
+labelled version before line None w ws = command version w ws >>= λ c. behind before (record { line = line; label = None; command = Some c })
+labelled version before line (Some name) w ws = with_label version before line name ws
 
 unfoldable pub statement : Version → List Statement → Words → Result Statement AsmFaultKind
 statement version before l =

@@ -7,9 +7,16 @@
 
 mod arity;
 mod assembler;
+mod body;
 mod command;
+mod emit;
 mod fault;
+mod gathered;
+mod line;
+mod lines;
 mod operand;
+mod resolve;
+mod statement;
 
 pub use assembler::assemble;
 pub use command::Command;

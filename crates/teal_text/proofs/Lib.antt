@@ -3,3 +3,5 @@ pub mod LineReading
 pub mod Numerals
 mod Rows
 pub mod TokenOrder
+pub mod PlainWords
+pub mod ReadBack

@@ -26,7 +26,7 @@ with_lines front (Err e) = Err e
 pub record ReadsLines (so_far : List LineTokens) (number place : ℕ) (rest : List ℕ) (meant : Result (List LineTokens) TextFault) : Type 0 where
   pub same : with_lines so_far (lines_from number place (slice_split is_line_feed rest)) ≡ meant
 
-has_first : (p : ℕ → Bool) (xs : List ℕ) → (y : List ℕ) × (ys : List (List ℕ)) × (slice_split p xs ≡ y ∷ ys)
+pub has_first : (p : ℕ → Bool) (xs : List ℕ) → (y : List ℕ) × (ys : List (List ℕ)) × (slice_split p xs ≡ y ∷ ys)
 has_first p [] = ([], [], refl)
 has_first p (x ∷ xs) =
     let r = has_first p xs in

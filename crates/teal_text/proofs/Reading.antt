@@ -35,7 +35,7 @@ regroup so_far t (Ok ts) = ap (λ (x : List Token). Ok x) (simp append_assoc)
 regroup so_far t (Err e) = refl
 
 -- one step of the definition
-step : (n : ℕ) (base64 : Bool) (place : ℕ) (bs : List ℕ) (f : Result (Option FirstToken) TextFaultKind) → first_token base64 (drop (blank_len bs) bs) ≡ f
+pub step : (n : ℕ) (base64 : Bool) (place : ℕ) (bs : List ℕ) (f : Result (Option FirstToken) TextFaultKind) → first_token base64 (drop (blank_len bs) bs) ≡ f
     → tokens_from (suc n) base64 place bs ≡ (f >>= λ o. with_token (place + blank_len bs) o (λ t. tokens_from n (announces_base64 (take t.len (drop (blank_len bs) bs)) (drop t.len (drop (blank_len bs) bs))) (place + blank_len bs + t.len) (drop t.len (drop (blank_len bs) bs))))
 unfolding tokens_from
 step n base64 place bs f e = rw e refl

@@ -1,12 +1,11 @@
 -- Rows worked from the definitions.
-use Rattle.std.proofs.Common.{◌≡◌, ℕ, List, [], ◌∷◌, ◌++◌, codes, false, Option, Some, None, Result, Ok, Err, refl}
+use Rattle.std.proofs.Common.{◌≡◌, [], ◌∷◌, ◌++◌, codes, false, Some, None, Ok, Err, refl}
 use Rattle.teal_text.specs.declared.fault.TextFaultKind.TheVariants.{Unclosed, BadEscape, Glued}
 use Rattle.teal_text.specs.Tokens.{blank_len, announces_base64, first_token, tokens_from, tokens_of}
 use Rattle.teal_text.specs.Lines.{lines_from, lines_of}
 use Rattle.teal_text.specs.Numbers.{base_of, digits_of, numeral_value, number_of}
 use Rattle.teal_text.specs.Strings.{string_value}
-use Rattle.teal_text.specs.Literals.{literal_bytes, token_bytes, enclosed_bytes, enclosed, encoded_bytes, base64_bytes}
-use Rattle.std.specs.Str.Parse.{digits_value}
+use Rattle.teal_text.specs.Literals.{literal_bytes, token_bytes}
 
 -- a carriage return before a line feed goes; one at the end stays in its word
 carriage_returns : lines_of (codes "a\r\n" ++ codes "b\r") ≡ Ok (record { number = 1; tokens = record { start = 0; end = 1; string = false } ∷ [] } ∷ record { number = 2; tokens = record { start = 3; end = 5; string = false } ∷ [] } ∷ [])

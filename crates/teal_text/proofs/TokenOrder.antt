@@ -13,7 +13,7 @@ use Rattle.teal_text.specs.declared.string.StringState.TheVariants.{Plain}
 use Rattle.teal_text.specs.declared.scan.FirstToken.{FirstToken}
 use Rattle.teal_text.specs.declared.token.Token.{Token}
 use Rattle.teal_text.specs.Strings.{closes, next_state}
-use Rattle.teal_text.specs.Tokens.{is_blank, blank_len, begins_comment, word_len, string_len, one_more, unless_bad, is_ended, may_follow_string, is_base64_word, announces_base64, first_token, with_token, tokens_from, tokens_of}
+use Rattle.teal_text.specs.Tokens.{is_blank, blank_len, begins_comment, word_len, string_len, one_more, unless_bad, is_ended, may_follow_string, is_base64_word, first_token, with_token, tokens_from, tokens_of}
 use Rattle.teal_text.specs.TokenOrder.{LieInOrder}
 
 blanks_in_front : (bs : List ℕ) → list_all is_blank (take (prefix_len is_blank bs) bs) ≡ true

@@ -4,3 +4,4 @@ pub mod TokenOrder
 pub mod Lines
 pub mod Numbers
 pub mod Literals
+pub mod PlainWords

@@ -1,5 +1,5 @@
 -- The byte literals of source text.
-use Rattle.std.specs.Prelude.{◌≡◌, ◌⊎◌, ℕ, ◌-◌, ◌==◌, Bool, ◌&&◌, ◌||◌, if◌then◌else◌, nat_eq, nat_lt, List, [], ◌∷◌, length, take, drop, codes, slice_index, Option, Some, None, Result, Ok, Err}
+use Rattle.std.specs.Prelude.{◌≡◌, ◌⊎◌, ℕ, ◌-◌, ◌==◌, Bool, ◌&&◌, ◌||◌, if◌then◌else◌, nat_eq, nat_lt, List, length, take, drop, codes, slice_index, Option, Some, None}
 use Rattle.std.specs.List.{position_or_len, starts_with}
 use Rattle.std.specs.Str.{bytes_eq}
 use Rattle.std.specs.Result.{result_ok}
@@ -11,7 +11,7 @@ use Rattle.teal_text.specs.declared.string.StringState.TheVariants.{Plain}
 use Rattle.teal_text.specs.Tokens.{is_base64_name}
 use Rattle.teal_text.specs.Strings.{string_value}
 
--- a text of bytes in base64 of the standard alphabet, with its padding whole or absent
+-- a text of bytes in base64 of the standard alphabet, with its padding complete or absent
 abbrev pub IsBase64 : List ℕ → List ℕ → Type 0
 IsBase64 text bytes = (text ≡ base64.encode_of standard bytes) ⊎ (text ≡ base64.encode_of standard_no_pad bytes)
 

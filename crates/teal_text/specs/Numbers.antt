@@ -1,5 +1,5 @@
 -- The numbers of source text.
-use Rattle.std.specs.Prelude.{ℕ, Bool, ◌==◌, ◌^◌, ◌&&◌, ◌||◌, nat_lt, if◌then◌else◌, List, [], ◌∷◌, length, Option, Some, None}
+use Rattle.std.specs.Prelude.{ℕ, Bool, ◌==◌, ◌^◌, ◌&&◌, ◌||◌, nat_lt, if◌then◌else◌, List, ◌∷◌, length, Option, Some, None}
 use Rattle.std.specs.List.{list_all}
 use Rattle.std.specs.Char.{is_digit}
 use Rattle.std.specs.Str.Parse.{digits_value}

@@ -1,6 +1,8 @@
 //! The lines, tokens, numbers and byte literals of TEAL source text (TEAL specification, "Assembler syntax").
 //!
-//! What each call gives is a function of the text's bytes: `specs/Tokens.antt`, `specs/Lines.antt`, `specs/Numbers.antt`.
+//! What each call gives is a function of the text's bytes: `specs/Lines.antt` over `specs/Tokens.antt`,
+//! `specs/Numbers.antt`, and `specs/Literals.antt` over `specs/Strings.antt`. Laws about these functions are contracts of
+//! calls that do nothing: where tokens lie, and that what a listing is made of reads back.
 #![tactic(auto)]
 
 mod fault;
@@ -12,9 +14,11 @@ mod string;
 mod token;
 
 pub use fault::{TextError, TextFault, TextFaultKind};
-pub use line::{Line, lines, tokens_lie_in_order};
-pub use literal::{base64_bytes, byte_literal, encoded_bytes, names_encoding, token_bytes};
-pub use numbers::{number, number_of_word};
+pub use line::{Line, lines, plain_words_read_back, tokens_lie_in_order};
+pub use literal::{
+    base64_bytes, byte_literal, encoded_bytes, literals_read_back, names_encoding, token_bytes,
+};
+pub use numbers::{decimal_reads_back, number, number_of_word};
 pub use token::Token;
 
 #[cfg(test)]

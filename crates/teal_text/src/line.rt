@@ -1,9 +1,11 @@
 //! Lines and their tokens.
 
-ghost use Rattle.std.specs.Prelude.{◌≡◌, ◌+◌, ◌<◌, ◌^◌, ◌≤◌, ℕ, List, Ok, length, drop, All, IfOk};
+ghost use Rattle.std.specs.Prelude.{◌≡◌, ◌+◌, ◌<◌, ◌^◌, ◌≤◌, ℕ, List, Ok, length, drop, map, All, IfOk, IsTrue};
 ghost use Rattle.std.specs.Str.Lines.{strip_carriage_return};
 ghost use Rattle.teal_value.specs.Answer.{Gives};
 ghost use Rattle.teal_text.specs.Tokens.{tokens_of, LiesWithin};
+ghost use Rattle.std.specs.List.{list_all};
+ghost use Rattle.teal_text.specs.PlainWords.{is_plain_line, text_of_lines, lines_of_words, words_at};
 ghost use Rattle.teal_text.specs.TokenOrder.{LieInOrder};
 ghost use Rattle.teal_text.specs.declared.token.Token.{Token};
 ghost use Rattle.teal_text.specs.Lines.{views, lines_of, on_line, line_len, line_text};
@@ -46,6 +48,12 @@ pub fn lines(alloc: Global, text: &str) -> Result<Vec<Line>, TextError>
 /// comment stand behind the last.
 pub fn tokens_lie_in_order()
     ensures { (place : ℕ) (line : List ℕ) (tokens : List Token) → tokens_of place line ≡ Ok tokens → LieInOrder place line tokens }
+{}
+
+/// The law of texts of plain words, as listings are: the lines of such a text are its lines, and their tokens its words.
+pub fn plain_words_read_back()
+    ensures lines { (lines : List (List (List ℕ))) → IsTrue (list_all is_plain_line lines) → lines_of (text_of_lines lines) ≡ Ok (lines_of_words 1 0 lines) }
+    ensures words { (lines : List (List (List ℕ))) → map (words_at (text_of_lines lines)) (lines_of_words 1 0 lines) ≡ lines }
 {}
 
 /// The first line, and what follows its line feed.

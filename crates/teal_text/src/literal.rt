@@ -1,17 +1,17 @@
 //! Byte literals.
 
-ghost use Rattle.std.specs.Prelude.{◌≡◌, ◌≤◌, ℕ, List, length, IfOk, IfSome, IfNone};
+ghost use Rattle.std.specs.Prelude.{◌≡◌, ◌≤◌, ◌++◌, ℕ, List, Ok, Some, true, codes, length, take, is_some, IfOk, IfSome, IfNone};
 ghost use Rattle.std.specs.List.{position_or_len};
 ghost use Rattle.std.specs.Result.{result_ok};
-ghost use Rattle.hex.specs.Hex.{decode_of};
+ghost use Rattle.hex.specs.Hex.{decode_of, encode_lower};
 ghost use Rattle.teal_value.specs.Base32.{base32_decoded};
 ghost use Rattle.std.specs.Option.{option_map, option_copied};
 ghost use Rattle.base64.specs.GeneralPurpose.{IsBytes};
-ghost use Rattle.teal_text.specs.Tokens.{is_base64_name};
+ghost use Rattle.teal_text.specs.Tokens.{is_base64_name, string_len};
 ghost use Rattle.teal_text.specs.Literals.{IsBase64, base64_bytes, is_base32_name, names_encoding, encoded_bytes, enclosed, enclosed_bytes, token_bytes, literal_bytes, is_parenthesis};
 
 use crate::scan::is_base64_name;
-use crate::string::string_value;
+use crate::string::{StringState, string_value};
 use base64::DecodeAllocError;
 use base64::engine::general_purpose::{STANDARD, STANDARD_NO_PAD};
 use hex::FromHexError;
@@ -32,6 +32,13 @@ pub fn byte_literal(
         Some(text) => encoded_bytes(alloc, first.as_bytes(), text.as_bytes()),
     }
 }
+
+/// The laws of literals of one token: the hexadecimal digits of bytes behind `0x` read as these bytes, and every string
+/// that ends reads as some.
+pub fn literals_read_back()
+    ensures hexadecimal { (bytes : List ℕ) → IsBytes bytes → token_bytes (codes "0x" ++ encode_lower bytes) ≡ Some bytes }
+    ensures strings { (bs : List ℕ) (n : ℕ) → string_len StringState.Plain bs ≡ Ok n → is_some (token_bytes (codes "\"" ++ take n bs)) ≡ true }
+{}
 
 /// Whether a word is `base64`, `b64`, `base32` or `b32`, behind which a literal's text is a token of its own.
 #[tactic(auto, unfolding(crate::specs::Literals::names_encoding))]
@@ -69,7 +76,7 @@ pub fn encoded_bytes(alloc: Global, name: &[u8], text: &[u8]) -> Result<Option<V
     }
 }
 
-/// The bytes that a text spells in base64 of the standard alphabet (RFC 4648, section 4), with its padding whole or
+/// The bytes that a text spells in base64 of the standard alphabet (RFC 4648, section 4), with its padding complete or
 /// absent and its spare bits 0.
 #[tactic(auto, unfolding(crate::specs::Literals::base64_bytes))]
 pub fn base64_bytes(alloc: Global, text: &[u8]) -> Result<Option<Vec<u8>>, AllocError>

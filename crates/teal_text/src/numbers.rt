@@ -1,6 +1,7 @@
 //! Numbers of the source text.
 
-ghost use Rattle.std.specs.Prelude.{◌≡◌, ◌≤◌};
+ghost use Rattle.std.specs.Prelude.{◌≡◌, ◌<◌, ◌≤◌, ◌^◌, ℕ, Some};
+ghost use Rattle.std.specs.Fmt.{decimal};
 ghost use Rattle.teal_text.specs.Numbers.{base_of, digits_of, number_of, numeral_value};
 
 /// The number that a word writes: decimal, hexadecimal behind `0x` or `0X`, or octal behind another `0`.
@@ -17,6 +18,11 @@ pub fn number_of_word(word: &[u8]) -> Option<u64>
     let (base, digits) = base_and_digits(word);
     numeral_value(base, digits)
 }
+
+/// The law of `number`: the decimal text of a number reads as this number.
+pub fn decimal_reads_back()
+    ensures { (n : ℕ) → n < 2 ^ 64 → number_of (decimal n) ≡ Some n }
+{}
 
 /// The base of a word, and its digits.
 #[tactic(auto, unfolding(crate::specs::Numbers::base_of, crate::specs::Numbers::digits_of))]

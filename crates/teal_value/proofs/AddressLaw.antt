@@ -1,5 +1,5 @@
 -- An address has one text.
-use Rattle.std.proofs.Common.{◌≡◌, ℕ, ◌+◌, ◌*◌, ◌/◌, ◌%◌, ◌-◌, ◌<◌, ◌≤◌, Bool, true, false, ◌&&◌, cond, eqb, List, [], ◌∷◌, ◌++◌, length, map, take, drop, get_or, Result, Ok, Err, refl, sym, ap, ◌∙◌, inl, inr, arith, length-append}
+use Rattle.std.proofs.Common.{◌≡◌, ℕ, ◌+◌, ◌*◌, ◌/◌, ◌-◌, Bool, true, false, ◌&&◌, cond, eqb, List, [], ◌∷◌, ◌++◌, length, take, drop, Result, Ok, Err, refl, sym, ap, ◌∙◌, inl, inr, arith, length-append}
 use Rattle.std.specs.Str.{bytes_eq}
 use Rattle.std.proofs.Math.Seq.{take-append_seam, drop-append_seam}
 use Rattle.std.proofs.Math.ListN.{get_or-append}
@@ -10,7 +10,7 @@ use Rattle.std.proofs.lemmas.Bool.Decides.{nat_tests}
 use Rattle.teal_value.specs.declared.address.Address.{Address}
 use Rattle.teal_value.specs.declared.address_spelling.AddressFault.{AddressFault}
 use Rattle.teal_value.specs.declared.base32.BadText.{BadText}
-use Rattle.teal_value.specs.Base32.{symbol, groups, base32, padding, IsBase32, IsBytes, base32_decoded}
+use Rattle.teal_value.specs.Base32.{symbol, groups, base32, padding, IsBytes, base32_decoded}
 use Rattle.teal_value.specs.AddressText.{checksum, address_text, checked, address_in, address_of}
 use Rattle.teal_value.proofs.Base32Law as base32_law
 

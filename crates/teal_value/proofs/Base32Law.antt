@@ -1,6 +1,6 @@
 -- A text reads as bytes exactly where it is a spelling of them.
-use Rattle.std.proofs.Common.{◌≡◌, ◌⊎◌, ℕ, zero, suc, ◌+◌, ◌-◌, ◌%◌, ◌<◌, ◌≤◌, Bool, true, false, ◌&&◌, ◌||◌, cond, eqb, List, [], ◌∷◌, ◌++◌, length, map, take, drop, codes, get_or, Result, Ok, Err, refl, sym, ap, ◌∙◌, inl, inr, arith, rules, All}
-use Rattle.std.specs.List.{AllByRecursion, prefix_len}
+use Rattle.std.proofs.Common.{◌≡◌, ◌⊎◌, ℕ, zero, suc, ◌<◌, Bool, true, false, ◌&&◌, ◌||◌, cond, eqb, List, [], ◌∷◌, ◌++◌, length, map, take, drop, codes, Ok, Err, refl, sym, ap, ◌∙◌, inl, inr, arith, rules}
+use Rattle.std.specs.List.{AllByRecursion}
 use Rattle.std.specs.Str.{bytes_eq}
 use Rattle.std.proofs.Math.Bool.{or-true}
 use Rattle.std.proofs.Math.Seq.{take-append_seam, drop-append_seam}
@@ -86,10 +86,10 @@ bytes_small gs small i =
     ]
 
 tail_is : (n : ℕ) (text front rest : List ℕ) → text ≡ front ++ rest → n ≡ length front → is_tail n rest ≡ true → (text ≡ front) ⊎ (text ≡ front ++ padding (length front))
-tail_is n text front rest whole len tail =
+tail_is n text front rest split len tail =
     elim (either (eqb (length rest) 0) (bytes_eq rest (padding n)) tail) [
-      | inl none ↦ inl (whole ∙ rw (nil_from_length rest (grind (arith, nat_tests))) (append-nil front))
-      | inr padded ↦ inr (whole ∙ ap (λ x. front ++ x) ((bytes_eq-Decides rest (padding n)).0 padded ∙ ap padding len))
+      | inl none ↦ inl (split ∙ rw (nil_from_length rest (grind (arith, nat_tests))) (append-nil front))
+      | inr padded ↦ inr (split ∙ ap (λ x. front ++ x) ((bytes_eq-Decides rest (padding n)).0 padded ∙ ap padding len))
     ]
 
 pub reads_back : (text bytes : List ℕ) → base32_decoded text ≡ Ok bytes → IsBytes bytes × IsBase32 text bytes

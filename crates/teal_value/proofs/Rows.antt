@@ -1,5 +1,5 @@
 -- Rows worked from the definitions: the test vectors of RFC 4648, section 10, and the zero address.
-use Rattle.std.proofs.Common.{◌≡◌, ℕ, List, [], ◌∷◌, ◌++◌, codes, replicate, Result, Ok, Err, refl}
+use Rattle.std.proofs.Common.{◌≡◌, [], codes, replicate, Ok, Err, refl}
 use Rattle.sha2.specs.Sha512.{first_words, schedule, rounds, compress, hash_after, digest_bytes, sha512_256}
 use Rattle.teal_value.specs.declared.address_spelling.AddressFault.TheVariants.{BadText, BadChecksum}
 use Rattle.teal_value.specs.Base32.{groups, base32, bytes_of, base32_decoded}
@@ -21,19 +21,19 @@ padded : base32_decoded (codes "MZXW6YTBOI======") ≡ Ok (codes "foobar")
 unfolding groups base32 bytes_of base32_decoded
 padded = refl
 
-padded_in_part : base32_decoded (codes "MZXW6YTBOI=====") ≡ Err (record { })
+padded_in_part : base32_decoded (codes "MZXW6YTBOI=====") ≡ Err (record {})
 unfolding groups base32 bytes_of base32_decoded
 padded_in_part = refl
 
-spare_bits : base32_decoded (codes "MZ") ≡ Err (record { })
+spare_bits : base32_decoded (codes "MZ") ≡ Err (record {})
 unfolding groups base32 bytes_of base32_decoded
 spare_bits = refl
 
-padding_alone : base32_decoded (codes "====") ≡ Err (record { })
+padding_alone : base32_decoded (codes "====") ≡ Err (record {})
 unfolding groups base32 bytes_of base32_decoded
 padding_alone = refl
 
-lower_case : base32_decoded (codes "my") ≡ Err (record { })
+lower_case : base32_decoded (codes "my") ≡ Err (record {})
 unfolding groups base32 bytes_of base32_decoded
 lower_case = refl
 

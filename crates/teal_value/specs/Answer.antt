@@ -18,3 +18,8 @@ Fails (failure.Fault f) meant = meant ≡ Err f
 abbrev pub Gives : {X A F : Type 0} → (X → A) → Result X (Failure F) → Result A F → Type 0
 Gives view (Ok x) meant = meant ≡ Ok (view x)
 Gives view (Err e) meant = Fails e meant
+
+-- a call that leaves a changed value where it succeeds: the value that is meant, or the fault that is meant
+abbrev pub Leaves : {X A F : Type 0} → Result X (Failure F) → A → Result A F → Type 0
+Leaves (Ok x) left meant = meant ≡ Ok left
+Leaves (Err e) left meant = Fails e meant

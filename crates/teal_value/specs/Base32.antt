@@ -28,7 +28,7 @@ padding_len symbols = (8 - symbols % 8) % 8
 abbrev pub padding : ℕ → List ℕ
 padding symbols = take (padding_len symbols) (codes "========")
 
--- a text of bytes, with its padding whole or absent
+-- a text of bytes, with its padding complete or absent
 abbrev pub IsBase32 : List ℕ → List ℕ → Type 0
 IsBase32 text bytes = (text ≡ base32 bytes) ⊎ (text ≡ base32 bytes ++ padding (length (base32 bytes)))
 

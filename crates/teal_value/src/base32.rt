@@ -21,7 +21,7 @@ pub fn base32_encode(alloc: Global, bytes: &[u8]) -> Result<String, AllocError>
     text_of(alloc, &groups)
 }
 
-/// The bytes of a text in base32, with its padding whole or absent and its spare bits 0.
+/// The bytes of a text in base32, with its padding complete or absent and its spare bits 0.
 pub fn base32_decode(alloc: Global, text: &str) -> Result<Vec<u8>, Failure<BadText>>
     ensures { Gives (λ v. v.items) result (base32_decoded text.now) }
 {

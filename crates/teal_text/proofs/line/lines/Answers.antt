@@ -1,4 +1,4 @@
-use Rattle.std.proofs.Common.{◌≡◌, ℕ, ◌≤◌, get_or, All, ◌+◌, ◌-◌, ◌<◌, ◌++◌, ◌∷◌, [], length, drop, vec_len, Ok, refl, ap, ◌∙◌, arith}
+use Rattle.std.proofs.Common.{◌≡◌, ℕ, get_or, All, ◌+◌, ◌-◌, ◌<◌, ◌++◌, ◌∷◌, [], length, drop, vec_len, Ok, refl, ap, ◌∙◌, arith}
 use Rattle.std.proofs.lemmas.Result.{err_from_is_err_and}
 use Rattle.std.proofs.lemmas.List.{map_push, length-drop}
 use Rattle.std.proofs.lemmas.Bool.Decides.{nat_tests}

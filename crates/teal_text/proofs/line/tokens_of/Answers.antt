@@ -2,7 +2,7 @@ use Rattle.std.proofs.Common.{◌≡◌, ◌+◌, ◌<◌, ◌≤◌, length, dr
 use Rattle.std.proofs.lemmas.List.Elements.{All-nil, All-push}
 use Rattle.teal_text.specs.declared.fault.TextFaultKind.{TextFaultKind}
 use Rattle.teal_text.specs.declared.scan.FirstToken.{FirstToken}
-use Rattle.teal_text.specs.Tokens.{blank_len, first_token, announces_base64, LiesWithin}
+use Rattle.teal_text.specs.Tokens.{blank_len, first_token, LiesWithin}
 use Rattle.teal_text.specs.Lines.{on_line}
 use Rattle.teal_text.proofs.Reading.{starts, is_done, is_refused, goes_on}
 use Rattle.teal_text.proofs.line.tokens_of.Goals as goal

@@ -1,0 +1,5 @@
+use Rattle.avm_ops.proofs.Asked.{effect_asks}
+use Rattle.avm_ops.proofs.laws.asks_little.Goals as goal
+
+pub returns : goal.returns
+returns c = effect_asks

@@ -1,0 +1,8 @@
+use Rattle.std.proofs.Common.{[], refl, ap, arith, length}
+use Rattle.teal_asm.specs.Meaning.{labels_from}
+use Rattle.teal_asm.proofs.Bodying.{body_is}
+use Rattle.teal_asm.proofs.body.Body.new.Goals as goal
+
+pub returns-clause-body : goal.returns-clause-body
+unfolding labels_from
+returns-clause-body c = body_is _ [] c.new.ensures.items c.new-2.ensures.empty c.new-3.ensures c.new-4.ensures refl refl refl (omega (arith, ap length c.new-2.ensures.empty)) (omega (arith, ap length c.new-3.ensures))

@@ -1,0 +1,9 @@
+use Rattle.std.proofs.Common.{◌≡◌, ◌++◌, map, drop, length}
+use Rattle.std.specs.Prelude.{All}
+use Rattle.teal_text.specs.Tokens.{LiesWithin}
+use Rattle.teal_asm.specs.Statements.{word_at}
+use Rattle.teal_asm.specs.Shown.{words}
+use Rattle.teal_asm.proofs.lines.words_of.Given as goal
+
+abbrev pub invariant-loop-token : goal.invariant-loop-token
+invariant-loop-token l = words l.words.items ++ map (word_at l.text) (drop l.token-index l.tokens) ≡ map (word_at l.text) l.tokens

@@ -1,0 +1,19 @@
+-- Instructions of the program, as the text means them.
+use Rattle.std.specs.Prelude.{◌≡◌, ℕ, ◌+◌, ◌≤◌, List, length, take, map, slice_index_or}
+use Rattle.teal_asm.specs.declared.emit.Instruction.{Instruction}
+use Rattle.teal_asm.specs.declared.emit.Instruction.TheVariants as code
+use Rattle.teal_asm.specs.Meaning.{Meant, Straight, Branch}
+use Rattle.teal_asm.specs.Program.{total_size}
+
+abbrev pub meant : Instruction → Meant
+meant (code.Straight i) = Straight i.opcode i.immediates
+meant (code.Branch o target) = Branch o target
+
+abbrev pub all_meant : List Instruction → List Meant
+all_meant is = map meant is
+
+-- the place of each instruction, counted from behind the version, and of the end
+pub record ArePlaces (is : List Meant) (places : List ℕ) : Type 0 where
+  pub count : length places ≡ length is + 1
+  pub small : total_size is ≤ 1023
+  pub each : (k : ℕ) → k ≤ length is → slice_index_or places k 0 ≡ total_size (take k is)

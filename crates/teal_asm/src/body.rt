@@ -1,0 +1,155 @@
+//! The statements of a text, one behind another, with what they gather.
+
+ghost use Rattle.std.specs.Prelude.{◌≡◌, ◌≤◌, ◌++◌, ◌&&◌, ◌||◌, [], None, false, length, nat_lt, nat_eq, OnOk};
+ghost use Rattle.std.specs.List.{list_any};
+ghost use Rattle.std.specs.Map.{lookup};
+ghost use Rattle.std.specs.Option.{ForSome};
+ghost use Rattle.std.specs.Str.{bytes_eq};
+ghost use Rattle.teal_value.specs.Answer.{Leaves};
+ghost use Rattle.teal_asm.specs.Statements.{appended, behind, distinct, gathered_uint, gathered_string, has_label, is_uint_block, is_byte_block};
+ghost use Rattle.teal_asm.specs.Meaning.{commands_in, label_entry};
+
+use crate::command::Command;
+use crate::fault::AsmFaultKind;
+use crate::gathered::{Labels, Strings};
+use crate::operand::LineError;
+use crate::statement::Statement;
+use indexmap::IndexSet;
+use std::alloc::{AllocError, Global};
+use teal_code::Immediates;
+use teal_value::{ByteString, Failure};
+
+/// The most constants that are gathered of a kind.
+const MOST_CONSTANTS: usize = 256;
+
+/// The statements so far.
+#[derive(Drop)]
+pub(crate) struct Body {
+    pub statements: Vec<Statement>,
+    /// The gathered constants, each once, in the order of first use.
+    pub uints: IndexSet<u64>,
+    pub strings: Strings,
+    pub labels: Labels,
+    /// How many statements have a command.
+    pub commands: usize,
+    pub has_uint_block: bool,
+    pub has_byte_block: bool,
+}
+
+impl Body {
+    ghost use Rattle.teal_asm.specs.Bodies.{IsBody};
+
+    pub fn new(alloc: Global) -> Body
+        ensures body { IsBody result }
+        ensures empty { result.statements.items ≡ [] }
+    {
+        Body {
+            statements: Vec::new(alloc),
+            uints: IndexSet::new(alloc),
+            strings: Strings::new(alloc),
+            labels: Labels::new(alloc),
+            commands: 0,
+            has_uint_block: false,
+            has_byte_block: false,
+        }
+    }
+
+    /// Adds a statement whose label is new. After a refusal the body is of no more use.
+    pub fn add(&mut self, alloc: Global, statement: Statement) -> Result<(), LineError>
+        requires body { IsBody self.old }
+        requires fresh { ForSome statement.label (λ name. list_any (has_label name) self.old.statements.items ≡ false) }
+        ensures leaves { Leaves result self.new.statements.items (appended self.old.statements.items (behind self.old.statements.items statement)) }
+        ensures kept { OnOk result (IsBody self.new) }
+    {
+        gather(alloc, &statement.command, &mut self.uints, &mut self.strings)?;
+        self.has_uint_block = with_uint_block(self.has_uint_block, &statement.command);
+        self.has_byte_block = with_byte_block(self.has_byte_block, &statement.command);
+        if self.mixes_blocks() {
+            return Err(Failure::Fault(AsmFaultKind::MixedBlock));
+        }
+        if self.gathers_too_many() {
+            return Err(Failure::Fault(AsmFaultKind::TooManyConstants));
+        }
+        note_label(alloc, &statement.label, self.commands, &mut self.labels)?;
+        self.commands += commands_in(&statement.command);
+        self.statements.push(statement)?;
+        Ok(())
+    }
+
+    /// Whether a statement has the label.
+    pub fn has_label(&self, name: &[u8]) -> bool
+        requires { IsBody self.now }
+        ensures { result ≡ list_any (has_label name.now) self.now.statements.items }
+    {
+        self.labels.number_of(name).is_some()
+    }
+
+    fn mixes_blocks(&self) -> bool
+        ensures { result ≡ ((self.now.has_uint_block && nat_lt 0 (length self.now.uints.keys)) || (self.now.has_byte_block && nat_lt 0 (length self.now.strings))) }
+    {
+        (self.has_uint_block && self.uints.len() > 0)
+            || (self.has_byte_block && self.strings.len() > 0)
+    }
+
+    fn gathers_too_many(&self) -> bool
+        ensures { result ≡ (nat_lt 256 (length self.now.uints.keys) || nat_lt 256 (length self.now.strings)) }
+    {
+        self.uints.len() > MOST_CONSTANTS || self.strings.len() > MOST_CONSTANTS
+    }
+}
+
+fn gather(
+    alloc: Global,
+    command: &Option<Command>,
+    uints: &mut IndexSet<u64>,
+    strings: &mut Strings,
+) -> Result<(), AllocError>
+    ensures uints { OnOk result (uints.new.keys ≡ distinct nat_eq uints.old.keys (gathered_uint command.now)) }
+    ensures strings { OnOk result (strings.new ≡ distinct bytes_eq strings.old (gathered_string command.now)) }
+{
+    match command {
+        Some(Command::Int(number)) => {
+            uints.insert(*number)?;
+            Ok(())
+        }
+        Some(Command::Byte(bytes)) => strings.insert(alloc, bytes.as_slice()),
+        _ => Ok(()),
+    }
+}
+
+fn note_label(
+    alloc: Global,
+    label: &Option<ByteString>,
+    number: usize,
+    labels: &mut Labels,
+) -> Result<(), AllocError>
+    requires { ForSome label.now (λ name. lookup (bytes_eq name) labels.old ≡ None) }
+    ensures { OnOk result (labels.new ≡ labels.old ++ label_entry label.now number) }
+{
+    match label {
+        Some(name) => labels.insert(alloc, name.as_slice(), number),
+        None => Ok(()),
+    }
+}
+
+fn commands_in(command: &Option<Command>) -> usize
+    ensures count { result ≡ commands_in command.now }
+    ensures one { result ≤ 1 }
+{
+    match command {
+        Some(_) => 1,
+        None => 0,
+    }
+}
+
+fn with_uint_block(before: bool, command: &Option<Command>) -> bool
+    ensures { result ≡ (before || is_uint_block command.now) }
+{
+    before || matches!(command, Some(Command::Plain(_, Immediates::UintBlock(_))))
+}
+
+fn with_byte_block(before: bool, command: &Option<Command>) -> bool
+    ensures { result ≡ (before || is_byte_block command.now) }
+{
+    before || matches!(command, Some(Command::Plain(_, Immediates::ByteBlock(_))))
+}

@@ -1,0 +1,4 @@
+pub mod Labelling
+pub mod Listings
+pub mod Targets
+pub mod Rows
