@@ -6,6 +6,7 @@
 #![tactic(auto)]
 
 mod arity;
+mod assembler;
 mod body;
 mod command;
 mod emit;
@@ -13,9 +14,11 @@ mod fault;
 mod gathered;
 mod line;
 mod lines;
+mod meaning;
 mod operand;
 mod resolve;
 mod statement;
 
+pub use assembler::assemble;
 pub use command::Command;
 pub use fault::{AsmError, AsmFault, AsmFaultKind};
