@@ -1,5 +1,5 @@
 -- What is kept of the statements when one more comes.
-use Rattle.std.proofs.Common.{◌≡◌, ℕ, zero, suc, ◌+◌, ◌≤◌, Bool, true, false, cond, ltb, ◌&&◌, ◌||◌, nat_eq, List, [], ◌∷◌, ◌++◌, length, Option, Some, None, Result, Ok, Err, refl, sym, ap, ◌∙◌, append_assoc, arith}
+use Rattle.std.proofs.Common.{◌≡◌, ℕ, ◌+◌, ◌≤◌, Bool, true, false, cond, ltb, ◌&&◌, ◌||◌, nat_eq, List, [], ◌∷◌, ◌++◌, length, Option, Some, None, Ok, Err, refl, sym, ap, ◌∙◌, append_assoc, arith}
 use Rattle.std.specs.List.{flat_map, list_any}
 use Rattle.std.specs.Str.{bytes_eq}
 use Rattle.std.specs.Map.{lookup}
@@ -136,6 +136,7 @@ label_there n (s ∷ ss) name = at_label s.label (label_there (n + commands_in s
     at_test : (b : Bool) (k : ℕ) (o : Option ℕ) {r : Bool} → is_some o ≡ r → is_some (cond b (Some k) o) ≡ (b || r)
     at_test true k o e = refl
     at_test false k o e = e
+
     at_label : (label : Option (List ℕ)) → is_some (lookup (bytes_eq name) (labels_from (n + commands_in s.command) ss)) ≡ list_any (has_label name) ss
         → is_some (lookup (bytes_eq name) (label_entry label n ++ labels_from (n + commands_in s.command) ss)) ≡ (option_map_or (λ l. bytes_eq name l) label false || list_any (has_label name) ss)
     at_label None e = e

@@ -1,14 +1,9 @@
 -- Where instructions stand in a program, and how they are written one behind another.
-use Rattle.std.proofs.Common.{◌≡◌, ℕ, zero, suc, ◌+◌, ◌-◌, ◌<◌, ◌≤◌, min, List, [], ◌∷◌, ◌++◌, length, take, drop, get_or, map, refl, sym, ap, subst, ◌∙◌, append_assoc, length-append, inl, inr, arith, zero-add}
-use Rattle.std.specs.Prelude.{◌⊎◌}
+use Rattle.std.proofs.Common.{◌≡◌, ℕ, zero, suc, ◌+◌, ◌-◌, ◌<◌, ◌≤◌, min, List, [], ◌∷◌, ◌++◌, length, take, drop, get_or, refl, sym, ap, ◌∙◌, append_assoc, length-append, inl, inr, arith, zero-add}
 use Rattle.std.proofs.Common.{true, false, ltb, Ok, Err}
 use Rattle.std.proofs.lemmas.Bool.{cases_lt, lt-ltb, le-ltb}
-use Rattle.std.proofs.lemmas.List.{take-append-drop, drop-take, take_min, drop_more, get_or_append_left, get_or_past, length-take-le, drop_all, append-nil}
+use Rattle.std.proofs.lemmas.List.{take-append-drop, take_min, drop_more, get_or_append_left, get_or_past, drop_all, append-nil}
 use Rattle.std.proofs.Math.Seq.{get_or-append_seam, take-length, take-nil, drop-nil}
-use Rattle.teal_table.specs.declared.opcode.Opcode.{Opcode}
-use Rattle.teal_code.specs.declared.instr.Immediates.{Immediates}
-use Rattle.teal_code.specs.declared.instr.Immediates.TheVariants as is
-use Rattle.teal_code.specs.Spelling.{instr_spelling}
 use Rattle.teal_asm.specs.declared.emit.Instruction.{Instruction}
 use Rattle.teal_asm.specs.declared.fault.AsmFaultKind.TheVariants as kind
 use Rattle.teal_asm.specs.Meaning.{Meant, Straight, Branch}

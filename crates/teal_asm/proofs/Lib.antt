@@ -4,4 +4,6 @@ pub mod Emitting
 pub mod Gathering
 pub mod Bodying
 pub mod LineByLine
+pub mod Assembled
+pub mod Pragma
 pub mod Resolving

@@ -1,13 +1,12 @@
 -- The statements of lines, one line behind another.
-use Rattle.std.proofs.Common.{◌≡◌, ℕ, ◌+◌, ◌<◌, List, [], ◌∷◌, ◌++◌, length, drop, get_or, map, Result, Ok, Err, refl, sym, ap, ◌∙◌}
+use Rattle.std.proofs.Common.{◌≡◌, ℕ, ◌+◌, ◌<◌, List, [], ◌∷◌, ◌++◌, length, drop, get_or, Result, Ok, Err, refl, sym, ap, ◌∙◌}
 use Rattle.std.proofs.lemmas.List.{drop_more}
-use Rattle.std.specs.List.{flat_map}
 use Rattle.teal_value.specs.declared.failure.Failure.{Failure}
 use Rattle.teal_value.specs.declared.failure.Failure.TheVariants as failure
 use Rattle.teal_value.specs.Answer.{◌>>=◌, Fails}
 use Rattle.teal_table.specs.declared.shape.Version.{Version}
 use Rattle.teal_text.specs.declared.line.Line.{Line}
-use Rattle.teal_text.specs.Lines.{LineTokens, view, views}
+use Rattle.teal_text.specs.Lines.{view, views}
 use Rattle.teal_asm.specs.declared.statement.Statement.{Statement}
 use Rattle.teal_asm.specs.declared.fault.AsmFault.{AsmFault}
 use Rattle.teal_asm.specs.declared.fault.AsmFaultKind.{AsmFaultKind}

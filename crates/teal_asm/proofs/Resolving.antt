@@ -1,12 +1,12 @@
 -- Statements as instructions, one behind another.
-use Rattle.std.proofs.Common.{◌≡◌, ℕ, zero, suc, ◌+◌, ◌^◌, ◌<◌, ◌≤◌, Bool, true, false, cond, not, eqb, ltb, ◌||◌, nat_eq, List, [], ◌∷◌, ◌++◌, length, map, Option, Some, None, Result, Ok, Err, refl, sym, ap, ◌∙◌, append_assoc, length-append, arith}
+use Rattle.std.proofs.Common.{◌≡◌, ℕ, suc, ◌+◌, ◌<◌, ◌≤◌, Bool, true, false, cond, not, eqb, ◌||◌, nat_eq, List, [], ◌∷◌, ◌++◌, length, map, Option, Some, None, Result, Ok, Err, refl, sym, ap, ◌∙◌, append_assoc, length-append, arith}
 use Rattle.std.specs.List.{flat_map, list_any, position_or_len, position}
 use Rattle.std.specs.Map.{lookup}
 use Rattle.std.specs.Option.{option_map}
 use Rattle.std.specs.Str.{bytes_eq}
 use Rattle.std.proofs.lemmas.Bool.{ltb-false, eq-eqb, eqb-true}
 use Rattle.std.proofs.lemmas.Slice.Eq.{bytes_eq-Decides}
-use Rattle.std.proofs.lemmas.List.{append-nil, map_push}
+use Rattle.std.proofs.lemmas.List.{append-nil}
 use Rattle.std.proofs.lemmas.List.Sums.{prefix_len-le-length}
 use Rattle.std.proofs.lemmas.List.Folds.{list_any-append}
 use Rattle.teal_value.specs.declared.failure.Failure.{Failure}
@@ -16,11 +16,9 @@ use Rattle.teal_asm.specs.declared.command.Command.{Command}
 use Rattle.teal_asm.specs.declared.command.Command.TheVariants.{Int, Byte, Jump, Plain}
 use Rattle.teal_asm.specs.declared.statement.Statement.{Statement}
 use Rattle.teal_asm.specs.declared.fault.AsmFault.{AsmFault}
-use Rattle.teal_asm.specs.declared.emit.Instruction.{Instruction}
 use Rattle.teal_asm.specs.Statements.{gathered_uint, gathered_string, distinct, with_new, gathered_uints, gathered_strings}
 use Rattle.teal_asm.specs.Meaning.{Meant, commands_in, label_entry, labels_from, gathered_blocks, instruction, optional_instruction, instructions, all_instructions}
-use Rattle.teal_asm.specs.Instructions.{meant, all_meant}
-use Rattle.teal_asm.specs.Constants.{HasConstant, HasItsConstant, HasConstants}
+use Rattle.teal_asm.specs.Constants.{HasItsConstant, HasConstants}
 use Rattle.teal_asm.proofs.Gathering.{not_from_test}
 
 -- ---- where a constant stands
@@ -137,8 +135,10 @@ own (s ∷ ss) = (at_command s.command, more_constants _ _ _ _ (λ n e. behind_u
     at_command (Some (Byte t)) = ap (λ b. b || list_any (bytes_eq t) (all_strings ss)) ((bytes_eq-Decides t t).1 refl)
     at_command (Some (Jump o l)) = tt
     at_command (Some (Plain o i)) = tt
+
     behind_uints : (n : ℕ) → list_any (nat_eq n) (all_uints ss) ≡ true → list_any (nat_eq n) (gathered_uint s.command ++ all_uints ss) ≡ true
     behind_uints n e = list_any-append (nat_eq n) (gathered_uint s.command) (all_uints ss) ∙ later_true _ _ e
+
     behind_strings : (t : List ℕ) → list_any (bytes_eq t) (all_strings ss) ≡ true → list_any (bytes_eq t) (gathered_string s.command ++ all_strings ss) ≡ true
     behind_strings t e = list_any-append (bytes_eq t) (gathered_string s.command) (all_strings ss) ∙ later_true _ _ e
 
@@ -156,11 +156,14 @@ label_small p n (s ∷ ss) k e = at_label s.label (label_small p (n + commands_i
     one : (c : Option Command) → commands_in c ≤ 1
     one None = omega arith
     one (Some c) = omega arith
+
     rest : k ≤ n + commands_in s.command + length ss → k ≤ n + suc (length ss)
     rest le = omega (arith, one s.command)
+
     at_test : (b : Bool) (o : Option ℕ) → (o ≡ Some k → k ≤ n + commands_in s.command + length ss) → cond b (Some n) o ≡ Some k → k ≤ n + suc (length ss)
     at_test true o later e = let same : n ≡ k = cc in omega arith
     at_test false o later e = rest (later e)
+
     at_label : (label : Option (List ℕ)) → (lookup p (labels_from (n + commands_in s.command) ss) ≡ Some k → k ≤ n + commands_in s.command + length ss)
         → lookup p (label_entry label n ++ labels_from (n + commands_in s.command) ss) ≡ Some k → k ≤ n + suc (length ss)
     at_label None later e = rest (later e)
@@ -191,11 +194,13 @@ regroup_one so_far i (Err e) = refl
 pub passes : (all : List Statement) (so_far : List Meant) (rest next : List Statement) (s : Statement) (goal : Result (List Meant) AsmFault) → ResolvesOn all so_far rest goal → rest ≡ s ∷ next → s.command ≡ None → ResolvesOn all so_far next goal
 passes all so_far rest next s goal r is none =
     let one : instructions all (length so_far) (s ∷ next) ≡ (instructions all (length so_far + commands_in s.command) next >>= λ is. Ok ([] ++ is)) =
-        step all (length so_far) s next (Ok []) (ap (optional_instruction all (length so_far) s.line) none) in
+    step all (length so_far) s next (Ok []) (ap (optional_instruction all (length so_far) s.line) none) in
     let here : length so_far + commands_in s.command ≡ length so_far = ap (λ c. length so_far + commands_in c) none ∙ omega arith in
-    record { same =
-        ap (λ n. instructions all n next >>= λ is. Ok (so_far ++ is)) (sym here) ∙ sym (regroup_empty so_far _)
-        ∙ ap (λ q. q >>= λ is. Ok (so_far ++ is)) (sym one) ∙ ap (λ ss. instructions all (length so_far) ss >>= λ is. Ok (so_far ++ is)) (sym is) ∙ r.same }
+    record {
+      same =
+          ap (λ n. instructions all n next >>= λ is. Ok (so_far ++ is)) (sym here) ∙ sym (regroup_empty so_far _)
+          ∙ ap (λ q. q >>= λ is. Ok (so_far ++ is)) (sym one) ∙ ap (λ ss. instructions all (length so_far) ss >>= λ is. Ok (so_far ++ is)) (sym is) ∙ r.same;
+    }
 
 some_instruction : (all : List Statement) (n line : ℕ) (c : Command) (i : Meant) → instruction all n line c ≡ Ok i → optional_instruction all n line (Some c) ≡ Ok (i ∷ [])
 some_instruction all n line c i e = rw e refl
@@ -207,11 +212,13 @@ pub goes_on : (all : List Statement) (so_far now : List Meant) (rest next : List
     → instruction all (length so_far) s.line c ≡ Ok i → now ≡ so_far ++ i ∷ [] → ResolvesOn all now next goal
 goes_on all so_far now rest next s c i goal r is some e pushed =
     let one : instructions all (length so_far) (s ∷ next) ≡ (instructions all (length so_far + commands_in s.command) next >>= λ is. Ok ((i ∷ []) ++ is)) =
-        step all (length so_far) s next (Ok (i ∷ [])) (ap (optional_instruction all (length so_far) s.line) some ∙ some_instruction all (length so_far) s.line c i e) in
+    step all (length so_far) s next (Ok (i ∷ [])) (ap (optional_instruction all (length so_far) s.line) some ∙ some_instruction all (length so_far) s.line c i e) in
     let count : length (so_far ++ i ∷ []) ≡ length so_far + commands_in s.command = length-append so_far (i ∷ []) ∙ ap (λ d. length so_far + commands_in d) (sym some) in
-    record { same =
-        ap (λ xs. instructions all (length xs) next >>= λ is. Ok (xs ++ is)) pushed ∙ ap (λ n. instructions all n next >>= λ is. Ok ((so_far ++ i ∷ []) ++ is)) count ∙ sym (regroup_one so_far i _)
-        ∙ ap (λ q. q >>= λ is. Ok (so_far ++ is)) (sym one) ∙ ap (λ ss. instructions all (length so_far) ss >>= λ is. Ok (so_far ++ is)) (sym is) ∙ r.same }
+    record {
+      same =
+          ap (λ xs. instructions all (length xs) next >>= λ is. Ok (xs ++ is)) pushed ∙ ap (λ n. instructions all n next >>= λ is. Ok ((so_far ++ i ∷ []) ++ is)) count ∙ sym (regroup_one so_far i _)
+          ∙ ap (λ q. q >>= λ is. Ok (so_far ++ is)) (sym one) ∙ ap (λ ss. instructions all (length so_far) ss >>= λ is. Ok (so_far ++ is)) (sym is) ∙ r.same;
+    }
 
 pub stops : (all : List Statement) (so_far : List Meant) (rest next : List Statement) (s : Statement) (c : Command) (d : Failure AsmFault) (goal : Result (List Meant) AsmFault) → ResolvesOn all so_far rest goal → rest ≡ s ∷ next → s.command ≡ Some c
     → Fails d (instruction all (length so_far) s.line c) → Fails d goal

@@ -1,5 +1,5 @@
 -- What a name with its operands asks for.
-use Rattle.std.specs.Prelude.{ℕ, ◌^◌, ◌==◌, Bool, true, false, not, if◌then◌else◌, List, [], ◌∷◌, length, codes, Option, Some, None, Result, Ok, Err}
+use Rattle.std.specs.Prelude.{if◌then◌else◌, List, [], ◌∷◌, codes, Option, Some, None, Result, Ok, Err}
 use Rattle.std.specs.Str.{bytes_eq}
 use Rattle.teal_value.specs.Answer.{◌>>=◌}
 use Rattle.teal_table.specs.declared.shape.Shape.{Shape}
@@ -10,13 +10,12 @@ use Rattle.teal_table.specs.declared.opcode.Opcode.TheVariants as op
 use Rattle.teal_table.specs.declared.txn_fields.TxnField.{TxnField}
 use Rattle.teal_table.specs.Table.{row_of, opcode_named, only_in}
 use Rattle.teal_table.specs.Fields.{is_array, txn_field_named}
-use Rattle.teal_code.specs.declared.instr.Immediates.{Immediates}
 use Rattle.teal_code.specs.declared.instr.Immediates.TheVariants as is
 use Rattle.teal_asm.specs.declared.command.Command.{Command}
 use Rattle.teal_asm.specs.declared.command.Command.TheVariants.{Int, Byte, Jump, Plain}
 use Rattle.teal_asm.specs.declared.fault.AsmFaultKind.{AsmFaultKind}
 use Rattle.teal_asm.specs.declared.fault.AsmFaultKind.TheVariants.{UnknownName, Operands}
-use Rattle.teal_asm.specs.Operands.{Word, Literal, literals_in, byte_number, any_number, int_value, literal_value, address_value, txn_field_value, global_field_value}
+use Rattle.teal_asm.specs.Operands.{Word, literals_in, byte_number, any_number, int_value, literal_value, address_value, txn_field_value, global_field_value}
 
 abbrev pub Asked : Type 0 → Type 0
 Asked A = Result A AsmFaultKind

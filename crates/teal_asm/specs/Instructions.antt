@@ -2,7 +2,8 @@
 use Rattle.std.specs.Prelude.{◌≡◌, ℕ, ◌+◌, ◌≤◌, List, length, take, map, slice_index_or}
 use Rattle.teal_asm.specs.declared.emit.Instruction.{Instruction}
 use Rattle.teal_asm.specs.declared.emit.Instruction.TheVariants as code
-use Rattle.teal_asm.specs.Meaning.{Meant, Straight, Branch}
+use Rattle.teal_asm.specs.declared.meaning.Meaning.{Meaning as CodeMeaning}
+use Rattle.teal_asm.specs.Meaning.{Meaning, Meant, Straight, Branch}
 use Rattle.teal_asm.specs.Program.{total_size}
 
 abbrev pub meant : Instruction → Meant
@@ -11,6 +12,9 @@ meant (code.Branch o target) = Branch o target
 
 abbrev pub all_meant : List Instruction → List Meant
 all_meant is = map meant is
+
+abbrev pub meaning_in : CodeMeaning → Meaning
+meaning_in m = record { version = m.version; instructions = all_meant m.instructions.items }
 
 -- the place of each instruction, counted from behind the version, and of the end
 pub record ArePlaces (is : List Meant) (places : List ℕ) : Type 0 where

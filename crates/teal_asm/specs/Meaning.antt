@@ -1,7 +1,7 @@
 -- The meaning of a text: the instructions of its program, or its first fault. Faults come in three rounds, and the first
 -- fault of the first round that has one counts: tokens of the whole text; then line by line; then branches, and at last
 -- the program's length.
-use Rattle.std.specs.Prelude.{ℕ, ◌+◌, ◌-◌, ◌==◌, Bool, if◌then◌else◌, nat_lt, nat_le, nat_eq, List, [], ◌∷◌, ◌++◌, length, Option, Some, None, Result, Ok, Err}
+use Rattle.std.specs.Prelude.{ℕ, ◌+◌, ◌==◌, if◌then◌else◌, nat_le, nat_eq, List, [], ◌∷◌, ◌++◌, length, Option, Some, None, Result, Ok}
 use Rattle.std.specs.List.{position_or_len}
 use Rattle.std.specs.Map.{lookup}
 use Rattle.std.specs.Str.{bytes_eq}
@@ -101,10 +101,14 @@ all_instructions ss = instructions ss (length (gathered_blocks ss)) ss >>= λ is
 
 -- ---- the text
 
+-- the meaning of a pragma and the lines behind it
+abbrev pub meaning_with : Result Version AsmFault → List Words → Result Meaning AsmFault
+meaning_with named ls = named >>= λ version. statements version [] ls >>= λ ss. all_instructions ss >>= λ is.
+    Ok (record { version = version; instructions = is })
+
 abbrev pub meaning_of_lines : List Words → Result Meaning AsmFault
 meaning_of_lines [] = fault_at 1 kind.NoPragma
-meaning_of_lines (l ∷ ls) = pragma_version l >>= λ version. statements version [] ls >>= λ ss. all_instructions ss >>= λ is.
-    Ok (record { version = version; instructions = is })
+meaning_of_lines (l ∷ ls) = meaning_with (pragma_version l) ls
 
 unfoldable pub meaning : List ℕ → Result Meaning AsmFault
 meaning text = on_text (lines_of text) >>= λ ls. meaning_of_lines (words_of_lines text ls)

@@ -1,11 +1,10 @@
 -- The program that a text spells: its version and its instructions, each varuint as short as it can be.
-use Rattle.std.specs.Prelude.{ℕ, ◌+◌, ◌-◌, nat_lt, if◌then◌else◌, List, [], ◌∷◌, ◌++◌, length, take, Result, Ok, Err}
+use Rattle.std.specs.Prelude.{ℕ, ◌+◌, ◌-◌, nat_lt, if◌then◌else◌, List, [], ◌∷◌, ◌++◌, length, take, Result, Ok}
 use Rattle.std.specs.Result.{result_unwrap_or}
 use Rattle.teal_value.specs.Answer.{◌>>=◌}
 use Rattle.teal_table.specs.declared.shape.Version.{Version}
 use Rattle.teal_table.specs.declared.shape.Version.TheVariants.{Two, Three}
 use Rattle.teal_code.specs.declared.instr.Immediates.TheVariants as is
-use Rattle.teal_code.specs.declared.instr.Instr.{Instr}
 use Rattle.teal_code.specs.Spelling.{instr_spelling}
 use Rattle.teal_text.specs.Lines.{lines_of}
 use Rattle.teal_asm.specs.declared.fault.AsmFaultKind.TheVariants as kind

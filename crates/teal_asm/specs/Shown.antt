@@ -1,5 +1,5 @@
 -- Words and literals of the program, without where they lie in memory.
-use Rattle.std.specs.Prelude.{ℕ, List, Option, map}
+use Rattle.std.specs.Prelude.{ℕ, List, map}
 use Rattle.std.specs.Option.{option_map}
 use Rattle.teal_asm.specs.declared.operand.EncodedLiteral.{EncodedLiteral}
 use Rattle.teal_asm.specs.declared.operand.NamedConstant.{NamedConstant}

@@ -1,21 +1,20 @@
 -- The lines of a text as statements: a label, and a command.
-use Rattle.std.specs.Prelude.{ℕ, ◌-◌, ◌==◌, Bool, true, false, not, ◌&&◌, ◌||◌, if◌then◌else◌, nat_lt, nat_eq, List, [], ◌∷◌, ◌++◌, length, take, map, filter, slice_range, slice_index, codes, Option, Some, None, is_some, Result, Ok, Err}
+use Rattle.std.specs.Prelude.{ℕ, ◌-◌, ◌==◌, Bool, true, false, ◌&&◌, ◌||◌, if◌then◌else◌, nat_lt, nat_eq, List, [], ◌∷◌, ◌++◌, length, take, map, slice_range, slice_index, codes, Option, Some, None, Result, Ok, Err}
 use Rattle.std.specs.List.{list_any, flat_map}
-use Rattle.std.specs.Option.{ok_or, option_map_or}
+use Rattle.std.specs.Option.{option_map_or}
 use Rattle.std.specs.Str.{bytes_eq}
 use Rattle.teal_value.specs.declared.failure.Failure.{Failure}
 use Rattle.teal_value.specs.declared.failure.Failure.TheVariants as failure
 use Rattle.teal_value.specs.Answer.{◌>>=◌}
 use Rattle.teal_table.specs.declared.shape.Version.{Version}
 use Rattle.teal_table.specs.declared.shape.Version.TheVariants.{Two, Three}
-use Rattle.teal_code.specs.declared.instr.Immediates.{Immediates}
 use Rattle.teal_code.specs.declared.instr.Immediates.TheVariants as is
 use Rattle.teal_text.specs.declared.fault.TextFault.{TextFault}
 use Rattle.teal_text.specs.declared.token.Token.{Token}
-use Rattle.teal_text.specs.Lines.{LineTokens, lines_of}
+use Rattle.teal_text.specs.Lines.{LineTokens}
 use Rattle.teal_asm.specs.declared.statement.Statement.{Statement}
 use Rattle.teal_asm.specs.declared.command.Command.{Command}
-use Rattle.teal_asm.specs.declared.command.Command.TheVariants.{Int, Byte, Jump, Plain}
+use Rattle.teal_asm.specs.declared.command.Command.TheVariants.{Int, Byte, Plain}
 use Rattle.teal_asm.specs.declared.fault.AsmFaultKind.{AsmFaultKind}
 use Rattle.teal_asm.specs.declared.fault.AsmFaultKind.TheVariants as kind
 use Rattle.teal_asm.specs.declared.fault.AsmFault.{AsmFault}

@@ -61,7 +61,12 @@ impl Body {
         ensures leaves { Leaves result self.new.statements.items (appended self.old.statements.items (behind self.old.statements.items statement)) }
         ensures kept { OnOk result (IsBody self.new) }
     {
-        gather(alloc, &statement.command, &mut self.uints, &mut self.strings)?;
+        gather(
+            alloc,
+            &statement.command,
+            &mut self.uints,
+            &mut self.strings,
+        )?;
         self.has_uint_block = with_uint_block(self.has_uint_block, &statement.command);
         self.has_byte_block = with_byte_block(self.has_byte_block, &statement.command);
         if self.mixes_blocks() {

@@ -14,6 +14,7 @@ mod fault;
 mod gathered;
 mod line;
 mod lines;
+mod meaning;
 mod operand;
 mod resolve;
 mod statement;

@@ -89,11 +89,7 @@ fn add_first(
 }
 
 /// The version that the pragma names in a line with a token.
-pub(crate) fn pragma_version(
-    alloc: Global,
-    text: &[u8],
-    line: &Line,
-) -> Result<Version, AsmError>
+pub(crate) fn pragma_version(alloc: Global, text: &[u8], line: &Line) -> Result<Version, AsmError>
     requires { All (LiesWithin 0 (length text.now)) line.now.tokens.items }
     ensures { Gives (λ version. version) result (pragma_of text.now (view line.now)) }
 {
@@ -126,7 +122,11 @@ fn on_line(line: usize, error: LineError) -> AsmError
 }
 
 // The words of tokens.
-fn words_of<'a>(alloc: Global, text: &'a [u8], tokens: &[Token]) -> Result<Vec<&'a [u8]>, AllocError>
+fn words_of<'a>(
+    alloc: Global,
+    text: &'a [u8],
+    tokens: &[Token],
+) -> Result<Vec<&'a [u8]>, AllocError>
     requires { All (LiesWithin 0 (length text.now)) tokens.now }
     ensures { IfOk result (λ v. words v.items ≡ map (word_at text.now) tokens.now) }
 {

@@ -1,14 +1,13 @@
 -- Listing instruction by instruction.
-use Rattle.std.proofs.Common.{◌≡◌, ℕ, zero, suc, ◌+◌, ◌<◌, ◌≤◌, Bool, true, false, cond, eqb, List, [], ◌∷◌, ◌++◌, length, drop, get_or, codes, Option, Some, None, Result, Ok, Err, refl, sym, ap, ◌∙◌, append_assoc, arith}
+use Rattle.std.proofs.Common.{◌≡◌, ℕ, ◌+◌, ◌≤◌, Bool, true, false, cond, eqb, List, [], ◌∷◌, ◌++◌, length, drop, get_or, codes, Option, Some, None, refl, sym, ap, ◌∙◌, append_assoc, arith}
 use Rattle.std.specs.List.{slice_get}
 use Rattle.std.proofs.lemmas.List.{drop_more, drop_all, get_or_default}
 use Rattle.std.proofs.lemmas.Bool.Decides.{nat_tests}
 use Rattle.std.proofs.lemmas.List.Folds.{list_any_at}
 use Rattle.std.proofs.lemmas.Option.{slice_get_within, get_or_from_slice_get}
-use Rattle.teal_code.specs.declared.instr.Instr.{Instr}
 use Rattle.teal_check.specs.declared.program.Placed.{Placed}
 use Rattle.teal_check.specs.WellFormed.{WellFormed}
-use Rattle.teal_text.specs.PlainWords.{line_of_words, text_of_lines}
+use Rattle.teal_text.specs.PlainWords.{text_of_lines}
 use Rattle.teal_dis.specs.Listing.{Word, leads_to, is_target, targets_before, label_of, label_line, pragma_line, target_word, words_of, instruction_line, lines_from, listing}
 use Rattle.teal_dis.specs.Shown.{AreLabels, label_number, label, label_in, lines_of_label}
 use Rattle.teal_dis.proofs.Labelling.{past}

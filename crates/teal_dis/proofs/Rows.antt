@@ -1,16 +1,15 @@
 -- Listings worked from the definition.
-use Rattle.std.proofs.Common.{◌≡◌, [], ◌∷◌, ◌++◌, ℕ, List, Bool, codes, Some, None, Result, Ok, Err, refl}
+use Rattle.std.proofs.Common.{◌≡◌, [], ◌∷◌, ◌++◌, ℕ, List, codes, Result, Ok, Err, refl}
 use Rattle.std.specs.Fmt.{digits}
 use Rattle.hex.specs.Hex.{encode_with}
 use Rattle.teal_table.specs.Table.{opcodes, opcode_at, row_of}
 use Rattle.teal_table.specs.Fields.{txn_field_at, global_field_at}
 use Rattle.teal_table.specs.LeftOut.{left_out_at}
 use Rattle.teal_table.specs.declared.opcode.Opcode.TheVariants as op
-use Rattle.teal_code.specs.Reader.{varuint_at, read_at}
 use Rattle.teal_code.specs.declared.instr.Immediates.TheVariants as is
 use Rattle.teal_check.specs.WellFormed.{WellFormed, checked, placed_at, placed_from, with_targets}
 use Rattle.teal_check.specs.declared.fault.CheckFault.{CheckFault}
-use Rattle.teal_dis.specs.Listing.{Word, targets_before, line_of, listing}
+use Rattle.teal_dis.specs.Listing.{targets_before, line_of, listing}
 
 branch_line : line_of 7 (record { opcode = op.Bnz; immediates = is.Offset 1 }) ≡ codes "bnz 11"
 unfolding row_of digits

@@ -1,6 +1,4 @@
-use Rattle.std.proofs.Common.{◌≡◌, ◌++◌, map, drop, length}
-use Rattle.std.specs.Prelude.{All}
-use Rattle.teal_text.specs.Tokens.{LiesWithin}
+use Rattle.std.proofs.Common.{◌≡◌, ◌++◌, map, drop}
 use Rattle.teal_asm.specs.Statements.{word_at}
 use Rattle.teal_asm.specs.Shown.{words}
 use Rattle.teal_asm.proofs.lines.words_of.Given as goal

@@ -1,12 +1,9 @@
-use Rattle.std.proofs.Common.{◌≡◌, ◌+◌, ◌<◌, true, nat_eq, List, length, sym, ap, subst, ◌∙◌, arith}
+use Rattle.std.proofs.Common.{◌≡◌, ◌+◌, true, nat_eq, length, ap, ◌∙◌, arith}
 use Rattle.std.specs.List.{list_any, position_or_len}
 use Rattle.std.specs.Option.{option_map}
 use Rattle.std.specs.Map.{lookup}
 use Rattle.std.specs.Str.{bytes_eq}
-use Rattle.teal_value.specs.Answer.{Gives}
-use Rattle.teal_asm.specs.Meaning.{branch, gathered_blocks, instruction, labels_from}
-use Rattle.teal_asm.specs.Instructions.{meant}
-use Rattle.teal_asm.specs.Constants.{AreConstants, HasConstant}
+use Rattle.teal_asm.specs.Meaning.{gathered_blocks, labels_from}
 use Rattle.teal_asm.proofs.Resolving.{place_within, label_target}
 use Rattle.teal_asm.proofs.resolve.instruction_of.Goals as goal
 
@@ -26,5 +23,5 @@ returns-in-Jump c = λ all are.
     let k = c.args.constants.now in
     let found = c.target_of-target.ensures ∙ ap (λ b. option_map (λ n. k.blocks + n) (lookup (bytes_eq b) k.labels)) c.as_slice-in-Jump.ensures in
     let target : c.target_of-target.result ≡ lookup (bytes_eq c.in-Jump.name) (labels_from (length (gathered_blocks all)) all) =
-        found ∙ label_target (bytes_eq c.in-Jump.name) k.blocks (length (gathered_blocks all)) k.labels all are.blocks are.labels in
+    found ∙ label_target (bytes_eq c.in-Jump.name) k.blocks (length (gathered_blocks all)) k.labels all are.blocks are.labels in
     rw c.in-Jump.is (rw target at c.branch-line.ensures)

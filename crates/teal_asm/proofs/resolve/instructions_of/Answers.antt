@@ -1,7 +1,7 @@
-use Rattle.std.proofs.Common.{◌≡◌, ◌+◌, ◌<◌, ◌≤◌, ◌++◌, ℕ, List, length, sym, ap, ◌∙◌, arith}
+use Rattle.std.proofs.Common.{◌≡◌, ◌≤◌, ◌++◌, ℕ, List, length, sym, ap, ◌∙◌, arith}
 use Rattle.std.specs.Str.{bytes_eq}
 use Rattle.teal_asm.specs.declared.emit.Instruction.{Instruction}
-use Rattle.teal_asm.specs.Meaning.{gathered_blocks, uint_block, byte_block}
+use Rattle.teal_asm.specs.Meaning.{uint_block, byte_block}
 use Rattle.teal_asm.specs.Instructions.{all_meant}
 use Rattle.teal_asm.proofs.Emitting.{length-meant}
 use Rattle.teal_asm.proofs.Resolving.{each_has_its_constant, label_small, blocks_few}

@@ -1,5 +1,5 @@
-use Rattle.std.proofs.Common.{◌≡◌, ap, sym, ◌∙◌, get_or, ◌++◌, ◌∷◌, [], length, false, true, Some, None, arith, rules}
-use Rattle.teal_dis.proofs.Labelling.{no_labels, labels_target, skips, all_labels}
+use Rattle.std.proofs.Common.{ap, sym, ◌∙◌, get_or, ◌++◌, ◌∷◌, [], false, Some}
+use Rattle.teal_dis.proofs.Labelling.{no_labels, labels_target, skips}
 use Rattle.teal_dis.proofs.labels.labels_of.Goals as goal
 use Rattle.teal_dis.proofs.labels.labels_of.Goals.{then-mark, else-mark}
 

@@ -1,5 +1,4 @@
-use Rattle.std.proofs.Common.{◌≡◌, ap, sym, ◌∙◌, Some, None, arith, length, ◌<◌, ◌≤◌}
-use Rattle.std.specs.List.{slice_get}
+use Rattle.std.proofs.Common.{ap, sym, ◌∙◌, Some, arith}
 use Rattle.teal_dis.proofs.Labelling.{marks_target, far_branch, no_branch, all_marks, past}
 use Rattle.teal_dis.proofs.labels.marks_of.Goals as goal
 use Rattle.teal_dis.proofs.labels.marks_of.Goals.{in-Some-target+then-target-len, in-Some-target+else-target-len, in_default-target}

@@ -1,6 +1,5 @@
-use Rattle.std.proofs.Common.{◌≡◌, ap, sym, ◌∙◌, get_or, ◌++◌, ◌∷◌, [], length, Some, None, arith, rules}
+use Rattle.std.proofs.Common.{ap, sym, ◌∙◌, get_or, arith}
 use Rattle.std.specs.String.{string_bytes}
-use Rattle.std.specs.List.{slice_get}
 use Rattle.std.proofs.lemmas.Option.{slice_get_within}
 use Rattle.teal_check.proofs.CheckedPrograms.{is_kept}
 use Rattle.teal_dis.proofs.Listings.{goes_on, is_done}

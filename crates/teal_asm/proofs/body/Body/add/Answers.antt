@@ -1,10 +1,9 @@
-use Rattle.std.proofs.Common.{◌≡◌, ◌++◌, ◌∷◌, [], nat_eq, ◌||◌, ap, sym, ◌∙◌, zero-add, arith}
-use Rattle.std.specs.List.{list_any}
+use Rattle.std.proofs.Common.{◌++◌, ◌∷◌, [], nat_eq, ◌||◌, ap, sym, ◌∙◌, zero-add, arith}
 use Rattle.std.specs.Str.{bytes_eq}
 use Rattle.teal_asm.specs.Statements.{distinct, gathered_uint, gathered_string, is_uint_block, is_byte_block}
 use Rattle.teal_asm.specs.Bodies.{command_count}
 use Rattle.teal_asm.specs.Meaning.{labels_from, label_entry}
-use Rattle.teal_asm.proofs.Bodying.{Behind, uints-push, strings-push, list_any-push, labels-push, command_count-push, command_count-le, is_mixed, is_too_many, is_behind, few, body_is, is_fresh}
+use Rattle.teal_asm.proofs.Bodying.{uints-push, strings-push, list_any-push, labels-push, command_count-push, command_count-le, is_mixed, is_too_many, is_behind, few, body_is, is_fresh}
 use Rattle.teal_asm.proofs.body.Body.add.Goals as goal
 
 pub returns-then-mixes_blocks-clause-leaves : goal.returns-then-mixes_blocks-clause-leaves
@@ -56,14 +55,14 @@ returns-clause-kept c =
     let pushed = c.in_ok-push.ensures.items in
     let short = few _ _ (sym c.if-gathers_too_many.ensures) in
     body_is _ (ss ++ s ∷ []) pushed
-      (c.in_ok-gather.ensures.uints ∙ ap (λ us. distinct nat_eq us (gathered_uint s.command)) b.uints ∙ sym (uints-push ss s))
-      (c.in_ok-gather.ensures.strings ∙ ap (λ us. distinct bytes_eq us (gathered_string s.command)) b.strings ∙ sym (strings-push ss s))
-      (c.in_ok-note_label.ensures ∙ ap (λ ls. ls ++ label_entry s.label c.args.self.now.commands) b.labels ∙ ap (λ n. labels_from 0 ss ++ label_entry s.label n) (b.commands ∙ sym (zero-add (command_count ss))) ∙ sym (labels-push 0 ss s))
-      (omega (arith, c.commands_in.ensures.count, b.commands, command_count-push ss s))
-      (c.with_uint_block-self.ensures ∙ ap (λ x. x || is_uint_block s.command) b.uint_block ∙ sym (list_any-push (λ t. is_uint_block t.command) ss s))
-      (c.with_byte_block-self.ensures ∙ ap (λ x. x || is_byte_block s.command) b.byte_block ∙ sym (list_any-push (λ t. is_byte_block t.command) ss s))
-      short.0
-      short.1
+    (c.in_ok-gather.ensures.uints ∙ ap (λ us. distinct nat_eq us (gathered_uint s.command)) b.uints ∙ sym (uints-push ss s))
+    (c.in_ok-gather.ensures.strings ∙ ap (λ us. distinct bytes_eq us (gathered_string s.command)) b.strings ∙ sym (strings-push ss s))
+    (c.in_ok-note_label.ensures ∙ ap (λ ls. ls ++ label_entry s.label c.args.self.now.commands) b.labels ∙ ap (λ n. labels_from 0 ss ++ label_entry s.label n) (b.commands ∙ sym (zero-add (command_count ss))) ∙ sym (labels-push 0 ss s))
+    (omega (arith, c.commands_in.ensures.count, b.commands, command_count-push ss s))
+    (c.with_uint_block-self.ensures ∙ ap (λ x. x || is_uint_block s.command) b.uint_block ∙ sym (list_any-push (λ t. is_uint_block t.command) ss s))
+    (c.with_byte_block-self.ensures ∙ ap (λ x. x || is_byte_block s.command) b.byte_block ∙ sym (list_any-push (λ t. is_byte_block t.command) ss s))
+    short.0
+    short.1
 
 pub note_label-requires : goal.note_label-requires
 note_label-requires c = is_fresh c.args.self.now c.requires.body c.args.statement.label c.requires.fresh
