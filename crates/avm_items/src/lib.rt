@@ -4,10 +4,13 @@
 #![tactic(auto)]
 
 mod call_data;
+mod call_fault;
 mod item;
 mod item_value;
 pub mod laws;
+pub mod reading_laws;
 
 pub use call_data::{Addresses, CallData, Completion};
+pub use call_fault::{CallDataError, CallDataFault};
 pub use item::Item;
 pub use item_value::ItemValue;

@@ -1,2 +1,4 @@
 pub mod Maps
 pub mod Counts
+pub mod FieldsBack
+pub mod LedgerBack
