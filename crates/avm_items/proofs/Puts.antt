@@ -5,7 +5,7 @@ use Rattle.std.specs.Ordering.{is_eq, nat_cmp, ordering_then}
 use Rattle.std.specs.declared.cmp.Ordering.{Ordering}
 use Rattle.std.specs.declared.cmp.Ordering.TheVariants.{Less, Equal, Greater}
 use Rattle.std.specs.Cmp.{IsTotalOrder, on_total, tied_itself}
-use Rattle.std.proofs.lemmas.Cmp.{nat_cmp_total, nat_list_cmp_total, then_total}
+use Rattle.std.proofs.lemmas.Cmp.{nat_cmp_total, nat_list_cmp_total}
 use Rattle.std.specs.FinMap.{nat_cmp-IsAntisymmetric, slice_cmp-IsAntisymmetric}
 use Rattle.std.specs.Map.{lookup, keys_of}
 use Rattle.std.specs.BTreeMap.{is_at}
@@ -15,6 +15,7 @@ use Rattle.teal_value.specs.declared.value.Value.{Value}
 use Rattle.avm_ledger.specs.declared.application.Application.{Application}
 use Rattle.avm_ledger.specs.Entries.{Entries, byte_cmp, value_of_key, with_entry, without_entry}
 use Rattle.avm_ledger.specs.Ledgers.{StoredApplication, Ledger, account_cmp, application_at, with_application, without_application, local_state_at, with_local_state, without_local_state, IsInKeyOrder, IsInOrder}
+use Rattle.avm_ledger.proofs.Accounts.{account_total}
 use Rattle.avm_ledger.proofs.Maps.{lookup-inserted, lookup-inserted_other, lookup-removed, lookup-removed_other, is_Equal, above_tied, below_none, sorted-inserted, sorted-removed, same_map}
 use Rattle.avm_items.specs.declared.item.Item.{Item}
 use Rattle.avm_items.specs.declared.item.Item.TheVariants as item
@@ -28,9 +29,6 @@ use Rattle.std.proofs.Common.{arith, length-append}
 use Rattle.avm_items.specs.Items.{ItemMap, value_in}
 use Rattle.avm_items.specs.LedgerItems.{put}
 use Rattle.avm_items.specs.PutLaws.{MaySet, changes_with, is_counts, deletes, is_deleted_by, MayPut, MayPutAll}
-
-account_total : IsTotalOrder account_cmp
-account_total = then_total (on_total (λ x. x.0.0) nat_list_cmp_total) (on_total (λ x. x.1) nat_cmp_total)
 
 byte_total : IsTotalOrder byte_cmp
 byte_total = nat_list_cmp_total

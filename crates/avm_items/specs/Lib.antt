@@ -8,5 +8,6 @@ pub mod Counting
 pub mod CallSpelling
 pub mod CallReader
 pub mod CallReading
+pub mod WorkedCallBytes
 pub mod LedgerItems
 pub mod PutLaws

@@ -1,4 +1,9 @@
 pub mod Maps
 pub mod Counts
+pub mod Accounts
 pub mod FieldsBack
+pub mod FieldsSpelled
+pub mod FieldsFit
 pub mod LedgerBack
+pub mod LedgerSpelled
+pub mod LedgerKept
