@@ -7,7 +7,8 @@ use Rattle.std.proofs.lemmas.List.{append-nil, nil_from_length, take-append-drop
 use Rattle.teal_value.specs.declared.address.Address.{Address}
 use Rattle.avm_ledger.specs.Spellings.{u8_bytes, u64_bytes, string_bytes, counted_bytes, schema_bytes}
 use Rattle.avm_ledger.specs.FieldReader.{bytes_at, number_at, string_at, address_at, schema_at, counted_at}
-use Rattle.avm_ledger.proofs.FieldsSpelled.{from, same_value, AllBytes, all_bytes, IsSpelled, spelled, join, bytes_spelled, byte_spelled, u64_spelled, string_spelled, address_spelled, schema_spelled, counted_spelled}
+use Rattle.teal_code.proofs.Bytes.{AllBytes, all_bytes}
+use Rattle.avm_ledger.proofs.FieldsSpelled.{from, same_value, IsSpelled, spelled, join, bytes_spelled, byte_spelled, u64_spelled, string_spelled, address_spelled, schema_spelled, counted_spelled}
 use Rattle.avm_ledger.proofs.FieldsFit.{u64_fits, string_fits, address_fits, schema_fits, counted_fit}
 use Rattle.avm_items.specs.declared.call_fault.CallDataFault.{CallDataFault}
 use Rattle.avm_items.specs.declared.call_fault.CallDataFault.TheVariants.{Field, Truncated, Rest}

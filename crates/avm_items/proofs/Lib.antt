@@ -3,3 +3,4 @@ pub mod Counting
 pub mod Puts
 pub mod CallBack
 pub mod CallSpelled
+pub mod RulesKept

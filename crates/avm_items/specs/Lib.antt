@@ -11,3 +11,4 @@ pub mod CallReading
 pub mod WorkedCallBytes
 pub mod LedgerItems
 pub mod PutLaws
+pub mod RuleLaws

@@ -9,6 +9,7 @@ mod item;
 mod item_value;
 pub mod laws;
 pub mod reading_laws;
+pub mod rule_laws;
 
 pub use call_data::{Addresses, CallData, Completion};
 pub use call_fault::{CallDataError, CallDataFault};

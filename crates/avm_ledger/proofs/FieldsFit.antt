@@ -5,7 +5,8 @@ use Rattle.std.proofs.lemmas.List.Elements.{All-cons}
 use Rattle.teal_value.specs.declared.address.Address.{Address}
 use Rattle.avm_ledger.specs.declared.schema.Schema.{Schema}
 use Rattle.avm_ledger.specs.FieldReader.{Front, bytes_at, number_at, string_at, address_at, schema_at, many_at, counted_at}
-use Rattle.avm_ledger.proofs.FieldsSpelled.{from, same_value, AllBytes, byte_below, front_bytes, IsSpelled, bytes_spelled, byte_spelled}
+use Rattle.teal_code.proofs.Bytes.{AllBytes, byte_below, front_bytes}
+use Rattle.avm_ledger.proofs.FieldsSpelled.{from, same_value, IsSpelled, bytes_spelled, byte_spelled}
 
 number_fits : {F : Type 0} (truncated : F) (w : Width) (most : ℕ) (bytes : List ℕ) (x : ℕ × List ℕ) → AllBytes bytes → ((bs : List ℕ) → ((i : ℕ) → get_or bs i 0 < 256) → from_be_bytes w bs < most)
     → number_at truncated w bytes ≡ Ok x → x.0 < most

@@ -1,53 +1,26 @@
 -- What is read from bytes is spelled by those very bytes.
 use Rattle.std.proofs.Common.{◌≡◌, ℕ, zero, suc, ◌%◌, ◌<◌, ◌≤◌, Bool, true, false, cond, ltb, List, [], ◌∷◌, ◌++◌, length, take, drop, get_or, Result, Ok, Err, refl, sym, ap, subst, ◌∙◌, append_assoc, arith}
 use Rattle.std.specs.Int.{Width, w8, w16, w32, w64, byte_len, to_be_bytes, from_be_bytes}
-use Rattle.std.specs.List.{All, flat_map}
+use Rattle.std.specs.List.{flat_map}
 use Rattle.std.proofs.lemmas.Bool.{ltb-false}
 use Rattle.std.proofs.lemmas.List.{take-append-drop}
-use Rattle.std.proofs.lemmas.List.Elements.{All-head, All-tail}
 use Rattle.std.proofs.lemmas.Nat.{be_bytes_2, be_bytes_4, be_bytes_8}
 use Rattle.std.proofs.lemmas.List.{length-take-le}
 use Rattle.teal_value.specs.Answer.{◌>>=◌}
+use Rattle.teal_value.proofs.Binding.{bind_ok}
+use Rattle.teal_code.proofs.Bytes.{AllBytes, byte_below, front_bytes, rest_bytes}
 use Rattle.teal_value.specs.declared.address.Address.{Address}
 use Rattle.avm_ledger.specs.declared.schema.Schema.{Schema}
 use Rattle.avm_ledger.specs.FieldReader.{Front, bytes_at, number_at, short_string_at, string_at, address_at, schema_at, many_at, counted_at}
 use Rattle.avm_ledger.specs.Spellings.{u8_bytes, u16_bytes, u32_bytes, u64_bytes, short_string_bytes, string_bytes, counted_bytes, schema_bytes}
 
--- a result, and where it came from
-pub came : {A B F : Type 0} (r : Result A F) (f : A → Result B F) (y : B) → (r >>= f) ≡ Ok y → (x : A) × (r ≡ Ok x) × (f x ≡ Ok y)
-came (Ok x) f y e = (x, refl, e)
-came (Err d) f y e = absurd cc
-
--- the same, for a goal
+-- a step that succeeded, for a goal
 pub from : {A B F G : Type 0} (r : Result A F) (f : A → Result B F) (y : B) → (r >>= f) ≡ Ok y → ((x : A) → r ≡ Ok x → f x ≡ Ok y → G) → G
 from (Ok x) f y e goal = goal x refl e
 from (Err d) f y e goal = absurd cc
 
 pub same_value : {A F : Type 0} (x y : A) → ◌≡◌ {A = Result A F} (Ok x) (Ok y) → x ≡ y
 same_value x y e = cc
-
--- ---- bytes
-
-abbrev pub AllBytes : List ℕ → Type 0
-AllBytes [] = Unit {0}
-AllBytes (b ∷ bytes) = (b < 256) × AllBytes bytes
-
-pub all_bytes : (bytes : List ℕ) → All (λ b. b < 256) bytes → AllBytes bytes
-all_bytes [] all = tt
-all_bytes (b ∷ bytes) all = (All-head (λ c. c < 256) b bytes all, all_bytes bytes (All-tail (λ c. c < 256) b bytes all))
-
-pub byte_below : (bytes : List ℕ) → AllBytes bytes → (i : ℕ) → get_or bytes i 0 < 256
-byte_below [] all i = omega arith
-byte_below (b ∷ bytes) all zero = all.0
-byte_below (b ∷ bytes) all (suc i) = byte_below bytes all.1 i
-
-pub front_bytes : (xs ys : List ℕ) → AllBytes (xs ++ ys) → AllBytes xs
-front_bytes [] ys all = tt
-front_bytes (x ∷ xs) ys all = (all.0, front_bytes xs ys all.1)
-
-rest_bytes : (xs ys : List ℕ) → AllBytes (xs ++ ys) → AllBytes ys
-rest_bytes [] ys all = all
-rest_bytes (x ∷ xs) ys all = rest_bytes xs ys all.1
 
 -- ---- what the bytes begin with
 
@@ -80,7 +53,7 @@ bytes_spelled truncated n bytes x e = taken truncated n bytes (ltb (length bytes
 number_spelled : {F : Type 0} (truncated : F) (w : Width) (bytes : List ℕ) (x : ℕ × List ℕ) → AllBytes bytes → ((bs : List ℕ) → length bs ≡ byte_len w → ((i : ℕ) → get_or bs i 0 < 256) → to_be_bytes w (from_be_bytes w bs) ≡ bs)
     → number_at truncated w bytes ≡ Ok x → IsSpelled bytes (to_be_bytes w x.0) x.1
 number_spelled truncated w bytes x all inverse e =
-    let c = came (bytes_at truncated (byte_len w) bytes) (λ y. Ok (from_be_bytes w y.0, y.1)) x e in
+    let c = bind_ok (bytes_at truncated (byte_len w) bytes) (λ y. Ok (from_be_bytes w y.0, y.1)) x e in
     let parts = bytes_spelled truncated (byte_len w) bytes c.0 c.1 in
     let is : (from_be_bytes w c.0.0, c.0.1) ≡ x = same_value _ _ c.2 in
     let spells = inverse c.0.0 parts.1 (byte_below c.0.0 (front_bytes c.0.0 c.0.1 (subst AllBytes parts.0 all))) in
@@ -112,26 +85,26 @@ behind_length truncated count bytes n x is e =
 
 pub short_string_spelled : {F : Type 0} (truncated : F) (bytes : List ℕ) (x : List ℕ × List ℕ) → AllBytes bytes → short_string_at truncated bytes ≡ Ok x → IsSpelled bytes (short_string_bytes x.0) x.1
 short_string_spelled truncated bytes x all e =
-    let n = came (number_at truncated w8 bytes) (λ n. bytes_at truncated n.0 n.1) x e in
+    let n = bind_ok (number_at truncated w8 bytes) (λ n. bytes_at truncated n.0 n.1) x e in
     behind_length truncated u8_bytes bytes n.0 x (byte_spelled truncated bytes n.0 all n.1) n.2
 
 pub string_spelled : {F : Type 0} (truncated : F) (bytes : List ℕ) (x : List ℕ × List ℕ) → AllBytes bytes → string_at truncated bytes ≡ Ok x → IsSpelled bytes (string_bytes x.0) x.1
 string_spelled truncated bytes x all e =
-    let n = came (number_at truncated w16 bytes) (λ n. bytes_at truncated n.0 n.1) x e in
+    let n = bind_ok (number_at truncated w16 bytes) (λ n. bytes_at truncated n.0 n.1) x e in
     behind_length truncated u16_bytes bytes n.0 x (u16_spelled truncated bytes n.0 all n.1) n.2
 
 pub address_spelled : {F : Type 0} (truncated : F) (bytes : List ℕ) (x : Address × List ℕ) → AllBytes bytes → address_at truncated bytes ≡ Ok x → IsSpelled bytes x.0.0 x.1
 address_spelled truncated bytes x all e =
-    let a = came (bytes_at truncated 32 bytes) (λ y. Ok (record { 0 = y.0 }, y.1)) x e in
+    let a = bind_ok (bytes_at truncated 32 bytes) (λ y. Ok (record { 0 = y.0 }, y.1)) x e in
     let parts = bytes_spelled truncated 32 bytes a.0 a.1 in
     let is : ◌≡◌ {A = Address × List ℕ} (record { 0 = a.0.0 }, a.0.1) x = same_value _ _ a.2 in
     spelled bytes x.0.0 x.1 all (parts.0 ∙ ap (λ p. p.0.0 ++ p.1) is)
 
 pub schema_spelled : {F : Type 0} (truncated : F) (bytes : List ℕ) (x : Schema × List ℕ) → AllBytes bytes → schema_at truncated bytes ≡ Ok x → IsSpelled bytes (schema_bytes x.0) x.1
 schema_spelled truncated bytes x all e =
-    let u = came (number_at truncated w8 bytes) _ x e in
+    let u = bind_ok (number_at truncated w8 bytes) _ x e in
     let first = byte_spelled truncated bytes u.0 all u.1 in
-    let s = came (number_at truncated w8 u.0.1) _ x u.2 in
+    let s = bind_ok (number_at truncated w8 u.0.1) _ x u.2 in
     let second = byte_spelled truncated u.0.1 s.0 first.rest_are_bytes s.1 in
     let is : ◌≡◌ {A = Schema × List ℕ} (record { uints = u.0.0; bytes = s.0.0 }, s.0.1) x = same_value _ _ s.2 in
     subst (λ p. IsSpelled bytes (schema_bytes p.0) p.1) is (join bytes (u8_bytes u.0.0) u.0.1 (u8_bytes s.0.0) s.0.1 first second)
@@ -142,9 +115,9 @@ many_spelled {A} {F} one spelling back zero bytes x all e =
     let is : ◌≡◌ {A = List A × List ℕ} ([], bytes) x = same_value {F = F} _ _ e in
     (subst (λ p. IsSpelled bytes (flat_map spelling p.0) p.1) is (spelled bytes [] bytes all refl), sym (ap (λ p. length p.0) is))
 many_spelled {A} one spelling back (suc n) bytes x all e =
-    let a = came (one bytes) _ x e in
+    let a = bind_ok (one bytes) _ x e in
     let first = back bytes a.0 all a.1 in
-    let m = came (many_at one n a.0.1) _ x a.2 in
+    let m = bind_ok (many_at one n a.0.1) _ x a.2 in
     let more = many_spelled one spelling back n a.0.1 m.0 first.rest_are_bytes m.1 in
     let is : ◌≡◌ {A = List A × List ℕ} (a.0.0 ∷ m.0.0, m.0.1) x = same_value _ _ m.2 in (
       subst (λ p. IsSpelled bytes (flat_map spelling p.0) p.1) is (join bytes (spelling a.0.0) a.0.1 (flat_map spelling m.0.0) m.0.1 first more.0),
@@ -154,7 +127,7 @@ many_spelled {A} one spelling back (suc n) bytes x all e =
 pub counted_spelled : {A F : Type 0} (truncated : F) (one : List ℕ → Front F A) (spelling : A → List ℕ) → ((bytes : List ℕ) (x : A × List ℕ) → AllBytes bytes → one bytes ≡ Ok x → IsSpelled bytes (spelling x.0) x.1)
     → (bytes : List ℕ) (x : List A × List ℕ) → AllBytes bytes → counted_at truncated one bytes ≡ Ok x → IsSpelled bytes (counted_bytes u8_bytes spelling x.0) x.1
 counted_spelled truncated one spelling back bytes x all e =
-    let n = came (number_at truncated w8 bytes) (λ n. many_at one n.0 n.1) x e in
+    let n = bind_ok (number_at truncated w8 bytes) (λ n. many_at one n.0 n.1) x e in
     let count = byte_spelled truncated bytes n.0 all n.1 in
     let more = many_spelled one spelling back n.0.0 n.0.1 x count.rest_are_bytes n.2 in
     subst (λ m. IsSpelled bytes (u8_bytes m ++ flat_map spelling x.0) x.1) (sym more.1) (join bytes (u8_bytes n.0.0) n.0.1 (flat_map spelling x.0) x.1 count more.0)

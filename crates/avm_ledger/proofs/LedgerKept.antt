@@ -25,7 +25,8 @@ use Rattle.avm_ledger.specs.LedgerReader.{tested, Room, local_room, room_of_sche
 use Rattle.avm_ledger.specs.LedgerRules.{IsStateValue, IsStateEntry, IsStateIn, IsApplicationBelow, IsLocalStateBelow, KeepsRules, IsCountable}
 use Rattle.avm_ledger.proofs.Maps.{all_below}
 use Rattle.avm_ledger.proofs.Accounts.{account_total}
-use Rattle.avm_ledger.proofs.FieldsSpelled.{from, same_value, AllBytes, all_bytes, byte_spelled, u32_spelled, address_spelled}
+use Rattle.teal_code.proofs.Bytes.{AllBytes, all_bytes}
+use Rattle.avm_ledger.proofs.FieldsSpelled.{from, same_value, byte_spelled, u32_spelled, address_spelled}
 use Rattle.avm_ledger.proofs.FieldsFit.{u32_fits, u64_fits, address_fits}
 use Rattle.avm_ledger.proofs.LedgerSpelled.{key_spelled, value_spelled, entries_spelled, state_spelled, limited_schema_spelled, program_spelled, stored_spelled, id_spelled, applications_spelled, account_spelled, local_id_spelled, local_states_spelled, next_id_spelled, and_first, if_kept, at_end}
 

@@ -16,7 +16,9 @@ use Rattle.avm_ledger.specs.Schemas.{count_without}
 use Rattle.avm_ledger.specs.Spellings.{u8_bytes, u32_bytes, u64_bytes, short_string_bytes, string_bytes, counted_bytes, value_bytes, entry_bytes, state_bytes, schema_bytes, application_bytes, local_state_bytes, ledger_bytes}
 use Rattle.avm_ledger.specs.FieldReader.{number_at, short_string_at, string_at, address_at, schema_at}
 use Rattle.avm_ledger.specs.LedgerReader.{tested, Room, local_room, room_of_schema, stored_in, key_at, uint_at, bytes_value_at, value_of_kind, value_at, entries_at, state_of_count, state_at, limited_schema_at, program_at, stored_application_at, id_between, applications_at, account_at, local_id_at, local_states_at, next_id_at, ledger_front, alone, ledger_at}
-use Rattle.avm_ledger.proofs.FieldsSpelled.{came, from, same_value, one_more, AllBytes, all_bytes, IsSpelled, spelled, join, byte_spelled, u32_spelled, u64_spelled, short_string_spelled, string_spelled, address_spelled, schema_spelled}
+use Rattle.teal_value.proofs.Binding.{bind_ok}
+use Rattle.teal_code.proofs.Bytes.{AllBytes, all_bytes}
+use Rattle.avm_ledger.proofs.FieldsSpelled.{from, same_value, one_more, IsSpelled, spelled, join, byte_spelled, u32_spelled, u64_spelled, short_string_spelled, string_spelled, address_spelled, schema_spelled}
 
 -- a field that keeps its rule
 pub kept : {A : Type 0} (rule : Bool) (x y : A × List ℕ) → tested rule x ≡ Ok y → x ≡ y
@@ -27,7 +29,7 @@ kept false x y e = absurd cc
 
 pub key_spelled : (before : Option (List ℕ)) (bytes : List ℕ) (x : List ℕ × List ℕ) → AllBytes bytes → key_at before bytes ≡ Ok x → IsSpelled bytes (short_string_bytes x.0) x.1
 key_spelled before bytes x all e =
-    let k = came (short_string_at Truncated bytes) _ x e in
+    let k = bind_ok (short_string_at Truncated bytes) _ x e in
     subst (λ p. IsSpelled bytes (short_string_bytes p.0) p.1) (kept _ k.0 x k.2) (short_string_spelled Truncated bytes k.0 all k.1)
 
 pub and_first : (a b : Bool) → (a && b) ≡ true → a ≡ true
@@ -44,7 +46,7 @@ kind_spelled bytes n left x is e = at_uint (eqb n.0 1 && ltb 0 left.uints) refl 
   where
     uint_value : n.0 ≡ 1 → uint_at n.1 ≡ Ok x → IsSpelled bytes (value_bytes x.0) x.1
     uint_value one e =
-        let m = came (number_at Truncated w64 n.1) _ x e in
+        let m = bind_ok (number_at Truncated w64 n.1) _ x e in
         let word = u64_spelled Truncated n.1 m.0 is.rest_are_bytes m.1 in
         let same : ◌≡◌ {A = Value × List ℕ} (Uint m.0.0, m.0.1) x = same_value _ _ m.2 in
         let kind : IsSpelled bytes (1 ∷ []) n.1 = subst (λ k. IsSpelled bytes (u8_bytes k) n.1) one is in
@@ -52,7 +54,7 @@ kind_spelled bytes n left x is e = at_uint (eqb n.0 1 && ltb 0 left.uints) refl 
 
     bytes_value : n.0 ≡ 2 → bytes_value_at n.1 ≡ Ok x → IsSpelled bytes (value_bytes x.0) x.1
     bytes_value two e =
-        let m = came (short_string_at Truncated n.1) _ x e in
+        let m = bind_ok (short_string_at Truncated n.1) _ x e in
         let string = short_string_spelled Truncated n.1 m.0 is.rest_are_bytes m.1 in
         let same : ◌≡◌ {A = Value × List ℕ} (Bytes m.0.0, m.0.1) x = kept _ _ x m.2 in
         let kind : IsSpelled bytes (2 ∷ []) n.1 = subst (λ k. IsSpelled bytes (u8_bytes k) n.1) two is in
@@ -68,7 +70,7 @@ kind_spelled bytes n left x is e = at_uint (eqb n.0 1 && ltb 0 left.uints) refl 
 
 pub value_spelled : (left : Schema) (bytes : List ℕ) (x : Value × List ℕ) → AllBytes bytes → value_at left bytes ≡ Ok x → IsSpelled bytes (value_bytes x.0) x.1
 value_spelled left bytes x all e =
-    let n = came (number_at Truncated w8 bytes) (value_of_kind left) x e in
+    let n = bind_ok (number_at Truncated w8 bytes) (value_of_kind left) x e in
     kind_spelled bytes n.0 left x (byte_spelled Truncated bytes n.0 all n.1) n.2
 
 pub entries_spelled : (n : ℕ) (before : Option (List ℕ)) (left : Schema) (bytes : List ℕ) (x : Entries × List ℕ) → AllBytes bytes → entries_at n before left bytes ≡ Ok x
@@ -91,7 +93,7 @@ entries_spelled (suc n) before left bytes x all e =
 
 pub state_spelled : (room : Room) (bytes : List ℕ) (x : Entries × List ℕ) → AllBytes bytes → state_at room bytes ≡ Ok x → IsSpelled bytes (state_bytes x.0) x.1
 state_spelled room bytes x all e =
-    let n = came (number_at Truncated w8 bytes) (state_of_count room) x e in
+    let n = bind_ok (number_at Truncated w8 bytes) (state_of_count room) x e in
     let count = byte_spelled Truncated bytes n.0 all n.1 in
     let more = entries_spelled n.0.0 None room.kinds n.0.1 x count.rest_are_bytes (if_kept _ _ _ x n.2) in
     subst (λ m. IsSpelled bytes (u8_bytes m ++ flat_map entry_bytes x.0) x.1) (sym more.1) (join bytes (u8_bytes n.0.0) n.0.1 (flat_map entry_bytes x.0) x.1 count more.0)
@@ -100,12 +102,12 @@ state_spelled room bytes x all e =
 
 pub limited_schema_spelled : (most : ℕ) (bytes : List ℕ) (x : Schema × List ℕ) → AllBytes bytes → limited_schema_at most bytes ≡ Ok x → IsSpelled bytes (schema_bytes x.0) x.1
 limited_schema_spelled most bytes x all e =
-    let s = came (schema_at Truncated bytes) _ x e in
+    let s = bind_ok (schema_at Truncated bytes) _ x e in
     subst (λ p. IsSpelled bytes (schema_bytes p.0) p.1) (kept _ s.0 x s.2) (schema_spelled Truncated bytes s.0 all s.1)
 
 pub program_spelled : (bytes : List ℕ) (x : List ℕ × List ℕ) → AllBytes bytes → program_at bytes ≡ Ok x → IsSpelled bytes (string_bytes x.0) x.1
 program_spelled bytes x all e =
-    let p = came (string_at Truncated bytes) _ x e in
+    let p = bind_ok (string_at Truncated bytes) _ x e in
     subst (λ q. IsSpelled bytes (string_bytes q.0) q.1) (kept _ p.0 x p.2) (string_spelled Truncated bytes p.0 all p.1)
 
 pub stored_bytes : StoredApplication → List ℕ
@@ -138,7 +140,7 @@ stored_spelled bytes x all e =
 
 pub id_spelled : (before next : ℕ) (bytes : List ℕ) (x : ℕ × List ℕ) → AllBytes bytes → id_between before next bytes ≡ Ok x → IsSpelled bytes (u64_bytes x.0) x.1
 id_spelled before next bytes x all e =
-    let n = came (number_at Truncated w64 bytes) _ x e in
+    let n = bind_ok (number_at Truncated w64 bytes) _ x e in
     subst (λ p. IsSpelled bytes (u64_bytes p.0) p.1) (kept _ n.0 x n.2) (u64_spelled Truncated bytes n.0 all n.1)
 
 pub applications_spelled : (n before next : ℕ) (bytes : List ℕ) (x : List (ℕ × StoredApplication) × List ℕ) → AllBytes bytes → applications_at n before next bytes ≡ Ok x
@@ -164,12 +166,12 @@ applications_spelled (suc n) before next bytes x all e =
 
 pub account_spelled : (before : Option (Address × ℕ)) (bytes : List ℕ) (x : Address × List ℕ) → AllBytes bytes → account_at before bytes ≡ Ok x → IsSpelled bytes x.0.0 x.1
 account_spelled before bytes x all e =
-    let a = came (address_at Truncated bytes) _ x e in
+    let a = bind_ok (address_at Truncated bytes) _ x e in
     subst (λ p. IsSpelled bytes p.0.0 p.1) (kept _ a.0 x a.2) (address_spelled Truncated bytes a.0 all a.1)
 
 pub local_id_spelled : (before : Option (Address × ℕ)) (next : ℕ) (who : Address) (bytes : List ℕ) (x : ℕ × List ℕ) → AllBytes bytes → local_id_at before next who bytes ≡ Ok x → IsSpelled bytes (u64_bytes x.0) x.1
 local_id_spelled before next who bytes x all e =
-    let i = came (id_between 0 next bytes) _ x e in
+    let i = bind_ok (id_between 0 next bytes) _ x e in
     subst (λ p. IsSpelled bytes (u64_bytes p.0) p.1) (kept _ i.0 x i.2) (id_spelled 0 next bytes i.0 all i.1)
 
 pub local_states_spelled : (n : ℕ) (before : Option (Address × ℕ)) (next : ℕ) (apps : List (ℕ × StoredApplication)) (bytes : List ℕ) (x : List ((Address × ℕ) × Entries) × List ℕ) → AllBytes bytes → local_states_at n before next apps bytes ≡ Ok x
@@ -196,7 +198,7 @@ local_states_spelled (suc n) before next apps bytes x all e =
 
 pub next_id_spelled : (bytes : List ℕ) (x : ℕ × List ℕ) → AllBytes bytes → next_id_at bytes ≡ Ok x → IsSpelled bytes (u64_bytes x.0) x.1
 next_id_spelled bytes x all e =
-    let n = came (number_at Truncated w64 bytes) _ x e in
+    let n = bind_ok (number_at Truncated w64 bytes) _ x e in
     subst (λ p. IsSpelled bytes (u64_bytes p.0) p.1) (kept _ n.0 x n.2) (u64_spelled Truncated bytes n.0 all n.1)
 
 -- a count, and so many
@@ -231,7 +233,7 @@ at_end l m rest false test e = absurd cc
 
 pub ledger_spelled : (bytes : List ℕ) (l : Ledger) → All (λ b. b < 256) bytes → ledger_at bytes ≡ Ok l → ledger_bytes l ≡ bytes
 ledger_spelled bytes l all e =
-    let f = came (ledger_front bytes) alone l e in
+    let f = bind_ok (ledger_front bytes) alone l e in
     let front = front_spelled bytes f.0 (all_bytes bytes all) f.1 in
     let end = at_end l f.0.0 f.0.1 (eqb (length f.0.1) 0) refl f.2 in
     sym (front.same ∙ ap (λ rest. ledger_bytes f.0.0 ++ rest) end.1 ∙ append-nil (ledger_bytes f.0.0) ∙ ap ledger_bytes end.0)
