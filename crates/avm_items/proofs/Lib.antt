@@ -1,3 +1,4 @@
 pub mod Questions
 pub mod Counting
 pub mod Puts
+pub mod Orders

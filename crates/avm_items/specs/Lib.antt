@@ -8,3 +8,4 @@ pub mod Counting
 pub mod CallSpelling
 pub mod LedgerItems
 pub mod PutLaws
+pub mod Environments

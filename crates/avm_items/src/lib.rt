@@ -4,10 +4,14 @@
 #![tactic(auto)]
 
 mod call_data;
+mod env;
 mod item;
+mod item_map;
 mod item_value;
 pub mod laws;
 
 pub use call_data::{Addresses, CallData, Completion};
+pub use env::Env;
 pub use item::Item;
+pub use item_map::ItemMap;
 pub use item_value::ItemValue;
