@@ -1,14 +1,18 @@
-//! The plain types of a ledger: applications, their schemas, states, and what a block tells its programs. What a ledger
+//! Ledgers: applications, their schemas, states, and what a block tells its programs. What a ledger
 //! is stands in `specs/Ledgers.antt`, states as finite maps in `specs/Entries.antt`.
 #![tactic(auto)]
 
 mod application;
 mod header;
+mod ids_end;
 pub mod laws;
+mod ledger;
 mod schema;
 mod state;
 
-pub use application::Application;
+pub use application::{Application, StoredApplication};
 pub use header::{Header, Profile};
+pub use ids_end::IdsEnd;
+pub use ledger::Ledger;
 pub use schema::Schema;
 pub use state::State;

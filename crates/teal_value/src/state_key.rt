@@ -8,6 +8,7 @@ ghost use Rattle.std.specs.Cmp.Rules.{comparing};
 ghost use Rattle.std.specs.Ordering.{nat_cmp, as_partial_cmp};
 
 use arrayvec::ArrayVec;
+use std::alloc::AllocError;
 use std::cmp::Ordering;
 use std::marker::Model;
 
@@ -65,6 +66,14 @@ impl StateKey {
         StateKey {
             bytes: kept(self.as_slice()),
         }
+    }
+}
+
+impl Clone for StateKey {
+    ghost is_clone = { λ key copy. copy ≡ key };
+
+    fn clone(&self) -> Result<StateKey, AllocError> {
+        Ok(self.copied())
     }
 }
 
