@@ -2,3 +2,4 @@ pub mod Questions
 pub mod Counting
 pub mod Puts
 pub mod Orders
+pub mod CallBack
