@@ -8,8 +8,8 @@ ghost use Rattle.avm_node.specs.Shown.{shown};
 use crate::asm::{asm_reply, input_refusal};
 use crate::command_line::{NodeCommand, command_in};
 use crate::input::{INPUT_LIMIT, read_input};
-use crate::programs::{check_reply, dis_reply};
 use crate::output::{FAILED, Reply, USAGE, write_reply};
+use crate::programs::{check_reply, dis_reply};
 use std::alloc::{AllocError, Global};
 use std::io::{self, Read, Write};
 
