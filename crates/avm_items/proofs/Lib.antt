@@ -1,6 +1,7 @@
 pub mod Questions
 pub mod Counting
 pub mod Puts
+pub mod Orders
 pub mod CallBack
 pub mod CallSpelled
 pub mod RulesKept

@@ -16,11 +16,12 @@ use Rattle.teal_value.specs.declared.value.Value.TheVariants.{Uint, Bytes}
 use Rattle.avm_ledger.specs.declared.application.Application.{Application}
 use Rattle.avm_ledger.specs.declared.schema.Schema.{Schema}
 use Rattle.avm_ledger.specs.Entries.{Entries, byte_cmp, value_of_key, with_entry, without_entry}
-use Rattle.avm_ledger.specs.Ledgers.{StoredApplication, Ledger, account_cmp, application_at, with_application, without_application, with_local_state, without_local_state, empty_ledger}
+use Rattle.avm_ledger.specs.declared.application.StoredApplication.{StoredApplication}
+use Rattle.avm_ledger.specs.Ledgers.{Ledger, account_cmp, application_at, with_application, without_application, with_local_state, without_local_state, with_row, with_state, empty_ledger}
 use Rattle.avm_ledger.specs.Schemas.{counts_in, uncounted, counts_after, is_within}
 use Rattle.avm_ledger.specs.LedgerReader.{local_room, room_of_schema, stored_in}
 use Rattle.avm_ledger.specs.LedgerRules.{IsStateValue, IsStateEntry, IsStateIn, IsApplicationBelow, IsLocalStateBelow, KeepsRules}
-use Rattle.avm_ledger.proofs.Accounts.{account_total}
+use Rattle.avm_ledger.proofs.Changes.{account_total}
 use Rattle.avm_ledger.proofs.Maps.{is_Equal, lookup-inserted, lookup-inserted_other, lookup-removed, lookup-removed_other, sorted-inserted, sorted-removed}
 use Rattle.avm_ledger.proofs.Counts.{follow_puts, follow_deletes}
 use Rattle.avm_items.specs.declared.item.Item.{Item}
@@ -28,7 +29,7 @@ use Rattle.avm_items.specs.declared.item.Item.TheVariants as item
 use Rattle.avm_items.specs.declared.item_value.ItemValue.{ItemValue}
 use Rattle.avm_items.specs.declared.item_value.ItemValue.TheVariants as value
 use Rattle.avm_items.specs.Items.{ItemMap}
-use Rattle.avm_items.specs.LedgerItems.{with_row, with_state, put_one, put}
+use Rattle.avm_items.specs.LedgerItems.{put_one, put}
 use Rattle.avm_items.specs.RuleLaws.{IsRowFor, MayKeep, MayKeepAll}
 use Rattle.avm_items.proofs.Puts.{byte_same, account_same}
 
@@ -133,9 +134,6 @@ keeps_with_application l id app keeps one states = record {
   local_states = both l.local_states keeps.local_states states;
 }
   where
-    apps : List (ℕ × StoredApplication)
-    apps = insert_entry nat_cmp l.applications id app
-
     room : (e : (Address × ℕ) × Entries) (b : Bool) → is_eq (nat_cmp e.0.1 id) ≡ b → (e.0.1 ≡ id → IsStateIn (room_of_schema app.row.local_schema) e.1) → IsStateIn (local_room (stored_in l.applications e.0.1)) e.1
         → IsStateIn (local_room (stored_in (insert_entry nat_cmp l.applications id app) e.0.1)) e.1
     room e true test own other =

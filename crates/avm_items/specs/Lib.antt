@@ -12,3 +12,4 @@ pub mod WorkedCallBytes
 pub mod LedgerItems
 pub mod PutLaws
 pub mod RuleLaws
+pub mod Environments

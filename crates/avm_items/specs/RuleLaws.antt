@@ -3,7 +3,8 @@ use Rattle.std.specs.Prelude.{◌≡◌, ℕ, ◌^◌, ◌<◌, ◌≤◌, true,
 use Rattle.teal_value.specs.declared.value.Value.{Value}
 use Rattle.avm_ledger.specs.declared.application.Application.{Application}
 use Rattle.avm_ledger.specs.Entries.{value_of_key}
-use Rattle.avm_ledger.specs.Ledgers.{StoredApplication, Ledger, application_at, empty_ledger}
+use Rattle.avm_ledger.specs.declared.application.StoredApplication.{StoredApplication}
+use Rattle.avm_ledger.specs.Ledgers.{Ledger, application_at, with_row, empty_ledger}
 use Rattle.avm_ledger.specs.Schemas.{counts_in, counts_after, is_within}
 use Rattle.avm_ledger.specs.LedgerReader.{local_room, room_of_schema}
 use Rattle.avm_ledger.specs.LedgerRules.{IsStateValue, IsStateIn, IsApplicationBelow, KeepsRules}
@@ -12,7 +13,7 @@ use Rattle.avm_items.specs.declared.item.Item.TheVariants as item
 use Rattle.avm_items.specs.declared.item_value.ItemValue.{ItemValue}
 use Rattle.avm_items.specs.declared.item_value.ItemValue.TheVariants as value
 use Rattle.avm_items.specs.Items.{ItemMap}
-use Rattle.avm_items.specs.LedgerItems.{with_row, put_one, put}
+use Rattle.avm_items.specs.LedgerItems.{put_one, put}
 
 -- a row that keeps the rules beside the states that stand: its own global state, and the local states of its id
 pub record IsRowFor (l : Ledger) (id : ℕ) (row : Application) : Type 0 where

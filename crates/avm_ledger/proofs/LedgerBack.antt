@@ -21,7 +21,8 @@ use Rattle.teal_check.specs.declared.fault.CheckFault.{CheckFault}
 use Rattle.avm_ledger.specs.declared.ledger_fault.LedgerFault.TheVariants.{Truncated}
 use Rattle.avm_ledger.specs.declared.schema.Schema.{Schema}
 use Rattle.avm_ledger.specs.Entries.{Entries, byte_cmp}
-use Rattle.avm_ledger.specs.Ledgers.{StoredApplication, Ledger, account_cmp}
+use Rattle.avm_ledger.specs.declared.application.StoredApplication.{StoredApplication}
+use Rattle.avm_ledger.specs.Ledgers.{Ledger, account_cmp}
 use Rattle.avm_ledger.specs.Schemas.{count_with, count_without, counts_in}
 use Rattle.avm_ledger.specs.Spellings.{string_bytes, schema_bytes, counted_bytes, u8_bytes, u16_bytes, u32_bytes, u64_bytes, application_bytes, local_state_bytes, ledger_bytes, value_bytes, entry_bytes, state_bytes}
 use Rattle.avm_ledger.specs.FieldReader.{number_at, short_string_at}

@@ -1,6 +1,6 @@
 pub mod Maps
 pub mod Counts
-pub mod Accounts
+pub mod Changes
 pub mod FieldsBack
 pub mod FieldsSpelled
 pub mod FieldsFit

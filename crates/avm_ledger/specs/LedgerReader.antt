@@ -14,7 +14,8 @@ use Rattle.avm_ledger.specs.declared.ledger_fault.LedgerFault.{LedgerFault}
 use Rattle.avm_ledger.specs.declared.ledger_fault.LedgerFault.TheVariants.{Malformed, Truncated, Rest}
 use Rattle.avm_ledger.specs.declared.schema.Schema.{Schema}
 use Rattle.avm_ledger.specs.Entries.{Entries, byte_cmp}
-use Rattle.avm_ledger.specs.Ledgers.{StoredApplication, Ledger, account_cmp}
+use Rattle.avm_ledger.specs.declared.application.StoredApplication.{StoredApplication}
+use Rattle.avm_ledger.specs.Ledgers.{Ledger, account_cmp}
 use Rattle.avm_ledger.specs.Schemas.{count_without}
 use Rattle.avm_ledger.specs.FieldReader.{Front, number_at, short_string_at, string_at, address_at, schema_at}
 

@@ -7,8 +7,9 @@ use Rattle.teal_value.specs.declared.address.Address.{Address}
 use Rattle.teal_value.specs.declared.value.Value.{Value}
 use Rattle.teal_value.specs.declared.value.Value.TheVariants.{Uint, Bytes}
 use Rattle.teal_check.specs.WellFormed.{checked}
-use Rattle.avm_ledger.specs.Entries.{Entries}
-use Rattle.avm_ledger.specs.Ledgers.{StoredApplication, Ledger, account_cmp, IsInKeyOrder}
+use Rattle.avm_ledger.specs.Entries.{Entries, IsInKeyOrder}
+use Rattle.avm_ledger.specs.declared.application.StoredApplication.{StoredApplication}
+use Rattle.avm_ledger.specs.Ledgers.{Ledger, account_cmp}
 use Rattle.avm_ledger.specs.Schemas.{counts_in}
 use Rattle.avm_ledger.specs.LedgerReader.{Room, room_of_schema, local_room, stored_in}
 

@@ -9,7 +9,8 @@ use Rattle.teal_value.specs.declared.value.Value.TheVariants.{Uint, Bytes}
 use Rattle.avm_ledger.specs.declared.header.Header.{Header}
 use Rattle.avm_ledger.specs.declared.schema.Schema.{Schema}
 use Rattle.avm_ledger.specs.Entries.{Entries}
-use Rattle.avm_ledger.specs.Ledgers.{StoredApplication, Ledger}
+use Rattle.avm_ledger.specs.declared.application.StoredApplication.{StoredApplication}
+use Rattle.avm_ledger.specs.Ledgers.{Ledger}
 
 abbrev pub u8_bytes : ℕ → List ℕ
 u8_bytes n = to_be_bytes w8 n
