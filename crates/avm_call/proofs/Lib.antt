@@ -2,3 +2,4 @@ pub mod Paths
 pub mod Steps
 pub mod LaidOut
 pub mod Asked
+pub mod Unapproved

@@ -4,6 +4,7 @@
 
 pub mod laws;
 mod outcome;
+pub mod rule_laws;
 pub mod worked;
 
 pub use outcome::{Cause, Ended, Outcome, Why};
