@@ -1,3 +1,5 @@
 pub mod Names
 pub mod FieldNames
 pub mod InstructionWords
+pub mod Bytes
+pub mod PlacedInstructions

@@ -1,5 +1,5 @@
 -- Instructions that a listing can name, and what the line of one asks for.
-use Rattle.std.specs.Prelude.{◌≡◌, ℕ, ◌<◌, ◌≤◌, ◌^◌, true, List, [], ◌∷◌}
+use Rattle.std.specs.Prelude.{◌≡◌, ℕ, ◌<◌, ◌≤◌, ◌^◌, true, suc, List, [], ◌∷◌, length, Option, Some, None}
 use Rattle.base64.specs.GeneralPurpose.{IsBytes}
 use Rattle.teal_table.specs.declared.shape.Shape.{Shape}
 use Rattle.teal_table.specs.declared.shape.Shape.TheVariants as shape
@@ -10,7 +10,8 @@ use Rattle.teal_table.specs.Fields.{txn_field_at, global_field_at}
 use Rattle.teal_code.specs.declared.instr.Immediates.{Immediates}
 use Rattle.teal_code.specs.declared.instr.Immediates.TheVariants as is
 use Rattle.teal_code.specs.declared.instr.Instr.{Instr}
-use Rattle.teal_check.specs.WellFormed.{is_scalar, is_array_field, is_global}
+use Rattle.teal_check.specs.declared.program.Placed.{Placed}
+use Rattle.teal_check.specs.WellFormed.{WellFormed, is_scalar, is_array_field, is_global}
 use Rattle.teal_source.specs.declared.command.Command.{Command}
 use Rattle.teal_source.specs.declared.command.Command.TheVariants.{Jump, Plain}
 
@@ -49,3 +50,24 @@ pub record IsOf (version : Version) (i : Instr) : Type 0 where
 abbrev pub command_of : Opcode → List ℕ → Immediates → Command
 command_of o target (is.Offset n) = Jump o target
 command_of o target immediates = Plain o immediates
+
+abbrev pub AreOf : Version → List Placed → Type 0
+AreOf version [] = Unit {0}
+AreOf version (p ∷ ps) = IsOf version p.instr × AreOf version ps
+
+-- the target of an instruction with a number: of a branch an instruction behind it, or the end
+abbrev pub IsAimed : ℕ → ℕ → Immediates → Option ℕ → Type 0
+IsAimed count number (is.Offset n) (Some target) = (number < target) × (target ≤ count)
+IsAimed count number (is.Offset n) None = ⊥
+IsAimed count number _ target = target ≡ None
+
+-- instructions from the one with a number on
+abbrev pub AreAimed : ℕ → ℕ → List Placed → Type 0
+AreAimed count number [] = Unit {0}
+AreAimed count number (p ∷ ps) = IsAimed count number p.instr.immediates p.target × AreAimed count (suc number) ps
+
+-- what the listing of a program rests on
+pub record IsListed (w : WellFormed) : Type 0 where
+  pub instructions : AreOf w.version w.placed
+  pub targets : AreAimed (length w.placed) 0 w.placed
+  pub few : length w.placed ≤ 1024
