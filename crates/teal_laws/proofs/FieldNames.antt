@@ -10,6 +10,7 @@ use Rattle.teal_table.specs.declared.global_fields.GlobalField.{GlobalField}
 use Rattle.teal_table.specs.declared.global_fields.GlobalField.TheVariants as global
 use Rattle.teal_table.specs.Table.{has}
 use Rattle.teal_table.specs.Fields.{txn_number, txn_name, txn_fields, txn_field_at, txn_field_named, is_array, global_number, global_name, global_fields, global_field_at, global_field_named, global_version}
+use Rattle.teal_text.specs.PlainWords.{is_plain_word}
 use Rattle.teal_check.specs.WellFormed.{is_scalar, is_array_field, is_global}
 use Rattle.teal_dis.specs.Listing.{txn_field, txn_word, global_word}
 use Rattle.teal_source.specs.declared.fault.AsmFaultKind.TheVariants.{Operands}
@@ -91,3 +92,48 @@ global_back version n known = elim (global_field_at n) as (λ o. global_field_at
   | None ↦ λ e k. absurd cc
   | Some f ↦ λ e k. rw (global_named f, k) (ap (λ m. Ok m) (global_at n f e))
 ] refl known
+
+txn_is_plain : (f : TxnField) → is_plain_word (txn_name f) ≡ true
+txn_is_plain txn.Sender = refl
+txn_is_plain txn.Fee = refl
+txn_is_plain txn.FirstValid = refl
+txn_is_plain txn.FirstValidTime = refl
+txn_is_plain txn.LastValid = refl
+txn_is_plain txn.Note = refl
+txn_is_plain txn.Lease = refl
+txn_is_plain txn.Receiver = refl
+txn_is_plain txn.Amount = refl
+txn_is_plain txn.CloseRemainderTo = refl
+txn_is_plain txn.Type = refl
+txn_is_plain txn.TypeEnum = refl
+txn_is_plain txn.GroupIndex = refl
+txn_is_plain txn.ApplicationId = refl
+txn_is_plain txn.OnCompletion = refl
+txn_is_plain txn.ApplicationArgs = refl
+txn_is_plain txn.NumAppArgs = refl
+txn_is_plain txn.Accounts = refl
+txn_is_plain txn.NumAccounts = refl
+txn_is_plain txn.ApprovalProgram = refl
+txn_is_plain txn.ClearStateProgram = refl
+txn_is_plain txn.RekeyTo = refl
+
+global_is_plain : (f : GlobalField) → is_plain_word (global_name f) ≡ true
+global_is_plain global.MinTxnFee = refl
+global_is_plain global.MinBalance = refl
+global_is_plain global.MaxTxnLife = refl
+global_is_plain global.ZeroAddress = refl
+global_is_plain global.GroupSize = refl
+global_is_plain global.LogicSigVersion = refl
+global_is_plain global.Round = refl
+global_is_plain global.LatestTimestamp = refl
+global_is_plain global.CurrentApplicationId = refl
+global_is_plain global.CreatorAddress = refl
+
+pub scalar_is_plain : (n : ℕ) → is_scalar (txn_field_at n) ≡ true → is_plain_word (txn_field n) ≡ true
+scalar_is_plain n known = elim (txn_field_at n) as (λ o. is_scalar o ≡ true → is_plain_word (txn_word n o) ≡ true) [ | None ↦ λ k. absurd cc | Some f ↦ λ k. txn_is_plain f ] known
+
+pub array_is_plain : (n : ℕ) → is_array_field (txn_field_at n) ≡ true → is_plain_word (txn_field n) ≡ true
+array_is_plain n known = elim (txn_field_at n) as (λ o. is_array_field o ≡ true → is_plain_word (txn_word n o) ≡ true) [ | None ↦ λ k. absurd cc | Some f ↦ λ k. txn_is_plain f ] known
+
+pub global_word_is_plain : (version : Version) (n : ℕ) → is_global version (global_field_at n) ≡ true → is_plain_word (global_word n (global_field_at n)) ≡ true
+global_word_is_plain version n known = elim (global_field_at n) as (λ o. is_global version o ≡ true → is_plain_word (global_word n o) ≡ true) [ | None ↦ λ k. absurd cc | Some f ↦ λ k. global_is_plain f ] known

@@ -3,3 +3,5 @@ pub mod FieldNames
 pub mod InstructionWords
 pub mod Bytes
 pub mod PlacedInstructions
+pub mod PlainListing
+pub mod Labels

@@ -244,7 +244,8 @@ all_aimed starts end number version (p ∷ ps) qs r h are e =
     let same : record p { target = t } ∷ rs ≡ qs = cc in
     let here = aimed starts end number p.place p.next p.instr.immediates t r h.0 h.1 h.2 first in
     let later = all_aimed starts end (suc number) version ps rs r h.3 are.1 rest in
-    subst (λ ss. AreAimed (length starts) number ss × AreOf version ss) same ((here, later.0), (are.0, later.1))
+    let next : suc number ≡ number + 1 = omega arith in
+    subst (λ ss. AreAimed (length starts) number ss × AreOf version ss) same ((here, subst (λ k. AreAimed (length starts) k rs) next later.0), (are.0, later.1))
 
 -- ---- the program
 

@@ -1,5 +1,5 @@
 -- Instructions that a listing can name, and what the line of one asks for.
-use Rattle.std.specs.Prelude.{◌≡◌, ℕ, ◌<◌, ◌≤◌, ◌^◌, true, suc, List, [], ◌∷◌, length, Option, Some, None}
+use Rattle.std.specs.Prelude.{◌≡◌, ℕ, ◌+◌, ◌<◌, ◌≤◌, ◌^◌, true, List, [], ◌∷◌, length, Option, Some, None}
 use Rattle.base64.specs.GeneralPurpose.{IsBytes}
 use Rattle.teal_table.specs.declared.shape.Shape.{Shape}
 use Rattle.teal_table.specs.declared.shape.Shape.TheVariants as shape
@@ -64,7 +64,7 @@ IsAimed count number _ target = target ≡ None
 -- instructions from the one with a number on
 abbrev pub AreAimed : ℕ → ℕ → List Placed → Type 0
 AreAimed count number [] = Unit {0}
-AreAimed count number (p ∷ ps) = IsAimed count number p.instr.immediates p.target × AreAimed count (suc number) ps
+AreAimed count number (p ∷ ps) = IsAimed count number p.instr.immediates p.target × AreAimed count (number + 1) ps
 
 -- what the listing of a program rests on
 pub record IsListed (w : WellFormed) : Type 0 where
