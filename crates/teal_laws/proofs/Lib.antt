@@ -5,3 +5,4 @@ pub mod Bytes
 pub mod PlacedInstructions
 pub mod PlainListing
 pub mod Labels
+pub mod ListedStatements
