@@ -1,7 +1,6 @@
 -- Values read from bytes are in their range.
-use Rattle.std.proofs.Common.{◌≡◌, ◌∙◌, refl, sym, ap, subst, ℕ, zero, suc, ◌-◌, ◌<◌, ◌≤◌, ◌^◌, true, false, ltb, List, [], ◌∷◌, length, take, drop, get_or, Ok, inl, inr, arith}
+use Rattle.std.proofs.Common.{◌≡◌, subst, ℕ, zero, suc, ◌<◌, ◌≤◌, ◌^◌, ltb, List, [], ◌∷◌, length, take, drop, Ok, inl, inr, arith}
 use Rattle.std.proofs.lemmas.Bool.{ltb-true}
-use Rattle.std.proofs.lemmas.Bool.Decides.{nat_tests}
 use Rattle.base64.specs.GeneralPurpose.{IsBytes}
 use Rattle.teal_value.proofs.Binding.{bind_ok, chosen}
 use Rattle.teal_code.specs.Reader.{byte_at, digits_at, varuint_at, string_at, many_at, counted_at}

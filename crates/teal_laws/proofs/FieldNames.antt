@@ -1,5 +1,5 @@
 -- Fields by the names in source text.
-use Rattle.std.proofs.Common.{◌≡◌, refl, sym, ap, ℕ, Bool, true, false, cond, List, [], ◌∷◌, Option, Some, None, Ok, Err, eqb, not, inl, inr, ◌∙◌}
+use Rattle.std.proofs.Common.{◌≡◌, refl, sym, ap, ℕ, Bool, true, false, cond, List, [], ◌∷◌, Some, None, Ok, Err, eqb, not, inl, inr, ◌∙◌}
 use Rattle.std.specs.Prelude.{find}
 use Rattle.std.proofs.lemmas.Bool.{eqb-true}
 use Rattle.teal_value.proofs.Binding.{chosen}
@@ -8,13 +8,12 @@ use Rattle.teal_table.specs.declared.txn_fields.TxnField.{TxnField}
 use Rattle.teal_table.specs.declared.txn_fields.TxnField.TheVariants as txn
 use Rattle.teal_table.specs.declared.global_fields.GlobalField.{GlobalField}
 use Rattle.teal_table.specs.declared.global_fields.GlobalField.TheVariants as global
-use Rattle.teal_table.specs.Table.{has}
-use Rattle.teal_table.specs.Fields.{txn_number, txn_name, txn_fields, txn_field_at, txn_field_named, is_array, global_number, global_name, global_fields, global_field_at, global_field_named, global_version}
+use Rattle.teal_table.specs.Fields.{txn_number, txn_name, txn_fields, txn_field_at, txn_field_named, is_array, global_number, global_name, global_fields, global_field_at, global_field_named}
 use Rattle.teal_text.specs.PlainWords.{is_plain_word}
 use Rattle.teal_check.specs.WellFormed.{is_scalar, is_array_field, is_global}
 use Rattle.teal_dis.specs.Listing.{txn_field, txn_word, global_word}
 use Rattle.teal_source.specs.declared.fault.AsmFaultKind.TheVariants.{Operands}
-use Rattle.teal_source.specs.Operands.{txn_field_value, txn_field_number, global_field_value, global_field_number}
+use Rattle.teal_source.specs.Operands.{txn_field_value, txn_field_number, global_field_value}
 use Rattle.teal_source.specs.Commands.{Asked, scalar, array, passes_as_scalar, passes_as_array}
 
 txn_named : (f : TxnField) → txn_field_named (txn_name f) ≡ Some f
@@ -79,7 +78,7 @@ scalar_back n known = elim (txn_field_at n) as (λ o. txn_field_at n ≡ o → i
   | Some f ↦ λ e k. (rw (txn_named f) (passes f k), rw (txn_named f) (ap (λ m. Ok m) (txn_at n f e)))
 ] refl known where
   passes : (f : TxnField) → is_scalar (Some f) ≡ true → passes_as_scalar (Some f) ≡ Ok tt
-  passes f k = elim (is_array f) as (λ b. not b ≡ true → cond {A = Asked (Unit {0})} b (Err Operands) (Ok tt) ≡ Ok tt) [ | true ↦ λ h. absurd cc | false ↦ λ h. refl ] k
+  passes f k = elim (is_array f) as (λ b. not b ≡ true → cond {A = Asked (Unit {0})} b (Err Operands) (Ok tt) ≡ Ok tt) [ true ↦ λ h. absurd cc | false ↦ λ h. refl ] k
 
 pub array_back : (n : ℕ) → is_array_field (txn_field_at n) ≡ true → (array (txn_field n) ≡ Ok tt) × (txn_field_value (txn_field n) ≡ Ok n)
 array_back n known = elim (txn_field_at n) as (λ o. txn_field_at n ≡ o → is_array_field o ≡ true → (passes_as_array (txn_field_named (txn_word n o)) ≡ Ok tt) × (txn_field_number (txn_field_named (txn_word n o)) ≡ Ok n)) [
@@ -130,10 +129,10 @@ global_is_plain global.CurrentApplicationId = refl
 global_is_plain global.CreatorAddress = refl
 
 pub scalar_is_plain : (n : ℕ) → is_scalar (txn_field_at n) ≡ true → is_plain_word (txn_field n) ≡ true
-scalar_is_plain n known = elim (txn_field_at n) as (λ o. is_scalar o ≡ true → is_plain_word (txn_word n o) ≡ true) [ | None ↦ λ k. absurd cc | Some f ↦ λ k. txn_is_plain f ] known
+scalar_is_plain n known = elim (txn_field_at n) as (λ o. is_scalar o ≡ true → is_plain_word (txn_word n o) ≡ true) [ None ↦ λ k. absurd cc | Some f ↦ λ k. txn_is_plain f ] known
 
 pub array_is_plain : (n : ℕ) → is_array_field (txn_field_at n) ≡ true → is_plain_word (txn_field n) ≡ true
-array_is_plain n known = elim (txn_field_at n) as (λ o. is_array_field o ≡ true → is_plain_word (txn_word n o) ≡ true) [ | None ↦ λ k. absurd cc | Some f ↦ λ k. txn_is_plain f ] known
+array_is_plain n known = elim (txn_field_at n) as (λ o. is_array_field o ≡ true → is_plain_word (txn_word n o) ≡ true) [ None ↦ λ k. absurd cc | Some f ↦ λ k. txn_is_plain f ] known
 
 pub global_word_is_plain : (version : Version) (n : ℕ) → is_global version (global_field_at n) ≡ true → is_plain_word (global_word n (global_field_at n)) ≡ true
-global_word_is_plain version n known = elim (global_field_at n) as (λ o. is_global version o ≡ true → is_plain_word (global_word n o) ≡ true) [ | None ↦ λ k. absurd cc | Some f ↦ λ k. global_is_plain f ] known
+global_word_is_plain version n known = elim (global_field_at n) as (λ o. is_global version o ≡ true → is_plain_word (global_word n o) ≡ true) [ None ↦ λ k. absurd cc | Some f ↦ λ k. global_is_plain f ] known

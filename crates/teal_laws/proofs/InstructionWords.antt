@@ -1,19 +1,15 @@
 -- The words of an instruction's line ask for the instruction.
-use Rattle.std.proofs.Common.{◌≡◌, ◌∙◌, refl, sym, ap, subst, ℕ, ◌<◌, ◌≤◌, ◌^◌, true, false, leb, List, [], ◌∷◌, ◌++◌, map, codes, Some, None, Ok, arith}
-use Rattle.std.specs.Prelude.{decimal, nat_le, nat_lt}
+use Rattle.std.proofs.Common.{◌≡◌, ◌∙◌, refl, ℕ, ◌<◌, ◌≤◌, ◌^◌, true, false, List, [], ◌∷◌, map, None, Ok, arith}
+use Rattle.std.specs.Prelude.{decimal, nat_le}
 use Rattle.std.proofs.lemmas.Bool.Decides.{nat_tests}
 use Rattle.base64.specs.GeneralPurpose.{IsBytes}
-use Rattle.hex.specs.Hex.{encode_lower}
-use Rattle.teal_value.specs.Answer.{◌>>=◌}
 use Rattle.teal_table.specs.declared.shape.Shape.{Shape}
-use Rattle.teal_table.specs.declared.shape.Shape.TheVariants as shape
 use Rattle.teal_table.specs.declared.shape.Version.{Version}
 use Rattle.teal_table.specs.declared.opcode.Opcode.{Opcode}
 use Rattle.teal_table.specs.Table.{row_of, name_of}
 use Rattle.teal_code.specs.declared.instr.Immediates.{Immediates}
-use Rattle.teal_code.specs.declared.instr.Immediates.TheVariants as is
 use Rattle.teal_code.specs.declared.instr.Instr.{Instr}
-use Rattle.teal_text.specs.Literals.{names_encoding, token_bytes}
+use Rattle.teal_text.specs.Literals.{names_encoding}
 use Rattle.teal_text.proofs.ReadBack.{decimal_back, hexadecimal_back}
 use Rattle.teal_dis.specs.Listing.{constant, operands}
 use Rattle.teal_source.specs.Operands.{byte_number, any_number, literals_in, literal_value}

@@ -1,14 +1,13 @@
 -- The labels of a listing differ, and each is found where it stands.
-use Rattle.std.proofs.Common.{◌≡◌, ◌∙◌, refl, sym, ap, subst, ℕ, zero, suc, ◌+◌, ◌^◌, ◌<◌, ◌≤◌, Bool, true, false, ◌||◌, eqb, List, [], ◌∷◌, ◌++◌, length, drop, codes, Option, Some, None, inl, inr, arith}
+use Rattle.std.proofs.Common.{◌≡◌, ◌∙◌, refl, sym, ap, ℕ, zero, suc, ◌+◌, ◌^◌, ◌<◌, ◌≤◌, true, false, List, drop, Some, inl, inr, arith}
 use Rattle.std.specs.Prelude.{decimal, if◌then◌else◌}
-use Rattle.std.specs.List.{list_any}
 use Rattle.std.specs.Str.{bytes_eq}
-use Rattle.std.proofs.lemmas.Bool.{cases_lt, eqb-true}
+use Rattle.std.proofs.lemmas.Bool.{cases_lt}
 use Rattle.std.proofs.lemmas.Slice.Eq.{bytes_eq-Decides}
 use Rattle.teal_text.specs.Numbers.{number_of}
 use Rattle.teal_text.proofs.ReadBack.{decimal_back}
 use Rattle.teal_check.specs.declared.program.Placed.{Placed}
-use Rattle.teal_dis.specs.Listing.{Word, is_target, targets_before, label_of}
+use Rattle.teal_dis.specs.Listing.{is_target, targets_before, label_of}
 use Rattle.teal_laws.proofs.PlainListing.{few_targets}
 
 pub more_targets : (placed : List Placed) (m n : ℕ) → m < n → is_target placed m ≡ true → targets_before placed m < targets_before placed n
@@ -18,7 +17,7 @@ more_targets placed m (suc n) lt t =
     elim (cases_lt m n) [
       | inl less ↦
           let earlier = more_targets placed m n less t in
-          elim (is_target placed n) as (λ b. targets_before placed m < targets_before placed n + (if b then 1 else 0)) [ | true ↦ omega (arith, earlier) | false ↦ omega (arith, earlier) ]
+          elim (is_target placed n) as (λ b. targets_before placed m < targets_before placed n + (if b then 1 else 0)) [ true ↦ omega (arith, earlier) | false ↦ omega (arith, earlier) ]
       | inr le ↦
           let same : m ≡ n = omega arith in
           let here : is_target placed n ≡ true = ap (is_target placed) (sym same) ∙ t in

@@ -6,3 +6,5 @@ pub mod PlacedInstructions
 pub mod PlainListing
 pub mod Labels
 pub mod ListedStatements
+pub mod ListedInstructions
+pub mod ListingMeaning

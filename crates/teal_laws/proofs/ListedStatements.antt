@@ -1,27 +1,21 @@
 -- The lines of a listing as statements.
-use Rattle.std.proofs.Common.{◌≡◌, ◌∙◌, refl, sym, ap, subst, ℕ, zero, suc, ◌+◌, ◌-◌, ◌<◌, ◌≤◌, Bool, true, false, ◌&&◌, ◌||◌, cond, eqb, ltb, List, [], ◌∷◌, ◌++◌, length, length-append, take, map, get_or, codes, append_assoc, Option, Some, None, Result, Ok, Err, inl, inr, arith}
-use Rattle.std.specs.Prelude.{if◌then◌else◌, slice_index, nat_eq}
-use Rattle.std.specs.List.{list_any, list_all, flat_map}
+use Rattle.std.proofs.Common.{◌≡◌, ◌∙◌, refl, sym, ap, ℕ, ◌+◌, ◌-◌, ◌<◌, ◌≤◌, Bool, true, false, ◌&&◌, ltb, List, [], ◌∷◌, ◌++◌, length, length-append, get_or, codes, append_assoc, Option, Some, None, Ok, arith}
+use Rattle.std.specs.Prelude.{if◌then◌else◌}
+use Rattle.std.specs.List.{list_any, flat_map}
 use Rattle.std.specs.Option.{option_map_or}
 use Rattle.std.specs.Str.{bytes_eq}
 use Rattle.std.proofs.Math.Seq.{take-append_seam}
 use Rattle.std.proofs.lemmas.List.{append-nil}
 use Rattle.std.proofs.lemmas.Bool.Decides.{nat_tests}
-use Rattle.teal_value.specs.Answer.{◌>>=◌}
 use Rattle.teal_table.specs.declared.shape.Version.{Version}
 use Rattle.teal_table.specs.declared.opcode.Opcode.{Opcode}
 use Rattle.teal_table.specs.Table.{row_of, name_of}
 use Rattle.teal_code.specs.declared.instr.Immediates.{Immediates}
 use Rattle.teal_code.specs.declared.instr.Immediates.TheVariants as is
-use Rattle.teal_code.specs.declared.instr.Instr.{Instr}
 use Rattle.teal_check.specs.declared.program.Placed.{Placed}
-use Rattle.teal_dis.specs.Listing.{Word, operands, words_of, is_target, label_of, label_line, target_word, instruction_line, lines_from}
+use Rattle.teal_dis.specs.Listing.{Word, operands, is_target, label_of, target_word, instruction_line, lines_from}
 use Rattle.teal_source.specs.declared.statement.Statement.{Statement}
-use Rattle.teal_source.specs.declared.command.Command.{Command}
-use Rattle.teal_source.specs.declared.fault.AsmFaultKind.{AsmFaultKind}
-use Rattle.teal_source.specs.declared.fault.AsmFault.{AsmFault}
-use Rattle.teal_source.specs.Commands.{command}
-use Rattle.teal_source.specs.Statements.{Words, words_on, on_line, is_pragma, gathered_uint, gathered_string, gathered_uints, gathered_strings, distinct, has_label, mixes_blocks, gathers_too_many, behind, label_name, optional_command, with_label, labelled, statement, statements}
+use Rattle.teal_source.specs.Statements.{Words, words_on, gathered_uint, gathered_string, gathered_uints, gathered_strings, has_label, behind, label_name, statement, statements}
 use Rattle.teal_laws.specs.Listed.{IsOf, AreOf, command_of}
 use Rattle.teal_laws.proofs.InstructionWords.{words_back}
 use Rattle.teal_laws.proofs.Names.{name_is_plain}

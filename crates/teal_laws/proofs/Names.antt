@@ -1,6 +1,5 @@
 -- Opcodes by the names in source text.
-use Rattle.std.proofs.Common.{◌≡◌, refl, List, ℕ, Bool, true, false, get_or, length, ◌-◌, eqb}
-use Rattle.std.specs.Prelude.{if◌then◌else◌}
+use Rattle.std.proofs.Common.{◌≡◌, refl, List, true, false}
 use Rattle.teal_table.specs.declared.shape.Shape.{Shape}
 use Rattle.teal_table.specs.declared.shape.Shape.TheVariants as shape
 use Rattle.teal_table.specs.declared.shape.Version.{Version}

@@ -1,8 +1,8 @@
 -- The instructions of a checked program are of its version, and its branches lead forward.
-use Rattle.std.proofs.Common.{◌≡◌, ◌∙◌, refl, sym, ap, subst, ℕ, zero, suc, ◌+◌, ◌-◌, ◌<◌, ◌≤◌, Bool, true, false, eqb, ltb, List, [], ◌∷◌, length, drop, get_or, Option, Some, None, Result, Ok, Err, inl, inr, arith}
+use Rattle.std.proofs.Common.{◌≡◌, ◌∙◌, refl, sym, ap, subst, ℕ, zero, suc, ◌+◌, ◌-◌, ◌<◌, ◌≤◌, true, eqb, ltb, List, [], ◌∷◌, length, drop, get_or, Option, Some, None, Result, Ok, Err, inl, inr, arith}
 use Rattle.std.specs.Prelude.{is_some, ◌||◌}
 use Rattle.std.specs.Option.{ok_or, option_map}
-use Rattle.std.proofs.lemmas.Bool.{eqb-true, eqb-false, ltb-true, ltb-false, cases_lt}
+use Rattle.std.proofs.lemmas.Bool.{eqb-true, cases_lt}
 use Rattle.base64.specs.GeneralPurpose.{IsBytes}
 use Rattle.teal_value.specs.Answer.{◌>>=◌}
 use Rattle.teal_value.proofs.Binding.{bind_ok, chosen}
@@ -22,7 +22,7 @@ use Rattle.teal_check.specs.declared.fault.CheckFault.{CheckFault}
 use Rattle.teal_check.specs.declared.fault.CheckFault.TheVariants as fault
 use Rattle.teal_check.specs.declared.program.Placed.{Placed}
 use Rattle.teal_check.specs.WellFormed.{WellFormed, on_code, has_field, with_known_field, placed_at, placed_from, places, index_of, number_at, RisesFrom, branch_target, immediates_target, target_of, with_targets, version_at, version_of, cost_of, affordable, checked}
-use Rattle.teal_check.proofs.CheckedPrograms.{IsKept, is_kept, length-places, placed_forward, placed_rises, targets_keep}
+use Rattle.teal_check.proofs.CheckedPrograms.{is_kept, length-places, placed_forward, targets_keep}
 use Rattle.teal_check.proofs.Starts.{rises}
 use Rattle.teal_laws.specs.Listed.{HasShape, nothing, index, txn, stack, global, group, array, stack_array, group_array, bounds, offset, uints, strings, uint, string, IsOf, AreOf, IsAimed, AreAimed, IsListed}
 use Rattle.teal_laws.proofs.Bytes.{AreBytes, are_each, bytes_behind, byte_read, varuint_read, string_read, counted_uints, counted_strings}

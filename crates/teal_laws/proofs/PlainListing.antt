@@ -1,25 +1,22 @@
 -- The words of a listing are plain.
-use Rattle.std.proofs.Common.{◌≡◌, ◌∙◌, refl, sym, ap, subst, ℕ, zero, suc, ◌+◌, ◌*◌, ◌/◌, ◌%◌, ◌^◌, ◌<◌, ◌≤◌, Bool, true, false, not, ◌&&◌, ◌||◌, eqb, ltb, List, [], ◌∷◌, ◌++◌, length, length-append, map, get_or, codes, Option, Some, None, Ok, inl, inr, arith}
-use Rattle.std.specs.Prelude.{decimal, slice_index, if◌then◌else◌}
+use Rattle.std.proofs.Common.{◌≡◌, refl, ℕ, zero, suc, ◌+◌, ◌/◌, ◌%◌, ◌^◌, ◌<◌, ◌≤◌, Bool, true, false, not, ◌&&◌, eqb, ltb, List, [], ◌∷◌, ◌++◌, length, length-append, map, get_or, codes, Option, Some, None, arith}
+use Rattle.std.specs.Prelude.{decimal, if◌then◌else◌}
 use Rattle.std.specs.List.{list_all}
 use Rattle.std.proofs.lemmas.Fmt.{decimal_by_steps}
 use Rattle.std.proofs.lemmas.List.Folds.{list_all-append}
 use Rattle.std.proofs.lemmas.Bool.Decides.{nat_tests}
 use Rattle.hex.specs.Hex.{encode_lower, encode_with, lower_digits}
 use Rattle.teal_table.specs.declared.shape.Shape.{Shape}
-use Rattle.teal_table.specs.declared.shape.Shape.TheVariants as shape
 use Rattle.teal_table.specs.declared.shape.Version.{Version}
 use Rattle.teal_table.specs.declared.shape.Version.TheVariants.{Two, Three}
-use Rattle.teal_table.specs.Table.{row_of, name_of}
 use Rattle.teal_code.specs.declared.instr.Immediates.{Immediates}
 use Rattle.teal_code.specs.declared.instr.Immediates.TheVariants as is
 use Rattle.teal_code.specs.declared.instr.Instr.{Instr}
 use Rattle.teal_check.specs.declared.program.Placed.{Placed}
 use Rattle.teal_check.specs.WellFormed.{WellFormed}
-use Rattle.teal_text.specs.Tokens.{begins_comment}
 use Rattle.teal_text.specs.PlainWords.{is_plain_byte, is_plain_word, is_plain_line, has_comment}
-use Rattle.teal_dis.specs.Listing.{Word, constant, operands, words_of, targets_before, is_target, label_of, label_line, target_word, instruction_line, lines_from, version_digit, pragma_line, listing_lines}
-use Rattle.teal_laws.specs.Listed.{AreUints, AreStrings, HasShape, nothing, index, txn, stack, global, group, array, stack_array, group_array, bounds, offset, uints, strings, uint, string, IsOf, AreOf, IsAimed, AreAimed, IsListed}
+use Rattle.teal_dis.specs.Listing.{constant, operands, words_of, targets_before, is_target, label_of, label_line, target_word, instruction_line, lines_from, pragma_line, listing_lines}
+use Rattle.teal_laws.specs.Listed.{AreUints, HasShape, nothing, index, txn, stack, global, group, array, stack_array, group_array, bounds, offset, uints, strings, uint, string, IsOf, AreOf, IsAimed, AreAimed, IsListed}
 use Rattle.teal_laws.proofs.Names.{name_is_plain}
 use Rattle.teal_laws.proofs.FieldNames.{scalar_is_plain, array_is_plain, global_word_is_plain}
 

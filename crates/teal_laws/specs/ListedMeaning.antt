@@ -1,5 +1,5 @@
 -- What a program means, as a text does: its instructions, branches by the numbers of their targets.
-use Rattle.std.specs.Prelude.{ℕ, List, map, Option, Some, None}
+use Rattle.std.specs.Prelude.{ℕ, map, Option, Some, None}
 use Rattle.teal_table.specs.declared.opcode.Opcode.{Opcode}
 use Rattle.teal_code.specs.declared.instr.Immediates.{Immediates}
 use Rattle.teal_check.specs.declared.program.Placed.{Placed}
