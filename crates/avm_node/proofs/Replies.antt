@@ -2,7 +2,7 @@
 use Rattle.std.proofs.Common.{◌≡◌, ◌∙◌, ap, ◌<◌, ◌≤◌, ◌+◌, ◌++◌, ℕ, List, [], length, Option, Some, None, Result, refl, true, false, nat_lt, IfSome, option_map, take, arith}
 use Rattle.std.specs.Str.{IsUtf8, is_utf8}
 use Rattle.std.proofs.lemmas.Str.{IsUtf8-from_is_utf8, is_utf8-from_IsUtf8}
-use Rattle.teal_asm.specs.declared.fault.AsmFault.{AsmFault}
+use Rattle.teal_source.specs.declared.fault.AsmFault.{AsmFault}
 use Rattle.teal_asm.specs.Program.{assembled}
 use Rattle.avm_node.specs.declared.command_line.NodeCommand.{NodeCommand}
 use Rattle.avm_node.specs.Replies.{input_refusal}

@@ -3,9 +3,9 @@ use Rattle.std.specs.Prelude.{◌≡◌, ◌≢◌, ◌+◌, ℕ, ◌++◌, List
 use Rattle.std.specs.Str.{is_utf8}
 use Rattle.std.specs.Io.KnownBytes.{Appends}
 use Rattle.hex.specs.Hex.{encode_lower}
-use Rattle.teal_asm.specs.declared.fault.AsmFault.{AsmFault}
-use Rattle.teal_asm.specs.declared.fault.AsmFaultKind.{AsmFaultKind}
-use Rattle.teal_asm.specs.declared.fault.AsmFaultKind.TheVariants as kind
+use Rattle.teal_source.specs.declared.fault.AsmFault.{AsmFault}
+use Rattle.teal_source.specs.declared.fault.AsmFaultKind.{AsmFaultKind}
+use Rattle.teal_source.specs.declared.fault.AsmFaultKind.TheVariants as kind
 use Rattle.teal_asm.specs.Program.{assembled}
 use Rattle.avm_node.specs.declared.command_line.NodeCommand.{NodeCommand}
 use Rattle.avm_node.specs.declared.command_line.NodeCommand.TheVariants.{Asm, Check, Dis}

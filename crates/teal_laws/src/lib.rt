@@ -1,0 +1,12 @@
+//! The laws that join the checker, the disassembler and the assembler: what the listing of a program means. Each is the
+//! contract of a function without work.
+//!
+//! `specs/Listed.antt` says what a program's instructions have in common, and `specs/ListedMeaning.antt` what a program
+//! means, in the words in which `teal_asm` says what a text means.
+#![tactic(auto)]
+
+mod laws;
+
+pub use laws::{
+    instruction_words_read_back, listings_mean_their_programs, programs_have_known_instructions,
+};
