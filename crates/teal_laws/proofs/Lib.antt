@@ -10,3 +10,4 @@ pub mod ListedInstructions
 pub mod ListingMeaning
 pub mod Spellings
 pub mod SpelledPrograms
+pub mod AssembledListing

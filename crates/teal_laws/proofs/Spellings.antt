@@ -148,7 +148,7 @@ field_is_known version (string h) = refl
 
 -- ---- no spelling is shorter
 
-front_bytes : (a b : List ℕ) → AreBytes (a ++ b) → AreBytes a × AreBytes b
+pub front_bytes : (a b : List ℕ) → AreBytes (a ++ b) → AreBytes a × AreBytes b
 front_bytes [] b h = (tt, h)
 front_bytes (x ∷ a) b h = let more = front_bytes a b h.1 in ((h.0, more.0), more.1)
 
