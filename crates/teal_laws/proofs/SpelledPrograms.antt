@@ -1,34 +1,26 @@
 -- The program that instructions spell is checked, and has these instructions.
-use Rattle.std.proofs.Common.{◌≡◌, ◌≢◌, ◌∙◌, refl, sym, ap, subst, ℕ, zero, suc, ◌+◌, ◌-◌, ◌^◌, ◌<◌, ◌≤◌, Bool, true, false, ◌||◌, eqb, ltb, cond, List, [], ◌∷◌, ◌++◌, length, length-append, length-drop, take, drop, map, get_or, Option, Some, None, Result, Ok, Err, inl, inr, arith}
-use Rattle.std.specs.Prelude.{if◌then◌else◌, nat_lt, is_some}
-use Rattle.std.specs.Option.{ok_or}
+use Rattle.std.proofs.Common.{◌≡◌, ◌∙◌, refl, sym, ap, ℕ, zero, suc, ◌+◌, ◌-◌, ◌<◌, ◌≤◌, true, false, eqb, ltb, List, [], ◌∷◌, ◌++◌, length, length-append, take, drop, map, get_or, Option, Some, None, Ok, inl, inr, arith}
 use Rattle.std.proofs.Math.Seq.{drop-append_seam}
 use Rattle.std.proofs.lemmas.List.{drop-drop}
 use Rattle.std.proofs.lemmas.Bool.{cases_lt}
 use Rattle.std.proofs.lemmas.Bool.Decides.{nat_tests}
-use Rattle.teal_value.specs.Answer.{◌>>=◌}
-use Rattle.teal_table.specs.declared.shape.Shape.TheVariants as shape
 use Rattle.teal_table.specs.declared.shape.Version.{Version}
 use Rattle.teal_table.specs.declared.shape.Version.TheVariants.{Two, Three}
-use Rattle.teal_table.specs.declared.opcode.Opcode.{Opcode}
-use Rattle.teal_table.specs.Table.{row_of, code_of, has}
-use Rattle.teal_table.specs.LeftOut.{left_out_at}
+use Rattle.teal_table.specs.Table.{code_of}
 use Rattle.teal_code.specs.declared.instr.Immediates.{Immediates}
 use Rattle.teal_code.specs.declared.instr.Immediates.TheVariants as is
 use Rattle.teal_code.specs.declared.instr.Instr.{Instr}
 use Rattle.teal_code.specs.Spelling.{immediates_spelling, instr_spelling}
-use Rattle.teal_code.specs.Grammar.{Reads}
-use Rattle.teal_code.specs.Reader.{read_at, varuint_at}
+use Rattle.teal_code.specs.Reader.{read_at}
 use Rattle.teal_code.proofs.Reading.{is_read}
-use Rattle.teal_check.specs.declared.fault.CheckFault.{CheckFault}
 use Rattle.teal_check.specs.declared.program.Placed.{Placed}
-use Rattle.teal_check.specs.WellFormed.{WellFormed, on_code, has_field, with_known_field, placed_at, placed_from, places, index_of, number_at, RisesFrom, branch_target, immediates_target, target_of, with_targets, version_at, version_of, cost_of, affordable, checked}
+use Rattle.teal_check.specs.WellFormed.{WellFormed, placed_at, placed_from, places, number_at, RisesFrom, branch_target, immediates_target, with_targets, version_at, cost_of, checked}
 use Rattle.teal_check.proofs.CheckedPrograms.{length-places, placed_rises, weaken}
 use Rattle.teal_check.proofs.Starts.{index_of-there}
 use Rattle.teal_asm.specs.Meaning.{Meant, Straight, Branch, Meaning}
 use Rattle.teal_asm.specs.Program.{size, total_size, instruction_spelling, spelling, version_byte, program}
-use Rattle.teal_laws.specs.Listed.{HasShape, IsOf}
-use Rattle.teal_laws.specs.ListedMeaning.{meant_with, meant_of, AreMeant, IsMeant, IsNoOffset}
+use Rattle.teal_laws.specs.Listed.{IsOf}
+use Rattle.teal_laws.specs.ListedMeaning.{meant_of, AreMeant, IsMeant, IsNoOffset}
 use Rattle.teal_laws.proofs.Names.{not_left_out}
 use Rattle.teal_laws.proofs.Spellings.{IsShortOffset, is_spelled, field_is_known}
 

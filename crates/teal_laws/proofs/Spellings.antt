@@ -1,23 +1,20 @@
 -- The shortest spelling of an instruction is one of its spellings, and no other is shorter.
-use Rattle.std.proofs.Common.{◌≡◌, ◌∙◌, refl, sym, ap, subst, ℕ, zero, suc, ◌+◌, ◌-◌, ◌*◌, ◌/◌, ◌%◌, ◌^◌, ◌<◌, ◌≤◌, true, false, ltb, cond, List, [], ◌∷◌, ◌++◌, length, length-append, Some, None, inl, inr, arith}
-use Rattle.std.specs.Prelude.{if◌then◌else◌, nat_lt}
+use Rattle.std.proofs.Common.{◌≡◌, ◌∙◌, refl, ap, subst, ℕ, zero, suc, ◌+◌, ◌*◌, ◌/◌, ◌%◌, ◌^◌, ◌<◌, ◌≤◌, true, false, ltb, cond, List, [], ◌∷◌, ◌++◌, length, length-append, Some, inl, inr, arith}
 use Rattle.std.specs.List.{flat_map}
-use Rattle.std.specs.Int.{w16, to_be_bytes}
 use Rattle.std.proofs.Math.Nat.{pow-suc}
 use Rattle.std.proofs.lemmas.Bool.{le-ltb, lt-ltb, cases_lt}
 use Rattle.teal_table.specs.declared.shape.Shape.{Shape}
-use Rattle.teal_table.specs.declared.shape.Shape.TheVariants as shape
 use Rattle.teal_table.specs.declared.shape.Version.{Version}
-use Rattle.teal_table.specs.Table.{row_of, code_of, opcode_in, has}
+use Rattle.teal_table.specs.Table.{code_of, opcode_in}
 use Rattle.teal_table.proofs.Codes.{opcode_at-code_of}
 use Rattle.teal_code.specs.declared.instr.Immediates.{Immediates}
 use Rattle.teal_code.specs.declared.instr.Immediates.TheVariants as is
 use Rattle.teal_code.specs.declared.instr.Instr.{Instr}
 use Rattle.teal_code.specs.Varuint.{IsBase128, IsVaruint, varuint, varuint_in}
-use Rattle.teal_code.specs.Grammar.{IsString, Each, Counted, AreImmediates, Spells}
+use Rattle.teal_code.specs.Grammar.{IsString, Each, AreImmediates, Spells}
 use Rattle.teal_code.specs.Spelling.{prefixed, immediates_spelling, instr_spelling}
 use Rattle.teal_check.specs.WellFormed.{has_field}
-use Rattle.teal_laws.specs.Listed.{AreUints, AreStrings, HasShape, nothing, index, txn, stack, global, group, array, stack_array, group_array, bounds, offset, uints, strings, uint, string, IsOf}
+use Rattle.teal_laws.specs.Listed.{AreUints, HasShape, nothing, index, txn, stack, global, group, array, stack_array, group_array, bounds, offset, uints, strings, uint, string, IsOf}
 use Rattle.teal_laws.proofs.Bytes.{AreBytes}
 
 -- ---- varuints
@@ -48,7 +45,7 @@ varuint_spelled n lt = let h = in_base128 9 n (omega (arith, lt)) in record { di
 
 varuint_some : (n : ℕ) → 0 < length (varuint n)
 unfolding varuint varuint_in
-varuint_some n = elim (ltb n 128) as (λ b. 0 < length (cond b (n ∷ []) ((n % 128 + 128) ∷ varuint_in 9 (n / 128)))) [ | true ↦ omega arith | false ↦ omega arith ]
+varuint_some n = elim (ltb n 128) as (λ b. 0 < length (cond b (n ∷ []) ((n % 128 + 128) ∷ varuint_in 9 (n / 128)))) [ true ↦ omega arith | false ↦ omega arith ]
 
 shortest : (bytes : List ℕ) (digits n : ℕ) → AreBytes bytes → IsBase128 bytes n → length (varuint_in digits n) ≤ length bytes
 unfolding varuint_in
