@@ -8,3 +8,6 @@ pub mod Labels
 pub mod ListedStatements
 pub mod ListedInstructions
 pub mod ListingMeaning
+pub mod Spellings
+pub mod SpelledPrograms
+pub mod AssembledListing

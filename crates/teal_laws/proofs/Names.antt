@@ -5,10 +5,11 @@ use Rattle.teal_table.specs.declared.shape.Shape.TheVariants as shape
 use Rattle.teal_table.specs.declared.shape.Version.{Version}
 use Rattle.teal_table.specs.declared.opcode.Opcode.{Opcode}
 use Rattle.teal_table.specs.declared.opcode.Opcode.TheVariants as op
-use Rattle.teal_table.specs.Table.{row_of, opcodes, opcode_named, only_in, name_of}
+use Rattle.teal_table.specs.Table.{row_of, opcodes, opcode_named, only_in, code_of, name_of}
 use Rattle.teal_source.specs.Operands.{Word}
 use Rattle.teal_source.specs.Commands.{command, opcode_command}
-use Rattle.std.specs.Prelude.{Some, None}
+use Rattle.std.specs.Prelude.{Some, None, is_some}
+use Rattle.teal_table.specs.LeftOut.{left_out_at}
 use Rattle.teal_text.specs.PlainWords.{is_plain_word}
 use Rattle.teal_source.specs.Statements.{is_pragma, label_name}
 
@@ -256,3 +257,82 @@ name_is_plain op.AppLocalDel = (refl, refl, refl)
 name_is_plain op.AppGlobalDel = (refl, refl, refl)
 name_is_plain op.Pushbytes = (refl, refl, refl)
 name_is_plain op.Pushint = (refl, refl, refl)
+
+pub not_left_out : (o : Opcode) → is_some (left_out_at (code_of o)) ≡ false
+unfolding row_of left_out_at
+not_left_out op.Err = refl
+not_left_out op.Sha256 = refl
+not_left_out op.Sha512_256 = refl
+not_left_out op.Add = refl
+not_left_out op.Subtract = refl
+not_left_out op.Divide = refl
+not_left_out op.Multiply = refl
+not_left_out op.Less = refl
+not_left_out op.Greater = refl
+not_left_out op.LessOrEqual = refl
+not_left_out op.GreaterOrEqual = refl
+not_left_out op.And = refl
+not_left_out op.Or = refl
+not_left_out op.Equal = refl
+not_left_out op.NotEqual = refl
+not_left_out op.Not = refl
+not_left_out op.Len = refl
+not_left_out op.Itob = refl
+not_left_out op.Btoi = refl
+not_left_out op.Remainder = refl
+not_left_out op.BitOr = refl
+not_left_out op.BitAnd = refl
+not_left_out op.BitXor = refl
+not_left_out op.BitNot = refl
+not_left_out op.Mulw = refl
+not_left_out op.Addw = refl
+not_left_out op.Intcblock = refl
+not_left_out op.Intc = refl
+not_left_out op.Intc0 = refl
+not_left_out op.Intc1 = refl
+not_left_out op.Intc2 = refl
+not_left_out op.Intc3 = refl
+not_left_out op.Bytecblock = refl
+not_left_out op.Bytec = refl
+not_left_out op.Bytec0 = refl
+not_left_out op.Bytec1 = refl
+not_left_out op.Bytec2 = refl
+not_left_out op.Bytec3 = refl
+not_left_out op.Txn = refl
+not_left_out op.Global = refl
+not_left_out op.Gtxn = refl
+not_left_out op.Load = refl
+not_left_out op.Store = refl
+not_left_out op.Txna = refl
+not_left_out op.Gtxna = refl
+not_left_out op.Gtxns = refl
+not_left_out op.Gtxnsa = refl
+not_left_out op.Bnz = refl
+not_left_out op.Bz = refl
+not_left_out op.B = refl
+not_left_out op.Return = refl
+not_left_out op.Assert = refl
+not_left_out op.Pop = refl
+not_left_out op.Dup = refl
+not_left_out op.Dup2 = refl
+not_left_out op.Dig = refl
+not_left_out op.Swap = refl
+not_left_out op.Select = refl
+not_left_out op.Concat = refl
+not_left_out op.Substring = refl
+not_left_out op.Substring3 = refl
+not_left_out op.Getbit = refl
+not_left_out op.Setbit = refl
+not_left_out op.Getbyte = refl
+not_left_out op.Setbyte = refl
+not_left_out op.AppOptedIn = refl
+not_left_out op.AppLocalGet = refl
+not_left_out op.AppLocalGetEx = refl
+not_left_out op.AppGlobalGet = refl
+not_left_out op.AppGlobalGetEx = refl
+not_left_out op.AppLocalPut = refl
+not_left_out op.AppGlobalPut = refl
+not_left_out op.AppLocalDel = refl
+not_left_out op.AppGlobalDel = refl
+not_left_out op.Pushbytes = refl
+not_left_out op.Pushint = refl

@@ -111,7 +111,7 @@ instr_read : (version : Version) (bytes : List ℕ) (i : Instr) (rest : List ℕ
 instr_read version [] i rest e h known = absurd cc
 instr_read version (code ∷ bytes) i rest e h known = behind_code version (opcode_in version code) bytes i rest (λ o found. brought version (opcode_at code) o found) e h.1 known
 
-coded_ok : {A : Type 0} (place : ℕ) (r : Result A CodeFault) (x : A) → on_code place r ≡ Ok x → r ≡ Ok x
+pub coded_ok : {A : Type 0} (place : ℕ) (r : Result A CodeFault) (x : A) → on_code place r ≡ Ok x → r ≡ Ok x
 coded_ok place (Ok y) x e = let same : y ≡ x = cc in ap (λ z. Ok z) same
 coded_ok place (Err f) x e = absurd cc
 
@@ -249,7 +249,7 @@ all_aimed starts end number version (p ∷ ps) qs r h are e =
 
 -- ---- the program
 
-afforded : (version : Version) (bytes : List ℕ) (ps : List Placed) (w : WellFormed) → affordable version bytes ps ≡ Ok w → (version ≡ w.version) × (ps ≡ w.placed)
+pub afforded : (version : Version) (bytes : List ℕ) (ps : List Placed) (w : WellFormed) → affordable version bytes ps ≡ Ok w → (version ≡ w.version) × (ps ≡ w.placed)
 afforded version bytes ps w e =
     elim (chosen (ltb 700 (cost_of ps)) _ _ _ e) [
       | inl (more, bad) ↦ absurd cc
@@ -258,7 +258,7 @@ afforded version bytes ps w e =
           (ap (λ (v : WellFormed). v.version) same, ap (λ (v : WellFormed). v.placed) same)
     ]
 
-version_within : (bytes : List ℕ) (v : Version × ℕ) → version_at bytes ≡ Ok v → v.1 ≤ length bytes
+pub version_within : (bytes : List ℕ) (v : Version × ℕ) → version_at bytes ≡ Ok v → v.1 ≤ length bytes
 version_within bytes v e =
     let (n, first, others) = bind_ok (on_code 0 (varuint_at bytes)) _ _ e in
     let (version, numbered, last) = bind_ok (version_of n.0) _ _ others in

@@ -9,6 +9,7 @@ ghost use Rattle.teal_check.specs.WellFormed.{WellFormed, checked};
 ghost use Rattle.teal_dis.specs.Listing.{listing, operands};
 ghost use Rattle.teal_source.specs.Commands.{command};
 ghost use Rattle.teal_asm.specs.Meaning.{meaning};
+ghost use Rattle.teal_laws.specs.AssembledListing.{AssemblesBack};
 ghost use Rattle.teal_laws.specs.Listed.{IsListed, IsOf, command_of};
 ghost use Rattle.teal_laws.specs.ListedMeaning.{program_meaning};
 
@@ -29,4 +30,10 @@ pub fn programs_have_known_instructions()
 /// the same instruction as target.
 pub fn listings_mean_their_programs()
     ensures { (bytes : List ℕ) (program : WellFormed) → IsBytes bytes → checked bytes ≡ Ok program → meaning (listing program) ≡ Ok (program_meaning program) }
+{}
+
+/// The listing of a checked program assembles, to a program that is checked, has the same version, instructions and
+/// targets, costs the same, and is listed by the same text.
+pub fn listings_assemble_back()
+    ensures { (bytes : List ℕ) (program : WellFormed) → IsBytes bytes → checked bytes ≡ Ok program → AssemblesBack program }
 {}
