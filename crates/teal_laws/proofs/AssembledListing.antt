@@ -312,7 +312,7 @@ assembled_as : (text : List ℕ) (m : Meaning) → meaning text ≡ Ok m → len
 unfolding assembled
 assembled_as text m e short = rw e (short_enough (line_count text) (program m) short)
 
-program_length : (m : Meaning) → length (program m) ≡ 1 + total_size m.instructions
+pub program_length : (m : Meaning) → length (program m) ≡ 1 + total_size m.instructions
 unfolding program
 program_length m = ap suc (spelling_length 0 m.instructions) ∙ omega arith
 

@@ -1,5 +1,5 @@
 -- Fields by the names in source text.
-use Rattle.std.proofs.Common.{◌≡◌, refl, sym, ap, ℕ, Bool, true, false, cond, List, [], ◌∷◌, Some, None, Ok, Err, eqb, not, inl, inr, ◌∙◌}
+use Rattle.std.proofs.Common.{◌≡◌, refl, sym, ap, subst, ℕ, Bool, true, false, cond, List, [], ◌∷◌, Some, None, Ok, Err, eqb, not, inl, inr, ◌∙◌}
 use Rattle.std.specs.Prelude.{find}
 use Rattle.std.proofs.lemmas.Bool.{eqb-true}
 use Rattle.teal_value.proofs.Binding.{chosen}
@@ -8,12 +8,13 @@ use Rattle.teal_table.specs.declared.txn_fields.TxnField.{TxnField}
 use Rattle.teal_table.specs.declared.txn_fields.TxnField.TheVariants as txn
 use Rattle.teal_table.specs.declared.global_fields.GlobalField.{GlobalField}
 use Rattle.teal_table.specs.declared.global_fields.GlobalField.TheVariants as global
-use Rattle.teal_table.specs.Fields.{txn_number, txn_name, txn_fields, txn_field_at, txn_field_named, is_array, global_number, global_name, global_fields, global_field_at, global_field_named}
+use Rattle.teal_table.specs.Table.{has}
+use Rattle.teal_table.specs.Fields.{txn_number, txn_name, txn_fields, txn_field_at, txn_field_named, is_array, global_number, global_name, global_fields, global_field_at, global_field_named, global_version}
 use Rattle.teal_text.specs.PlainWords.{is_plain_word}
 use Rattle.teal_check.specs.WellFormed.{is_scalar, is_array_field, is_global}
 use Rattle.teal_dis.specs.Listing.{txn_field, txn_word, global_word}
 use Rattle.teal_source.specs.declared.fault.AsmFaultKind.TheVariants.{Operands}
-use Rattle.teal_source.specs.Operands.{txn_field_value, txn_field_number, global_field_value}
+use Rattle.teal_source.specs.Operands.{txn_field_value, txn_field_number, global_field_value, global_field_number}
 use Rattle.teal_source.specs.Commands.{Asked, scalar, array, passes_as_scalar, passes_as_array}
 
 txn_named : (f : TxnField) → txn_field_named (txn_name f) ≡ Some f
@@ -136,3 +137,72 @@ array_is_plain n known = elim (txn_field_at n) as (λ o. is_array_field o ≡ tr
 
 pub global_word_is_plain : (version : Version) (n : ℕ) → is_global version (global_field_at n) ≡ true → is_plain_word (global_word n (global_field_at n)) ≡ true
 global_word_is_plain version n known = elim (global_field_at n) as (λ o. is_global version o ≡ true → is_plain_word (global_word n o) ≡ true) [ None ↦ λ k. absurd cc | Some f ↦ λ k. global_is_plain f ] known
+
+txn_numbered : (f : TxnField) → txn_field_at (txn_number f) ≡ Some f
+unfolding txn_field_at
+txn_numbered txn.Sender = refl
+txn_numbered txn.Fee = refl
+txn_numbered txn.FirstValid = refl
+txn_numbered txn.FirstValidTime = refl
+txn_numbered txn.LastValid = refl
+txn_numbered txn.Note = refl
+txn_numbered txn.Lease = refl
+txn_numbered txn.Receiver = refl
+txn_numbered txn.Amount = refl
+txn_numbered txn.CloseRemainderTo = refl
+txn_numbered txn.Type = refl
+txn_numbered txn.TypeEnum = refl
+txn_numbered txn.GroupIndex = refl
+txn_numbered txn.ApplicationId = refl
+txn_numbered txn.OnCompletion = refl
+txn_numbered txn.ApplicationArgs = refl
+txn_numbered txn.NumAppArgs = refl
+txn_numbered txn.Accounts = refl
+txn_numbered txn.NumAccounts = refl
+txn_numbered txn.ApprovalProgram = refl
+txn_numbered txn.ClearStateProgram = refl
+txn_numbered txn.RekeyTo = refl
+
+global_numbered : (f : GlobalField) → global_field_at (global_number f) ≡ Some f
+unfolding global_field_at
+global_numbered global.MinTxnFee = refl
+global_numbered global.MinBalance = refl
+global_numbered global.MaxTxnLife = refl
+global_numbered global.ZeroAddress = refl
+global_numbered global.GroupSize = refl
+global_numbered global.LogicSigVersion = refl
+global_numbered global.Round = refl
+global_numbered global.LatestTimestamp = refl
+global_numbered global.CurrentApplicationId = refl
+global_numbered global.CreatorAddress = refl
+
+-- the field that a word names, where it passes as its kind
+pub scalar_asked : (w : List ℕ) (n : ℕ) → scalar w ≡ Ok tt → txn_field_value w ≡ Ok n → is_scalar (txn_field_at n) ≡ true
+scalar_asked w n passes value = elim (txn_field_named w) as (λ o. passes_as_scalar o ≡ Ok tt → txn_field_number o ≡ Ok n → is_scalar (txn_field_at n) ≡ true) [
+  | None ↦ λ p v. absurd cc
+  | Some f ↦ λ p v.
+      let number : txn_number f ≡ n = cc in
+      subst (λ k. is_scalar (txn_field_at k) ≡ true) number (rw (txn_numbered f) (plain_field f p))
+] passes value where
+  plain_field : (f : TxnField) → passes_as_scalar (Some f) ≡ Ok tt → not (is_array f) ≡ true
+  plain_field f p = elim (is_array f) as (λ b. cond {A = Asked (Unit {0})} b (Err Operands) (Ok tt) ≡ Ok tt → not b ≡ true) [ true ↦ λ h. absurd cc | false ↦ λ h. refl ] p
+
+pub array_asked : (w : List ℕ) (n : ℕ) → array w ≡ Ok tt → txn_field_value w ≡ Ok n → is_array_field (txn_field_at n) ≡ true
+array_asked w n passes value = elim (txn_field_named w) as (λ o. passes_as_array o ≡ Ok tt → txn_field_number o ≡ Ok n → is_array_field (txn_field_at n) ≡ true) [
+  | None ↦ λ p v. absurd cc
+  | Some f ↦ λ p v.
+      let number : txn_number f ≡ n = cc in
+      subst (λ k. is_array_field (txn_field_at k) ≡ true) number (rw (txn_numbered f) (array_field f p))
+] passes value where
+  array_field : (f : TxnField) → passes_as_array (Some f) ≡ Ok tt → is_array f ≡ true
+  array_field f p = elim (is_array f) as (λ b. cond {A = Asked (Unit {0})} b (Ok tt) (Err Operands) ≡ Ok tt → b ≡ true) [ true ↦ λ h. refl | false ↦ λ h. absurd cc ] p
+
+pub global_asked : (version : Version) (w : List ℕ) (n : ℕ) → global_field_value version w ≡ Ok n → is_global version (global_field_at n) ≡ true
+global_asked version w n value = elim (global_field_named w) as (λ o. global_field_number version o ≡ Ok n → is_global version (global_field_at n) ≡ true) [
+  | None ↦ λ v. absurd cc
+  | Some f ↦ λ v.
+      elim (chosen (has version (global_version f)) _ _ _ v) [
+        | inl (there, one) ↦ let number : global_number f ≡ n = cc in subst (λ k. is_global version (global_field_at k) ≡ true) number (rw (global_numbered f) there)
+        | inr (later, bad) ↦ absurd cc
+      ]
+] value

@@ -11,3 +11,6 @@ pub mod ListingMeaning
 pub mod Spellings
 pub mod SpelledPrograms
 pub mod AssembledListing
+pub mod Forms
+pub mod TextCommands
+pub mod TextMeaning

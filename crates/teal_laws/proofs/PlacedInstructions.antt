@@ -90,7 +90,7 @@ immediates_read version shape.Bytes bytes m rest e h known =
     let (s, first, last) = bind_ok (string_at bytes) _ _ e in
     subst (HasShape version shape.Bytes) (same_value last).0 (string (string_read bytes s.0 s.1 first h).0)
 
-brought : (version : Version) (found : Option Opcode) (o : Opcode) → only_in version found ≡ Some o → has version (row_of o).version ≡ true
+pub brought : (version : Version) (found : Option Opcode) (o : Opcode) → only_in version found ≡ Some o → has version (row_of o).version ≡ true
 brought version None o e = absurd cc
 brought version (Some q) o e =
     elim (chosen (has version (row_of q).version) _ _ _ e) [

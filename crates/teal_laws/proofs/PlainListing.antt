@@ -24,7 +24,7 @@ use Rattle.teal_laws.proofs.FieldNames.{scalar_is_plain, array_is_plain, global_
 abbrev pub is_word_byte : ℕ → Bool
 is_word_byte b = is_plain_byte b && not (eqb b 47)
 
-both : (a b : Bool) → a && b ≡ true → (a ≡ true) × (b ≡ true)
+pub both : (a b : Bool) → a && b ≡ true → (a ≡ true) × (b ≡ true)
 both true b e = (refl, e)
 both false b e = absurd cc
 

@@ -14,7 +14,7 @@ use Rattle.teal_code.specs.Spelling.{immediates_spelling, instr_spelling}
 use Rattle.teal_code.specs.Reader.{read_at}
 use Rattle.teal_code.proofs.Reading.{is_read}
 use Rattle.teal_check.specs.declared.program.Placed.{Placed}
-use Rattle.teal_check.specs.WellFormed.{WellFormed, placed_at, placed_from, places, number_at, RisesFrom, branch_target, immediates_target, with_targets, version_at, cost_of, checked}
+use Rattle.teal_check.specs.WellFormed.{WellFormed, placed_at, placed_from, places, number_at, RisesFrom, branch_target, immediates_target, with_targets, version_at, cost_of, checked, affordable}
 use Rattle.teal_check.proofs.CheckedPrograms.{length-places, placed_rises, weaken}
 use Rattle.teal_check.proofs.Starts.{index_of-there}
 use Rattle.teal_asm.specs.Meaning.{Meant, Straight, Branch, Meaning}
@@ -228,9 +228,9 @@ version_read Three rest = let one : length (3 ∷ rest) - length rest ≡ 1 = om
 abbrev pub spelled_program : Meaning → WellFormed
 spelled_program m = record { version = m.version; bytes = program m; placed = aimed_at 1 0 m.instructions; cost = cost_of (aimed_at 1 0 m.instructions) }
 
-pub program_is_checked : (m : Meaning) → AreMeant m.version (length m.instructions) 0 m.instructions → 1 + total_size m.instructions ≤ 1024 → cost_of (aimed_at 1 0 m.instructions) ≤ 700 → checked (program m) ≡ Ok (spelled_program m)
+pub program_checks : (m : Meaning) → AreMeant m.version (length m.instructions) 0 m.instructions → 1 + total_size m.instructions ≤ 1024 → checked (program m) ≡ affordable m.version (program m) (aimed_at 1 0 m.instructions)
 unfolding checked program
-program_is_checked m are short cheap =
+program_checks m are short =
     let ms = m.instructions in
     let bytes = version_byte m.version ∷ spelling 0 ms in
     let long : length bytes ≡ 1 + total_size ms = ap suc (spelling_length 0 ms) ∙ omega arith in
@@ -240,8 +240,12 @@ program_is_checked m are short cheap =
     let rising = (placed_rises (length bytes) m.version bytes 1 (laid 1 0 ms) (omega (arith, long)) placed).0 in
     let stand = all_stand (length bytes) ms (weaken 0 1 (places (laid 1 0 ms)) (omega arith) rising) (sym long) in
     let resolved = targets_are m.version (places (laid 1 0 ms)) (length bytes) 0 1 (length ms) ms (omega (arith, short)) (sym long) (omega arith) are stand in
-    let paid : ltb 700 (cost_of (aimed_at 1 0 ms)) ≡ false = grind (arith, nat_tests) in
-    rw (some, few, version_read m.version (spelling 0 ms), placed, resolved, paid) refl
+    rw (some, few, version_read m.version (spelling 0 ms), placed, resolved) refl
+
+pub program_is_checked : (m : Meaning) → AreMeant m.version (length m.instructions) 0 m.instructions → 1 + total_size m.instructions ≤ 1024 → cost_of (aimed_at 1 0 m.instructions) ≤ 700 → checked (program m) ≡ Ok (spelled_program m)
+program_is_checked m are short cheap =
+    let paid : ltb 700 (cost_of (aimed_at 1 0 m.instructions)) ≡ false = grind (arith, nat_tests) in
+    program_checks m are short ∙ rw paid refl
 
 pub meant_back : (place number : ℕ) (ms : List Meant) → map meant_of (aimed_at place number ms) ≡ ms
 meant_back place number [] = refl

@@ -9,6 +9,7 @@ ghost use Rattle.teal_check.specs.WellFormed.{WellFormed, checked};
 ghost use Rattle.teal_dis.specs.Listing.{listing, operands};
 ghost use Rattle.teal_source.specs.Commands.{command};
 ghost use Rattle.teal_asm.specs.Meaning.{meaning};
+ghost use Rattle.teal_asm.specs.Program.{assembled};
 ghost use Rattle.teal_laws.specs.AssembledListing.{AssemblesBack};
 ghost use Rattle.teal_laws.specs.Listed.{IsListed, IsOf, command_of};
 ghost use Rattle.teal_laws.specs.ListedMeaning.{program_meaning};
@@ -36,4 +37,10 @@ pub fn listings_mean_their_programs()
 /// targets, costs the same, and is listed by the same text.
 pub fn listings_assemble_back()
     ensures { (bytes : List ℕ) (program : WellFormed) → IsBytes bytes → checked bytes ≡ Ok program → AssemblesBack program }
+{}
+
+/// A text that assembles to a checked program means this program, and the program's listing means the same.
+pub fn listings_keep_the_meaning()
+    ensures program { (text bytes : List ℕ) (program : WellFormed) → IsBytes bytes → assembled text ≡ Ok bytes → checked bytes ≡ Ok program → meaning text ≡ Ok (program_meaning program) }
+    ensures listing { (text bytes : List ℕ) (program : WellFormed) → IsBytes bytes → assembled text ≡ Ok bytes → checked bytes ≡ Ok program → meaning (listing program) ≡ meaning text }
 {}

@@ -9,6 +9,6 @@
 mod laws;
 
 pub use laws::{
-    instruction_words_read_back, listings_assemble_back, listings_mean_their_programs,
-    programs_have_known_instructions,
+    instruction_words_read_back, listings_assemble_back, listings_keep_the_meaning,
+    listings_mean_their_programs, programs_have_known_instructions,
 };
