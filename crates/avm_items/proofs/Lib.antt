@@ -3,3 +3,5 @@ pub mod Counting
 pub mod Puts
 pub mod Orders
 pub mod CallBack
+pub mod CallSpelled
+pub mod RulesKept

@@ -96,10 +96,10 @@ both_Equal Less s e = absurd cc
 both_Equal Equal s e = (refl, e)
 both_Equal Greater s e = absurd cc
 
-byte_same : (x y : List ℕ) → byte_cmp x y ≡ Equal → x ≡ y
+pub byte_same : (x y : List ℕ) → byte_cmp x y ≡ Equal → x ≡ y
 byte_same = slice_cmp-IsAntisymmetric nat_cmp-IsAntisymmetric
 
-account_same : (x y : Address × ℕ) → account_cmp x y ≡ Equal → x ≡ y
+pub account_same : (x y : Address × ℕ) → account_cmp x y ≡ Equal → x ≡ y
 account_same x y e =
     let both = both_Equal (byte_cmp x.0.0 y.0.0) (nat_cmp x.1 y.1) e in
     let who = address_is x.0 y.0 (byte_same x.0.0 y.0.0 both.0) in

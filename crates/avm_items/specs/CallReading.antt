@@ -1,5 +1,5 @@
 -- The laws of a call's bytes.
-use Rattle.std.specs.Prelude.{◌≡◌, ℕ, ◌+◌, ◌^◌, ◌<◌, List, ◌++◌, length, All, Ok}
+use Rattle.std.specs.Prelude.{◌≡◌, ℕ, ◌+◌, ◌^◌, ◌<◌, List, ◌++◌, length, drop, All, Ok}
 use Rattle.teal_value.specs.declared.address.Address.{Address}
 use Rattle.avm_items.specs.declared.call_data.CallData.{CallData}
 use Rattle.avm_items.specs.CallSpelling.{call_bytes}
@@ -53,3 +53,17 @@ ReadsBackAtAPlace =
 -- No spelling of a call begins another.
 abbrev pub NoneBeginsAnother : Type 0
 NoneBeginsAnother = (c d : CallData) (x y : List ℕ) → HasFields c → HasFields d → call_bytes c ++ x ≡ call_bytes d ++ y → (c ≡ d) × (x ≡ y)
+
+-- A call that is read is spelled by those very bytes, and has its fields.
+abbrev pub SpellsBack : Type 0
+SpellsBack =
+    (bytes : List ℕ) (c : CallData) (rest : List ℕ) → All (λ b. b < 256) bytes → call_front bytes ≡ Ok (c, rest) → (call_bytes c ++ rest ≡ bytes) × HasFields c
+
+abbrev pub SpellsBackAlone : Type 0
+SpellsBackAlone = (bytes : List ℕ) (c : CallData) → All (λ b. b < 256) bytes → call_at bytes ≡ Ok c → (call_bytes c ≡ bytes) × HasFields c
+
+-- The place behind a call is where its spelling ends.
+abbrev pub SpellsBackAtAPlace : Type 0
+SpellsBackAtAPlace =
+    (bytes : List ℕ) (place : ℕ) (c : CallData) (next : ℕ) → All (λ b. b < 256) bytes → call_from bytes place ≡ Ok (c, next)
+    → (call_bytes c ++ drop next bytes ≡ drop place bytes) × HasFields c

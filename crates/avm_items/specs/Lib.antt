@@ -8,6 +8,8 @@ pub mod Counting
 pub mod CallSpelling
 pub mod CallReader
 pub mod CallReading
+pub mod WorkedCallBytes
 pub mod LedgerItems
 pub mod PutLaws
+pub mod RuleLaws
 pub mod Environments

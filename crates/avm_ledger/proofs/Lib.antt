@@ -2,4 +2,8 @@ pub mod Maps
 pub mod Counts
 pub mod Changes
 pub mod FieldsBack
+pub mod FieldsSpelled
+pub mod FieldsFit
 pub mod LedgerBack
+pub mod LedgerSpelled
+pub mod LedgerKept

@@ -1,5 +1,5 @@
 -- The laws of a ledger's bytes.
-use Rattle.std.specs.Prelude.{◌≡◌, ℕ, List, ◌++◌, Ok}
+use Rattle.std.specs.Prelude.{◌≡◌, ℕ, ◌<◌, List, ◌++◌, All, Ok}
 use Rattle.avm_ledger.specs.Ledgers.{Ledger}
 use Rattle.avm_ledger.specs.Spellings.{ledger_bytes}
 use Rattle.avm_ledger.specs.LedgerRules.{KeepsRules, IsCountable}
@@ -16,3 +16,11 @@ ReadsBackAlone = (l : Ledger) → KeepsRules l → IsCountable l → ledger_at (
 abbrev pub NoneBeginsAnother : Type 0
 NoneBeginsAnother =
     (l m : Ledger) (x y : List ℕ) → KeepsRules l → IsCountable l → KeepsRules m → IsCountable m → ledger_bytes l ++ x ≡ ledger_bytes m ++ y → (l ≡ m) × (x ≡ y)
+
+-- A ledger that is read is spelled by those very bytes: each ledger has one spelling.
+abbrev pub SpellsBack : Type 0
+SpellsBack = (bytes : List ℕ) (l : Ledger) → All (λ b. b < 256) bytes → ledger_at bytes ≡ Ok l → ledger_bytes l ≡ bytes
+
+-- A ledger that is read keeps the rules.
+abbrev pub KeepsTheRules : Type 0
+KeepsTheRules = (bytes : List ℕ) (l : Ledger) → All (λ b. b < 256) bytes → ledger_at bytes ≡ Ok l → KeepsRules l × IsCountable l

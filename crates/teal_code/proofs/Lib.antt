@@ -2,3 +2,5 @@ pub mod Reading
 pub mod Digits
 pub mod ManyReading
 pub mod VaruintWriting
+pub mod Bytes
+pub mod GoingOn

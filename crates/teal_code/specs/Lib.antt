@@ -2,3 +2,4 @@ pub mod Varuint
 pub mod Grammar
 pub mod Reader
 pub mod Spelling
+pub mod FaultLaws

@@ -4,6 +4,7 @@
 
 mod decode;
 mod encode;
+pub mod fault_laws;
 mod instr;
 pub mod laws;
 

@@ -1,6 +1,6 @@
 use Rattle.std.proofs.Common.{◌+◌, ◌-◌, arith}
 use Rattle.std.proofs.lemmas.Result.{err_from_is_err_and}
-use Rattle.teal_code.specs.Reader.{string_at, many_at}
+use Rattle.teal_code.specs.Reader.{string_at}
 use Rattle.teal_code.proofs.ManyReading.{begins, goes_on, stops, is_done}
 use Rattle.teal_code.proofs.decode.strings_of.Goals as goal
 

@@ -1,4 +1,4 @@
-use Rattle.std.proofs.Common.{◌-◌, ◌≤◌}
+use Rattle.std.proofs.Common.{◌-◌}
 use Rattle.teal_code.specs.Reader.{string_at, many_at}
 use Rattle.teal_code.proofs.ManyReading.{ReadsOn}
 use Rattle.teal_code.proofs.decode.strings_of.Given as goal

@@ -1,4 +1,4 @@
-use Rattle.std.proofs.Common.{◌-◌, ◌≤◌}
+use Rattle.std.proofs.Common.{◌-◌}
 use Rattle.teal_code.specs.Reader.{varuint_at, many_at}
 use Rattle.teal_code.proofs.ManyReading.{ReadsOn}
 use Rattle.teal_code.proofs.decode.uints_of.Given as goal
