@@ -9,9 +9,11 @@ mod item;
 mod item_map;
 mod item_value;
 pub mod laws;
+mod reading;
 
 pub use call_data::{Addresses, CallData, Completion};
 pub use env::Env;
 pub use item::Item;
 pub use item_map::ItemMap;
 pub use item_value::ItemValue;
+pub use reading::item_of;

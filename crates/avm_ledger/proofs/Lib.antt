@@ -1,3 +1,4 @@
 pub mod Maps
 pub mod Counts
 pub mod Changes
+pub mod SameStates
