@@ -2,3 +2,5 @@ pub mod Questions
 pub mod Counting
 pub mod Puts
 pub mod Orders
+pub mod PutBack
+pub mod Passes

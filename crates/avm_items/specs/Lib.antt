@@ -9,3 +9,4 @@ pub mod CallSpelling
 pub mod LedgerItems
 pub mod PutLaws
 pub mod Environments
+pub mod Putting

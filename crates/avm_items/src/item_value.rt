@@ -61,7 +61,9 @@ impl ItemValue {
             (ItemValue::Absent, ItemValue::Absent) => true,
             (ItemValue::NextApp(id), ItemValue::NextApp(other)) => id == other,
             (ItemValue::App(row), ItemValue::App(other)) => is_same_application(row, other),
-            (ItemValue::Counts(counts), ItemValue::Counts(other)) => is_same_schema(*counts, *other),
+            (ItemValue::Counts(counts), ItemValue::Counts(other)) => is_same_schema(
+                *counts, *other,
+            ),
             (ItemValue::Key(value), ItemValue::Key(other)) => value == other,
             (ItemValue::Local(state), ItemValue::Local(other)) => state == other,
             _ => false,

@@ -10,6 +10,7 @@ mod item_map;
 mod item_value;
 pub mod laws;
 mod reading;
+mod writing;
 
 pub use call_data::{Addresses, CallData, Completion};
 pub use env::Env;
@@ -17,3 +18,4 @@ pub use item::Item;
 pub use item_map::ItemMap;
 pub use item_value::ItemValue;
 pub use reading::item_of;
+pub use writing::put_items;

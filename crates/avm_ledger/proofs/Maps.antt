@@ -267,9 +267,9 @@ module _ {K X : Type 0} {R : K → K → Ordering} (o : IsTotalOrder R) (same : 
   insert-insert k x v w es s n =
       same_map o same _ _ (sorted-inserted o k v _ (sorted-inserted o x w es s)) (sorted-inserted o x w _ (sorted-inserted o k v es s))
       (λ q. found_inserted q k v (insert_entry R es x w) (is_eq (R q k)) refl
-        ∙ ap (cond (is_eq (R q k)) (Some v)) (found_inserted q x w es (is_eq (R q x)) refl)
-        ∙ first_of_two q k x n (Some v) (Some w) (lookup (is_at (R q)) es) (is_eq (R q k)) (is_eq (R q x)) refl refl
-        ∙ sym (found_inserted q x w (insert_entry R es k v) (is_eq (R q x)) refl ∙ ap (cond (is_eq (R q x)) (Some w)) (found_inserted q k v es (is_eq (R q k)) refl)))
+      ∙ ap (cond (is_eq (R q k)) (Some v)) (found_inserted q x w es (is_eq (R q x)) refl)
+      ∙ first_of_two q k x n (Some v) (Some w) (lookup (is_at (R q)) es) (is_eq (R q k)) (is_eq (R q x)) refl refl
+      ∙ sym (found_inserted q x w (insert_entry R es k v) (is_eq (R q x)) refl ∙ ap (cond (is_eq (R q x)) (Some w)) (found_inserted q k v es (is_eq (R q k)) refl)))
 
   pub remove-insert : (k x : K) (w : X) (es : List (K × X)) → IsStrictlySortedBy R (keys_of es) → is_eq (R k x) ≡ false
       → remove_entry (is_at (R k)) (insert_entry R es x w) ≡ insert_entry R (remove_entry (is_at (R k)) es) x w
@@ -277,6 +277,6 @@ module _ {K X : Type 0} {R : K → K → Ordering} (o : IsTotalOrder R) (same : 
       let t = sorted-inserted o x w es s in
       same_map o same _ _ (sorted-removed o k _ t) (sorted-inserted o x w _ (sorted-removed o k es s))
       (λ q. found_removed q k (insert_entry R es x w) t (is_eq (R q k)) refl
-        ∙ ap (cond (is_eq (R q k)) None) (found_inserted q x w es (is_eq (R q x)) refl)
-        ∙ first_of_two q k x n None (Some w) (lookup (is_at (R q)) es) (is_eq (R q k)) (is_eq (R q x)) refl refl
-        ∙ sym (found_inserted q x w (remove_entry (is_at (R k)) es) (is_eq (R q x)) refl ∙ ap (cond (is_eq (R q x)) (Some w)) (found_removed q k es s (is_eq (R q k)) refl)))
+      ∙ ap (cond (is_eq (R q k)) None) (found_inserted q x w es (is_eq (R q x)) refl)
+      ∙ first_of_two q k x n None (Some w) (lookup (is_at (R q)) es) (is_eq (R q k)) (is_eq (R q x)) refl refl
+      ∙ sym (found_inserted q x w (remove_entry (is_at (R k)) es) (is_eq (R q x)) refl ∙ ap (cond (is_eq (R q x)) (Some w)) (found_removed q k es s (is_eq (R q k)) refl)))
