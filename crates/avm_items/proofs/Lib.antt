@@ -4,3 +4,4 @@ pub mod Puts
 pub mod Orders
 pub mod PutBack
 pub mod Passes
+pub mod CallBack

@@ -4,18 +4,21 @@
 #![tactic(auto)]
 
 mod call_data;
+mod call_fault;
 mod env;
 mod item;
 mod item_map;
 mod item_value;
 pub mod laws;
-mod reading;
+mod ledger_items;
+pub mod reading_laws;
 mod writing;
 
 pub use call_data::{Addresses, CallData, Completion};
+pub use call_fault::{CallDataError, CallDataFault};
 pub use env::Env;
 pub use item::Item;
 pub use item_map::ItemMap;
 pub use item_value::ItemValue;
-pub use reading::item_of;
+pub use ledger_items::item_of;
 pub use writing::put_items;

@@ -2,3 +2,5 @@ pub mod Maps
 pub mod Counts
 pub mod Changes
 pub mod SameStates
+pub mod FieldsBack
+pub mod LedgerBack

@@ -1,5 +1,6 @@
 pub mod CommandNames
 pub mod Replies
+pub mod DigitLines
 pub mod Lists
 pub mod Follow
 pub mod PlainConstants

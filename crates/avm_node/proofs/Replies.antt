@@ -2,11 +2,11 @@
 use Rattle.std.proofs.Common.{◌≡◌, ◌∙◌, ap, ◌<◌, ◌≤◌, ◌+◌, ◌++◌, ℕ, List, [], length, Option, Some, None, Result, refl, true, false, nat_lt, IfSome, option_map, take, arith}
 use Rattle.std.specs.Str.{IsUtf8, is_utf8}
 use Rattle.std.proofs.lemmas.Str.{IsUtf8-from_is_utf8, is_utf8-from_IsUtf8}
-use Rattle.teal_asm.specs.declared.fault.AsmFault.{AsmFault}
+use Rattle.teal_source.specs.declared.fault.AsmFault.{AsmFault}
 use Rattle.teal_asm.specs.Program.{assembled}
 use Rattle.avm_node.specs.declared.command_line.NodeCommand.{NodeCommand}
-use Rattle.avm_node.specs.declared.command_line.NodeCommand.TheVariants.{Asm}
-use Rattle.avm_node.specs.Answers.{IsInput, asm_reply, assembly_reply, input_limit, input_refusal, reply_of}
+use Rattle.avm_node.specs.Replies.{input_refusal}
+use Rattle.avm_node.specs.Answers.{IsInput, asm_reply, assembly_reply, command_reply, input_limit, reply_of}
 
 not_utf8 : (bytes : List ℕ) → (IsUtf8 bytes → ⊥) → is_utf8 bytes ≡ false
 not_utf8 bytes fails =
@@ -23,10 +23,10 @@ pub asm_reply-utf8 : (input text : List ℕ) (meant : Result (List ℕ) AsmFault
 asm_reply-utf8 input text meant u same means = rw (is_utf8-from_IsUtf8 input u, ← same, means) refl
 
 pub reply_of-long : (command : NodeCommand) (input : List ℕ) → input_limit < length input → reply_of command input ≡ input_refusal
-reply_of-long Asm input long = let t : nat_lt input_limit (length input) ≡ true = search (arith) in rw t refl
+reply_of-long command input long = let t : nat_lt input_limit (length input) ≡ true = search (arith) in rw t refl
 
-pub reply_of-short : (command : NodeCommand) (input : List ℕ) → length input ≤ input_limit → reply_of command input ≡ asm_reply input
-reply_of-short Asm input short = let t : nat_lt input_limit (length input) ≡ false = search (arith) in rw t refl
+pub reply_of-short : (command : NodeCommand) (input : List ℕ) → length input ≤ input_limit → reply_of command input ≡ command_reply command input
+reply_of-short command input short = let t : nat_lt input_limit (length input) ≡ false = search (arith) in rw t refl
 
 pub IsInput-taken : (limit : ℕ) (had : Option (List ℕ)) (input : List ℕ) → limit ≡ input_limit + 1
     → IfSome (option_map (take limit) had) (λ xs. input ≡ [] ++ xs) → IsInput had input

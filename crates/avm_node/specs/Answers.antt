@@ -3,41 +3,18 @@ use Rattle.std.specs.Prelude.{◌≡◌, ◌≢◌, ◌+◌, ℕ, ◌++◌, List
 use Rattle.std.specs.Str.{is_utf8}
 use Rattle.std.specs.Io.KnownBytes.{Appends}
 use Rattle.hex.specs.Hex.{encode_lower}
-use Rattle.teal_asm.specs.declared.fault.AsmFault.{AsmFault}
-use Rattle.teal_asm.specs.declared.fault.AsmFaultKind.{AsmFaultKind}
-use Rattle.teal_asm.specs.declared.fault.AsmFaultKind.TheVariants as kind
+use Rattle.teal_source.specs.declared.fault.AsmFault.{AsmFault}
+use Rattle.teal_source.specs.declared.fault.AsmFaultKind.{AsmFaultKind}
+use Rattle.teal_source.specs.declared.fault.AsmFaultKind.TheVariants as kind
 use Rattle.teal_asm.specs.Program.{assembled}
 use Rattle.avm_node.specs.declared.command_line.NodeCommand.{NodeCommand}
-use Rattle.avm_node.specs.declared.command_line.NodeCommand.TheVariants.{Asm}
-
--- a text and an exit status
-pub record Reply : Type 0 where
-  pub text : List ℕ
-  pub status : ℕ
-
--- the statuses: done, refused, a wrong command line, and no answer for a failed read or write or for want of memory
-abbrev pub done : ℕ
-done = 0
-
-abbrev pub refused : ℕ
-refused = 1
-
-abbrev pub usage : ℕ
-usage = 2
-
-abbrev pub failed : ℕ
-failed = 3
-
-abbrev pub usage_reply : Reply
-usage_reply = record { text = codes "usage: avm asm|dis|check|propose|replay|debug|state\n"; status = usage }
+use Rattle.avm_node.specs.declared.command_line.NodeCommand.TheVariants.{Asm, Check, Dis}
+use Rattle.avm_node.specs.Replies.{Reply, done, failed, input_refusal, refused, usage_reply}
+use Rattle.avm_node.specs.Programs.{check_reply, dis_reply}
 
 -- how many bytes an input has at most
 abbrev pub input_limit : ℕ
 input_limit = 16777216
-
--- an input that is too long, or source text that is no UTF-8
-abbrev pub input_refusal : Reply
-input_refusal = record { text = codes "refused input\n"; status = refused }
 
 abbrev pub name_of : AsmFaultKind → List ℕ
 name_of kind.Text = codes "Text"
@@ -66,9 +43,15 @@ assembly_reply (Err fault) = record {
 abbrev pub asm_reply : List ℕ → Reply
 asm_reply input = if is_utf8 input then assembly_reply (assembled input) else input_refusal
 
+-- what a command answers to an input that is not too long
+abbrev pub command_reply : NodeCommand → List ℕ → Reply
+command_reply Asm input = asm_reply input
+command_reply Dis input = dis_reply input
+command_reply Check input = check_reply input
+
 -- what a command answers to an input, of which more than the limit is refused before all else
 abbrev pub reply_of : NodeCommand → List ℕ → Reply
-reply_of Asm input = if nat_lt input_limit (length input) then input_refusal else asm_reply input
+reply_of command input = if nat_lt input_limit (length input) then input_refusal else command_reply command input
 
 -- The bytes are those that a reader had, where these are known: all up to the limit, and one beyond it.
 abbrev pub IsInput : Option (List ℕ) → List ℕ → Type 0

@@ -1,4 +1,9 @@
 pub mod CommandLine
+pub mod Replies
+pub mod DigitLines
+pub mod Lines
+pub mod Refusals
+pub mod Programs
 pub mod Answers
 pub mod Shown
 pub mod Plain

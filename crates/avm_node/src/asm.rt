@@ -1,7 +1,8 @@
 //! The command `asm`: source text becomes a program in hexadecimal digits.
 
 ghost use Rattle.std.specs.Prelude.{◌≡◌, IfOk};
-ghost use Rattle.avm_node.specs.Answers.{asm_reply, assembly_reply, input_refusal, name_of};
+ghost use Rattle.avm_node.specs.Answers.{asm_reply, assembly_reply, name_of};
+ghost use Rattle.avm_node.specs.Replies.{input_refusal};
 ghost use Rattle.avm_node.specs.Shown.{shown};
 
 use crate::output::{DONE, REFUSED, Reply};

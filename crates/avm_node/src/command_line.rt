@@ -3,7 +3,7 @@
 ghost use Rattle.std.specs.Prelude.{◌≡◌, ◌↔◌, ◌∷◌, [], Some, None, IfOk, IsTrue, codes, map, option_and_then, option_map};
 ghost use Rattle.clap.specs.Words.{app_of, kind_of};
 ghost use Rattle.avm_node.specs.CommandLine.{command_in, command_line, command_named};
-ghost use Rattle.avm_node.specs.declared.command_line.NodeCommand.TheVariants.{Asm};
+ghost use Rattle.avm_node.specs.declared.command_line.NodeCommand.TheVariants.{Asm, Check, Dis};
 
 use clap::error::ErrorKind;
 use clap::{Command, Error};
@@ -14,6 +14,10 @@ use std::alloc::{AllocError, Global};
 pub enum NodeCommand {
     /// Assembles source text.
     Asm,
+    /// Lists a program.
+    Dis,
+    /// Checks a program.
+    Check,
 }
 
 /// The command that the words after the program's name are, or none where they are to be answered with the usage line.
@@ -42,6 +46,8 @@ fn command_of(name: Option<&str>) -> Option<NodeCommand>
 {
     match name {
         Some("asm") => Some(NodeCommand::Asm),
+        Some("dis") => Some(NodeCommand::Dis),
+        Some("check") => Some(NodeCommand::Check),
         _ => None,
     }
 }
@@ -51,9 +57,13 @@ fn command_line<'a>(alloc: Global) -> Result<Command<'a>, AllocError>
     ensures { IfOk result (λ command. app_of command ≡ command_line) }
 {
     let asm = Command::new(alloc, "asm");
+    let dis = Command::new(alloc, "dis");
+    let check = Command::new(alloc, "check");
     Command::new(alloc, "avm")
         .no_binary_name(true)
-        .subcommand(asm)
+        .subcommand(asm)?
+        .subcommand(dis)?
+        .subcommand(check)
 }
 
 /// The words of the commands, computed by their definition: there are no abbreviations, and neither a request for help nor
@@ -61,6 +71,8 @@ fn command_line<'a>(alloc: Global) -> Result<Command<'a>, AllocError>
 #[tactic(auto, unfolding(clap::proofs::OnLiterals::clap_on_literals, crate::specs::CommandLine::command_among))]
 pub fn words_of_commands()
     ensures asm { command_in (codes "asm" ∷ []) ≡ Some Asm }
+    ensures dis { command_in (codes "dis" ∷ []) ≡ Some Dis }
+    ensures check { command_in (codes "check" ∷ []) ≡ Some Check }
     ensures no_word { command_in [] ≡ None }
     ensures abbreviation { command_in (codes "as" ∷ []) ≡ None }
     ensures upper_case { command_in (codes "ASM" ∷ []) ≡ None }

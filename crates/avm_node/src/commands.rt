@@ -1,7 +1,7 @@
 //! The commands of the program.
 
 ghost use Rattle.std.specs.Prelude.{◌≡◌, IfOk, IsSomeAnd, None, map};
-ghost use Rattle.avm_node.specs.Answers.{Answers, IsReply};
+ghost use Rattle.avm_node.specs.Answers.{Answers, IsReply, command_reply};
 ghost use Rattle.avm_node.specs.CommandLine.{command_in};
 ghost use Rattle.avm_node.specs.Shown.{shown};
 
@@ -9,7 +9,8 @@ use crate::asm::{asm_reply, input_refusal};
 use crate::command_line::{NodeCommand, command_in};
 use crate::input::{INPUT_LIMIT, read_input};
 use crate::output::{FAILED, Reply, USAGE, write_reply};
-use std::alloc::Global;
+use crate::programs::{check_reply, dis_reply};
+use std::alloc::{AllocError, Global};
 use std::io::{self, Read, Write};
 
 const USAGE_TEXT: &str = "usage: avm asm|dis|check|propose|replay|debug|state\n";
@@ -46,7 +47,16 @@ fn reply_of<R: Read>(alloc: Global, command: NodeCommand, reader: &mut R) -> io:
     if input.len() > INPUT_LIMIT {
         return Ok(input_refusal(alloc)?);
     }
+    Ok(command_reply(alloc, command, input.as_slice())?)
+}
+
+/// What a command answers to an input that is not too long.
+fn command_reply(alloc: Global, command: NodeCommand, input: &[u8]) -> Result<Reply, AllocError>
+    ensures { IfOk result (λ reply. shown reply ≡ command_reply command input.now) }
+{
     match command {
-        NodeCommand::Asm => Ok(asm_reply(alloc, input.as_slice())?),
+        NodeCommand::Asm => asm_reply(alloc, input),
+        NodeCommand::Dis => dis_reply(alloc, input),
+        NodeCommand::Check => check_reply(alloc, input),
     }
 }

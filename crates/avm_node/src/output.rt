@@ -2,7 +2,8 @@
 
 ghost use Rattle.std.specs.Prelude.{◌≡◌, ◌≢◌, OnOk};
 ghost use Rattle.std.specs.Io.KnownBytes.{Appends};
-ghost use Rattle.avm_node.specs.Answers.{IsWritten, failed};
+ghost use Rattle.avm_node.specs.Answers.{IsWritten};
+ghost use Rattle.avm_node.specs.Replies.{failed};
 
 use std::io::{self, Write};
 

@@ -9,7 +9,7 @@ use avm_cpu::{Cpu, Flow};
 use avm_items::{Env, Item};
 use std::alloc::{AllocError, Global};
 use teal_code::Instr;
-use teal_value::Fault;
+use teal_value::{Failure, Fault};
 
 /// Why an instruction was not carried out.
 #[derive(Debug, Drop)]
@@ -39,6 +39,19 @@ impl From<AllocError> for Stop {
 
     fn from(_: AllocError) -> Stop {
         Stop::Memory
+    }
+}
+
+impl From<Failure<Fault>> for Stop {
+    ghost use Rattle.avm_ops.specs.Objects.{stop_of};
+
+    ghost from_gives = { λ failure s. s ≡ stop_of failure };
+
+    fn from(failure: Failure<Fault>) -> Stop {
+        match failure {
+            Failure::Memory => Stop::Memory,
+            Failure::Fault(fault) => Stop::Fault(fault),
+        }
     }
 }
 

@@ -49,15 +49,112 @@ fn asm(rt: HostRuntime) -> Result<(), Fail> {
     answers(&rt, &words, &mut no_text, "refused input\n", 1)
 }
 
+/// Inputs of digits, and the output and the status of a command.
+fn all_answered(
+    rt: &(impl Abort + AllocGlobal),
+    word: &str,
+    answers_to: &[(&str, &str, u8)],
+) -> Result<(), Fail> {
+    for (input, text, status) in answers_to {
+        answers(rt, &[word], &mut input.as_bytes(), *text, *status)?;
+    }
+    Ok(())
+}
+
+#[test]
+fn dis(rt: HostRuntime) -> Result<(), Fail> {
+    let sum = "#pragma version 2\nintcblock 1\nintc_0\n";
+    let opted_in =
+        "#pragma version 2\nintcblock 1\ntxn OnCompletion\nintc_0\n==\nbnz label1\nerr\nlabel1:\nintc_0\n";
+    let at_end = "#pragma version 2\nintcblock 1\nintc_0\nb label1\nlabel1:\n";
+    let bytes = "#pragma version 2\nbytecblock 0x6869\nbytec_0\nbytec_0\n==\n";
+    let listings = [
+        ("0220010122\n", sum, 0),
+        ("022081000122\n", sum, 0),
+        ("02\n", "#pragma version 2\n", 0),
+        ("0220010122420000\n", at_end, 0),
+        ("02200101311922124000010022\n", opted_in, 0),
+        ("02260102686928281 2\n", "refused hex 1\n", 1),
+        ("022601026869282812\n", bytes, 0),
+        (
+            "03814080020a00\n",
+            "#pragma version 3\npushint 64\npushbytes 0x0a00\n",
+            0,
+        ),
+        ("0122\n", "refused check Version\n", 1),
+        ("", "refused check Length\n", 1),
+    ];
+    all_answered(&rt, "dis", &listings)
+}
+
+#[test]
+fn check(rt: HostRuntime) -> Result<(), Fail> {
+    let replies = [
+        ("0220010122\n", "ok instructions 2 cost 2\n", 0),
+        ("02\n", "ok instructions 0 cost 0\n", 0),
+        ("0220010142000320010022\n", "ok instructions 4 cost 4\n", 0),
+        ("02260100280115\n", "ok instructions 4 cost 38\n", 0),
+        ("022080010122\n", "refused check Truncated 1\n", 1),
+        ("0220010122420001\n", "refused check PastEnd 5\n", 1),
+        ("0220010122428000\n", "refused check Backward 5\n", 1),
+        ("0242000120010122\n", "refused check NotAligned 1\n", 1),
+        ("0202\n", "refused check OutOfProfile 1\n", 1),
+        ("02ff\n", "refused check UnknownOp 1\n", 1),
+        ("02FF\n", "refused check UnknownOp 1\n", 1),
+        ("0122\n", "refused check Version\n", 1),
+        (
+            "8181818181818181818102\n",
+            "refused check BadVaruint 0\n",
+            1,
+        ),
+        ("023117\n", "refused check UnknownField 1\n", 1),
+        ("02311a\n", "refused check UnknownField 1\n", 1),
+        (
+            "0201010101010101010101010101010101010101010101\n",
+            "refused check Cost\n",
+            1,
+        ),
+    ];
+    all_answered(&rt, "check", &replies)
+}
+
+/// Blank lines are skipped and counted, and the first refusal in the order of the input is answered.
+#[test]
+fn lines_of_digits(rt: HostRuntime) -> Result<(), Fail> {
+    let replies = [
+        (
+            "\n \t\n\r\n0220010122\r\n \n",
+            "ok instructions 2 cost 2\n",
+            0,
+        ),
+        ("0220010122", "ok instructions 2 cost 2\n", 0),
+        ("", "refused check Length\n", 1),
+        ("\n \n", "refused check Length\n", 1),
+        ("\n022", "refused hex 2\n", 1),
+        ("\r\n\n0g\n", "refused hex 3\n", 1),
+        ("02 \n", "refused hex 1\n", 1),
+        ("02\r", "refused hex 1\n", 1),
+        ("\u{e9}\n", "refused hex 1\n", 1),
+        ("02\n\n02\n", "refused lines\n", 1),
+        ("02\n0g", "refused lines\n", 1),
+        ("0122\n02\n", "refused check Version\n", 1),
+    ];
+    all_answered(&rt, "check", &replies)?;
+    let mut no_text: &[u8] = b"02\xff\n";
+    answers(&rt, &["dis"], &mut no_text, "refused hex 1\n", 1)
+}
+
 #[test]
 fn usage(rt: HostRuntime) -> Result<(), Fail> {
-    let lines: [&[&str]; 7] = [
+    let lines: [&[&str]; 9] = [
         &[],
         &["help"],
         &["--help"],
         &["as"],
         &["asm", "source.teal"],
         &["asm", "--workers", "1"],
+        &["dis", "-h"],
+        &["check", "program"],
         &["propose", "--workers", "1"],
     ];
     for words in lines {
@@ -75,5 +172,17 @@ fn longest_input(rt: HostRuntime) -> Result<(), Fail> {
     let mut longest = SOURCE.as_bytes().chain(io::repeat(b' ').take(blanks));
     answers(&rt, &words, &mut longest, "0220010122\n", 0)?;
     let mut longer = SOURCE.as_bytes().chain(io::repeat(b' ').take(blanks + 1));
-    answers(&rt, &words, &mut longer, "refused input\n", 1)
+    answers(&rt, &words, &mut longer, "refused input\n", 1)?;
+    let program = "0220010122\n";
+    let blanks = LIMIT - program.len() as u64;
+    let mut longest = program.as_bytes().chain(io::repeat(b' ').take(blanks));
+    answers(
+        &rt,
+        &["check"],
+        &mut longest,
+        "ok instructions 2 cost 2\n",
+        0,
+    )?;
+    let mut longer = program.as_bytes().chain(io::repeat(b' ').take(blanks + 1));
+    answers(&rt, &["check"], &mut longer, "refused input\n", 1)
 }

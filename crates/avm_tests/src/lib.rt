@@ -8,6 +8,8 @@ mod commands;
 #[cfg(test)]
 mod runs;
 #[cfg(test)]
+mod small_sources;
+#[cfg(test)]
 mod sources;
 #[cfg(test)]
 mod streams;

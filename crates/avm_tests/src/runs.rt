@@ -23,6 +23,12 @@ fn ends(rt: HostRuntime) -> Result<(), Fail> {
         ("02200205072223", Ended::Faulted(Fault::FinalDepth, 7)),
         ("0220020507222309", Ended::Faulted(Fault::Negative, 7)),
         ("02", Ended::Faulted(Fault::FinalDepth, 1)),
+        // 2^64 - 1, as a varuint of ten bytes, and 1: the sum is faulted at its place, behind
+        // the version, the block's opcode, count and eleven bytes, and two loads.
+        (
+            "022002ffffffffffffffffff0101222308",
+            Ended::Faulted(Fault::Overflow, 16),
+        ),
     ];
     for (digits, end) in programs {
         assert_eq!(rt; end_of(&rt, digits)?, Some(end));

@@ -8,6 +8,13 @@ const SOURCE: &str = "#pragma version 2\nint 1\n";
 
 const PROGRAM: &str = "0220010122\n";
 
+/// A command, its input and its output.
+const COMMANDS: [(&str, &str, &str); 3] = [
+    ("asm", SOURCE, PROGRAM),
+    ("dis", PROGRAM, "#pragma version 2\nintcblock 1\nintc_0\n"),
+    ("check", PROGRAM, "ok instructions 2 cost 2\n"),
+];
+
 /// Gives its bytes, and fails where they end.
 #[derive(Drop)]
 struct FailingReader<'a> {
@@ -51,13 +58,15 @@ impl Write for FailingWriter {
 #[test]
 fn failed_reads(rt: HostRuntime) -> Result<(), Fail> {
     for kind in [ErrorKind::Other, ErrorKind::Interrupted] {
-        for count in 0..=SOURCE.len() {
-            let bytes = &SOURCE.as_bytes()[..count];
-            let mut reader = FailingReader { bytes, kind };
-            let mut written = Vec::new(rt.alloc());
-            let status = answer(rt.alloc(), &["asm"], &mut reader, &mut written);
-            assert_eq!(rt; status, Some(3));
-            assert!(rt; written.is_empty());
+        for (word, input, _) in COMMANDS {
+            for count in 0..=input.len() {
+                let bytes = &input.as_bytes()[..count];
+                let mut reader = FailingReader { bytes, kind };
+                let mut written = Vec::new(rt.alloc());
+                let status = answer(rt.alloc(), &[word], &mut reader, &mut written);
+                assert_eq!(rt; status, Some(3));
+                assert!(rt; written.is_empty());
+            }
         }
     }
     Ok(())
@@ -66,14 +75,16 @@ fn failed_reads(rt: HostRuntime) -> Result<(), Fail> {
 /// A write that fails ends the command, and what was written is the front of its answer.
 #[test]
 fn failed_writes(rt: HostRuntime) -> Result<(), Fail> {
-    for room in 0..PROGRAM.len() {
-        let mut writer = FailingWriter {
-            taken: Vec::new(rt.alloc()),
-            room,
-        };
-        let status = answer(rt.alloc(), &["asm"], &mut SOURCE.as_bytes(), &mut writer);
-        assert_eq!(rt; status, Some(3));
-        assert_eq!(rt; writer.taken.as_slice(), &PROGRAM.as_bytes()[..room]);
+    for (word, input, output) in COMMANDS {
+        for room in 0..output.len() {
+            let mut writer = FailingWriter {
+                taken: Vec::new(rt.alloc()),
+                room,
+            };
+            let status = answer(rt.alloc(), &[word], &mut input.as_bytes(), &mut writer);
+            assert_eq!(rt; status, Some(3));
+            assert_eq!(rt; writer.taken.as_slice(), &output.as_bytes()[..room]);
+        }
     }
     Ok(())
 }

@@ -6,8 +6,8 @@ use Rattle.teal_value.specs.declared.failure.Failure.TheVariants as failure
 use Rattle.teal_value.specs.Answer.{◌>>=◌, Fails}
 use Rattle.teal_text.specs.declared.fault.TextFault.{TextFault}
 use Rattle.teal_text.specs.Lines.{LineTokens, lines_of}
-use Rattle.teal_asm.specs.declared.fault.AsmFault.{AsmFault}
-use Rattle.teal_asm.specs.Statements.{on_text, words_of_lines}
+use Rattle.teal_source.specs.declared.fault.AsmFault.{AsmFault}
+use Rattle.teal_source.specs.Statements.{on_text, words_of_lines}
 use Rattle.teal_asm.specs.Meaning.{Meaning, meaning_of_lines, meaning}
 use Rattle.teal_asm.specs.Program.{program, short_program, line_count, assembled}
 

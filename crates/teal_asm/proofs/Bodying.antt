@@ -7,10 +7,10 @@ use Rattle.std.specs.Prelude.{is_some}
 use Rattle.std.specs.Option.{option_map_or, ForSome}
 use Rattle.std.proofs.lemmas.List.{append-nil}
 use Rattle.std.proofs.lemmas.Bool.{ltb-false}
-use Rattle.teal_asm.specs.declared.statement.Statement.{Statement}
-use Rattle.teal_asm.specs.declared.command.Command.{Command}
-use Rattle.teal_asm.specs.declared.fault.AsmFaultKind.TheVariants as kind
-use Rattle.teal_asm.specs.Statements.{gathered_uint, gathered_string, is_uint_block, is_byte_block, distinct, gathered_uints, gathered_strings, mixes_blocks, gathers_too_many, behind, appended, has_label}
+use Rattle.teal_source.specs.declared.statement.Statement.{Statement}
+use Rattle.teal_source.specs.declared.command.Command.{Command}
+use Rattle.teal_source.specs.declared.fault.AsmFaultKind.TheVariants as kind
+use Rattle.teal_source.specs.Statements.{gathered_uint, gathered_string, is_uint_block, is_byte_block, distinct, gathered_uints, gathered_strings, mixes_blocks, gathers_too_many, behind, appended, has_label}
 use Rattle.teal_asm.specs.Meaning.{commands_in, label_entry, labels_from}
 use Rattle.teal_asm.specs.declared.body.Body.{Body}
 use Rattle.teal_asm.specs.Bodies.{command_count, IsBody}

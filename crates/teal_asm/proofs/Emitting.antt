@@ -5,7 +5,7 @@ use Rattle.std.proofs.lemmas.Bool.{cases_lt, lt-ltb, le-ltb}
 use Rattle.std.proofs.lemmas.List.{take-append-drop, take_min, drop_more, get_or_append_left, get_or_past, drop_all, append-nil}
 use Rattle.std.proofs.Math.Seq.{get_or-append_seam, take-length, take-nil, drop-nil}
 use Rattle.teal_asm.specs.declared.emit.Instruction.{Instruction}
-use Rattle.teal_asm.specs.declared.fault.AsmFaultKind.TheVariants as kind
+use Rattle.teal_source.specs.declared.fault.AsmFaultKind.TheVariants as kind
 use Rattle.teal_asm.specs.Meaning.{Meant, Straight, Branch}
 use Rattle.teal_asm.specs.Program.{size, total_size, instruction_spelling, spelling, short_program}
 use Rattle.teal_asm.specs.Instructions.{meant, all_meant, ArePlaces}

@@ -8,7 +8,7 @@ use Rattle.indexmap.specs.IndexMap.{insert_entry}
 use Rattle.std.proofs.lemmas.List.{map_push}
 use Rattle.std.proofs.lemmas.Bool.{ltb-false}
 use Rattle.std.proofs.lemmas.List.Sums.{prefix_len-le-length}
-use Rattle.teal_asm.specs.Statements.{with_new}
+use Rattle.teal_source.specs.Statements.{with_new}
 
 abbrev pub items : Vec ℕ → List ℕ
 items v = v.items

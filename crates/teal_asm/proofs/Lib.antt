@@ -1,5 +1,3 @@
-pub mod Each
-pub mod Literals
 pub mod Emitting
 pub mod Gathering
 pub mod Bodying

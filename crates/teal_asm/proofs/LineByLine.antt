@@ -7,10 +7,10 @@ use Rattle.teal_value.specs.Answer.{◌>>=◌, Fails}
 use Rattle.teal_table.specs.declared.shape.Version.{Version}
 use Rattle.teal_text.specs.declared.line.Line.{Line}
 use Rattle.teal_text.specs.Lines.{view, views}
-use Rattle.teal_asm.specs.declared.statement.Statement.{Statement}
-use Rattle.teal_asm.specs.declared.fault.AsmFault.{AsmFault}
-use Rattle.teal_asm.specs.declared.fault.AsmFaultKind.{AsmFaultKind}
-use Rattle.teal_asm.specs.Statements.{Words, appended, failure_on_line, on_line, statement, statements, words_of_line, words_of_lines}
+use Rattle.teal_source.specs.declared.statement.Statement.{Statement}
+use Rattle.teal_source.specs.declared.fault.AsmFault.{AsmFault}
+use Rattle.teal_source.specs.declared.fault.AsmFaultKind.{AsmFaultKind}
+use Rattle.teal_source.specs.Statements.{Words, appended, failure_on_line, on_line, statement, statements, words_of_line, words_of_lines}
 
 then_same : {A B F : Type 0} (r : Result A F) (f g : A → Result B F) → ((x : A) → f x ≡ g x) → (r >>= f) ≡ (r >>= g)
 then_same (Ok x) f g e = e x

@@ -5,7 +5,7 @@ use Rattle.std.proofs.lemmas.List.{nil_from_length, take_all}
 use Rattle.teal_text.specs.declared.token.Token.{Token}
 use Rattle.teal_text.specs.declared.line.Line.{Line}
 use Rattle.teal_text.specs.Lines.{view, views}
-use Rattle.teal_asm.specs.Statements.{pragma_of, word_at, words_on, words_of_line, words_of_lines}
+use Rattle.teal_source.specs.Statements.{pragma_of, word_at, words_on, words_of_line, words_of_lines}
 use Rattle.teal_asm.specs.Meaning.{meaning_of_lines, meaning_with}
 
 -- the parts of a slice pattern

@@ -1,5 +1,5 @@
 -- Statements as instructions, one behind another.
-use Rattle.std.proofs.Common.{◌≡◌, ℕ, suc, ◌+◌, ◌<◌, ◌≤◌, Bool, true, false, cond, not, eqb, ◌||◌, nat_eq, List, [], ◌∷◌, ◌++◌, length, map, Option, Some, None, Result, Ok, Err, refl, sym, ap, ◌∙◌, append_assoc, length-append, arith}
+use Rattle.std.proofs.Common.{◌≡◌, ℕ, suc, ◌+◌, ◌<◌, ◌≤◌, Bool, true, false, cond, not, eqb, ◌||◌, nat_eq, List, [], ◌∷◌, ◌++◌, length, map, Option, Some, None, Result, Ok, Err, refl, sym, ap, subst, ◌∙◌, append_assoc, length-append, arith}
 use Rattle.std.specs.List.{flat_map, list_any, position_or_len, position}
 use Rattle.std.specs.Map.{lookup}
 use Rattle.std.specs.Option.{option_map}
@@ -12,12 +12,13 @@ use Rattle.std.proofs.lemmas.List.Folds.{list_any-append}
 use Rattle.teal_value.specs.declared.failure.Failure.{Failure}
 use Rattle.teal_value.specs.declared.failure.Failure.TheVariants as failure
 use Rattle.teal_value.specs.Answer.{◌>>=◌, Fails}
-use Rattle.teal_asm.specs.declared.command.Command.{Command}
-use Rattle.teal_asm.specs.declared.command.Command.TheVariants.{Int, Byte, Jump, Plain}
-use Rattle.teal_asm.specs.declared.statement.Statement.{Statement}
-use Rattle.teal_asm.specs.declared.fault.AsmFault.{AsmFault}
-use Rattle.teal_asm.specs.Statements.{gathered_uint, gathered_string, distinct, with_new, gathered_uints, gathered_strings}
+use Rattle.teal_source.specs.declared.command.Command.{Command}
+use Rattle.teal_source.specs.declared.command.Command.TheVariants.{Int, Byte, Jump, Plain}
+use Rattle.teal_source.specs.declared.statement.Statement.{Statement}
+use Rattle.teal_source.specs.declared.fault.AsmFault.{AsmFault}
+use Rattle.teal_source.specs.Statements.{gathered_uint, gathered_string, distinct, with_new, gathered_uints, gathered_strings}
 use Rattle.teal_asm.specs.Meaning.{Meant, commands_in, label_entry, labels_from, gathered_blocks, instruction, optional_instruction, instructions, all_instructions}
+use Rattle.teal_asm.specs.Instructions.{with_instruction}
 use Rattle.teal_asm.specs.Constants.{HasItsConstant, HasConstants}
 use Rattle.teal_asm.proofs.Gathering.{not_from_test}
 
@@ -191,7 +192,7 @@ regroup_one : (so_far : List Meant) (i : Meant) (r : Result (List Meant) AsmFaul
 regroup_one so_far i (Ok is) = ap (λ xs. Ok xs) (sym (append_assoc so_far (i ∷ []) is))
 regroup_one so_far i (Err e) = refl
 
-pub passes : (all : List Statement) (so_far : List Meant) (rest next : List Statement) (s : Statement) (goal : Result (List Meant) AsmFault) → ResolvesOn all so_far rest goal → rest ≡ s ∷ next → s.command ≡ None → ResolvesOn all so_far next goal
+passes : (all : List Statement) (so_far : List Meant) (rest next : List Statement) (s : Statement) (goal : Result (List Meant) AsmFault) → ResolvesOn all so_far rest goal → rest ≡ s ∷ next → s.command ≡ None → ResolvesOn all so_far next goal
 passes all so_far rest next s goal r is none =
     let one : instructions all (length so_far) (s ∷ next) ≡ (instructions all (length so_far + commands_in s.command) next >>= λ is. Ok ([] ++ is)) =
     step all (length so_far) s next (Ok []) (ap (optional_instruction all (length so_far) s.line) none) in
@@ -208,7 +209,7 @@ some_instruction all n line c i e = rw e refl
 no_instruction : (all : List Statement) (n line : ℕ) (c : Command) (f : AsmFault) → instruction all n line c ≡ Err f → optional_instruction all n line (Some c) ≡ Err f
 no_instruction all n line c f e = rw e refl
 
-pub goes_on : (all : List Statement) (so_far now : List Meant) (rest next : List Statement) (s : Statement) (c : Command) (i : Meant) (goal : Result (List Meant) AsmFault) → ResolvesOn all so_far rest goal → rest ≡ s ∷ next → s.command ≡ Some c
+goes_on : (all : List Statement) (so_far now : List Meant) (rest next : List Statement) (s : Statement) (c : Command) (i : Meant) (goal : Result (List Meant) AsmFault) → ResolvesOn all so_far rest goal → rest ≡ s ∷ next → s.command ≡ Some c
     → instruction all (length so_far) s.line c ≡ Ok i → now ≡ so_far ++ i ∷ [] → ResolvesOn all now next goal
 goes_on all so_far now rest next s c i goal r is some e pushed =
     let one : instructions all (length so_far) (s ∷ next) ≡ (instructions all (length so_far + commands_in s.command) next >>= λ is. Ok ((i ∷ []) ++ is)) =
@@ -220,12 +221,41 @@ goes_on all so_far now rest next s c i goal r is some e pushed =
           ∙ ap (λ q. q >>= λ is. Ok (so_far ++ is)) (sym one) ∙ ap (λ ss. instructions all (length so_far) ss >>= λ is. Ok (so_far ++ is)) (sym is) ∙ r.same;
     }
 
-pub stops : (all : List Statement) (so_far : List Meant) (rest next : List Statement) (s : Statement) (c : Command) (d : Failure AsmFault) (goal : Result (List Meant) AsmFault) → ResolvesOn all so_far rest goal → rest ≡ s ∷ next → s.command ≡ Some c
+stops : (all : List Statement) (so_far : List Meant) (rest next : List Statement) (s : Statement) (c : Command) (d : Failure AsmFault) (goal : Result (List Meant) AsmFault) → ResolvesOn all so_far rest goal → rest ≡ s ∷ next → s.command ≡ Some c
     → Fails d (instruction all (length so_far) s.line c) → Fails d goal
 stops all so_far rest next s c failure.Memory goal r is some e = tt
 stops all so_far rest next s c (failure.Fault f) goal r is some e =
     let one : instructions all (length so_far) (s ∷ next) ≡ Err f = step all (length so_far) s next (Err f) (ap (optional_instruction all (length so_far) s.line) some ∙ no_instruction all (length so_far) s.line c f e) in
     sym r.same ∙ ap (λ ss. instructions all (length so_far) ss >>= λ is. Ok (so_far ++ is)) is ∙ ap (λ q. q >>= λ is. Ok (so_far ++ is)) one
+
+-- a statement whose instruction is added
+pub adds : (all : List Statement) (so_far now : List Meant) (rest next : List Statement) (s : Statement) (goal : Result (List Meant) AsmFault) → ResolvesOn all so_far rest goal → rest ≡ s ∷ next
+    → with_instruction all so_far s ≡ Ok now → ResolvesOn all now next goal
+adds all so_far now rest next s goal r is e = at_command s.command refl e
+  where
+    at_instruction : (c : Command) → s.command ≡ Some c → (q : Result Meant AsmFault) → instruction all (length so_far) s.line c ≡ q → ((q >>= λ i. Ok (i ∷ [])) >>= λ i. Ok (so_far ++ i)) ≡ Ok now → ResolvesOn all now next goal
+    at_instruction c some (Ok i) meant e = let same : now ≡ so_far ++ i ∷ [] = cc in goes_on all so_far now rest next s c i goal r is some meant same
+    at_instruction c some (Err f) meant e = absurd cc
+
+    at_command : (c : Option Command) → s.command ≡ c → (optional_instruction all (length so_far) s.line c >>= λ i. Ok (so_far ++ i)) ≡ Ok now → ResolvesOn all now next goal
+    at_command None none e =
+        let same : so_far ++ [] ≡ now = cc in
+        subst (λ xs. ResolvesOn all xs next goal) (sym (append-nil so_far) ∙ same) (passes all so_far rest next s goal r is none)
+    at_command (Some c) some e = at_instruction c some (instruction all (length so_far) s.line c) refl e
+
+-- a statement whose instruction is refused
+pub refuses : (all : List Statement) (so_far : List Meant) (rest next : List Statement) (s : Statement) (d : Failure AsmFault) (goal : Result (List Meant) AsmFault) → ResolvesOn all so_far rest goal → rest ≡ s ∷ next
+    → Fails d (with_instruction all so_far s) → Fails d goal
+refuses all so_far rest next s failure.Memory goal r is e = tt
+refuses all so_far rest next s (failure.Fault f) goal r is e = at_command s.command refl e
+  where
+    at_instruction : (c : Command) → s.command ≡ Some c → (q : Result Meant AsmFault) → instruction all (length so_far) s.line c ≡ q → ((q >>= λ i. Ok (i ∷ [])) >>= λ i. Ok (so_far ++ i)) ≡ Err f → goal ≡ Err f
+    at_instruction c some (Ok i) meant e = absurd cc
+    at_instruction c some (Err g) meant e = let same : g ≡ f = cc in stops all so_far rest next s c (failure.Fault f) goal r is some (meant ∙ ap (λ h. Err h) same)
+
+    at_command : (c : Option Command) → s.command ≡ c → (optional_instruction all (length so_far) s.line c >>= λ i. Ok (so_far ++ i)) ≡ Err f → goal ≡ Err f
+    at_command None none e = absurd cc
+    at_command (Some c) some e = at_instruction c some (instruction all (length so_far) s.line c) refl e
 
 at_end : (all : List Statement) (n : ℕ) → instructions all n [] ≡ Ok []
 unfolding instructions

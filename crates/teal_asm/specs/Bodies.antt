@@ -1,9 +1,9 @@
 -- What is kept of the statements of a text so far.
 use Rattle.std.specs.Prelude.{◌≡◌, ℕ, ◌+◌, ◌≤◌, List, [], ◌∷◌, length}
 use Rattle.std.specs.List.{list_any}
-use Rattle.teal_asm.specs.declared.statement.Statement.{Statement}
+use Rattle.teal_source.specs.declared.statement.Statement.{Statement}
 use Rattle.teal_asm.specs.declared.body.Body.{Body}
-use Rattle.teal_asm.specs.Statements.{gathered_uints, gathered_strings, is_uint_block, is_byte_block}
+use Rattle.teal_source.specs.Statements.{gathered_uints, gathered_strings, is_uint_block, is_byte_block}
 use Rattle.teal_asm.specs.Meaning.{commands_in, labels_from}
 
 abbrev pub command_count : List Statement → ℕ

@@ -3,11 +3,11 @@ use Rattle.std.specs.Prelude.{◌≡◌, ℕ, ◌+◌, ◌^◌, ◌<◌, ◌≤�
 use Rattle.std.specs.List.{list_any}
 use Rattle.std.specs.Map.{lookup}
 use Rattle.std.specs.Str.{bytes_eq}
-use Rattle.teal_asm.specs.declared.command.Command.{Command}
-use Rattle.teal_asm.specs.declared.command.Command.TheVariants.{Int, Byte}
-use Rattle.teal_asm.specs.declared.statement.Statement.{Statement}
+use Rattle.teal_source.specs.declared.command.Command.{Command}
+use Rattle.teal_source.specs.declared.command.Command.TheVariants.{Int, Byte}
+use Rattle.teal_source.specs.declared.statement.Statement.{Statement}
 use Rattle.teal_asm.specs.declared.resolve.Constants.{Constants}
-use Rattle.teal_asm.specs.Statements.{gathered_uints, gathered_strings}
+use Rattle.teal_source.specs.Statements.{gathered_uints, gathered_strings}
 use Rattle.teal_asm.specs.Meaning.{gathered_blocks, labels_from}
 
 pub record AreConstants (c : Constants) (all : List Statement) : Type 0 where

@@ -12,13 +12,13 @@ use Rattle.teal_table.specs.declared.opcode.Opcode.TheVariants as op
 use Rattle.teal_code.specs.declared.instr.Immediates.{Immediates}
 use Rattle.teal_code.specs.declared.instr.Immediates.TheVariants as is
 use Rattle.teal_text.specs.Lines.{lines_of}
-use Rattle.teal_asm.specs.declared.statement.Statement.{Statement}
-use Rattle.teal_asm.specs.declared.command.Command.{Command}
-use Rattle.teal_asm.specs.declared.command.Command.TheVariants.{Int, Byte, Jump, Plain}
-use Rattle.teal_asm.specs.declared.fault.AsmFaultKind.TheVariants as kind
-use Rattle.teal_asm.specs.declared.fault.AsmFault.{AsmFault}
-use Rattle.teal_asm.specs.Operands.{Word}
-use Rattle.teal_asm.specs.Statements.{Words, fault_at, on_text, words_of_lines, pragma_version, statements, gathered_uints, gathered_strings}
+use Rattle.teal_source.specs.declared.statement.Statement.{Statement}
+use Rattle.teal_source.specs.declared.command.Command.{Command}
+use Rattle.teal_source.specs.declared.command.Command.TheVariants.{Int, Byte, Jump, Plain}
+use Rattle.teal_source.specs.declared.fault.AsmFaultKind.TheVariants as kind
+use Rattle.teal_source.specs.declared.fault.AsmFault.{AsmFault}
+use Rattle.teal_source.specs.Operands.{Word}
+use Rattle.teal_source.specs.Statements.{Words, fault_at, on_text, words_of_lines, pragma_version, statements, gathered_uints, gathered_strings}
 
 -- an instruction as a text means it: a branch names the number of the instruction that it leads to, the count for the end
 pub data Meant : Type 0 where

@@ -7,9 +7,9 @@ use Rattle.teal_table.specs.declared.shape.Version.TheVariants.{Two, Three}
 use Rattle.teal_code.specs.declared.instr.Immediates.TheVariants as is
 use Rattle.teal_code.specs.Spelling.{instr_spelling}
 use Rattle.teal_text.specs.Lines.{lines_of}
-use Rattle.teal_asm.specs.declared.fault.AsmFaultKind.TheVariants as kind
-use Rattle.teal_asm.specs.declared.fault.AsmFault.{AsmFault}
-use Rattle.teal_asm.specs.Statements.{fault_at}
+use Rattle.teal_source.specs.declared.fault.AsmFaultKind.TheVariants as kind
+use Rattle.teal_source.specs.declared.fault.AsmFault.{AsmFault}
+use Rattle.teal_source.specs.Statements.{fault_at}
 use Rattle.teal_asm.specs.Meaning.{Meant, Straight, Branch, Meaning, meaning}
 
 -- how many bytes an instruction takes

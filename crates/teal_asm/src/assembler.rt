@@ -4,13 +4,13 @@ ghost use Rattle.std.specs.Prelude.{length, All, IfOk};
 ghost use Rattle.teal_value.specs.Answer.{Gives};
 ghost use Rattle.teal_text.specs.Tokens.{LiesWithin};
 ghost use Rattle.teal_text.specs.Lines.{lines_of, views};
-ghost use Rattle.teal_asm.specs.Statements.{on_text};
+ghost use Rattle.teal_source.specs.Statements.{on_text};
 ghost use Rattle.teal_asm.specs.Program.{assembled};
 
 use crate::emit::short_program;
-use crate::fault::{AsmError, AsmFault, AsmFaultKind};
 use crate::meaning::meaning_of;
 use std::alloc::Global;
+use teal_source::{AsmError, AsmFault, AsmFaultKind};
 use teal_text::{Line, lines};
 use teal_value::Failure;
 

@@ -6,17 +6,14 @@ ghost use Rattle.std.specs.Map.{lookup};
 ghost use Rattle.std.specs.Option.{ForSome};
 ghost use Rattle.std.specs.Str.{bytes_eq};
 ghost use Rattle.teal_value.specs.Answer.{Leaves};
-ghost use Rattle.teal_asm.specs.Statements.{appended, behind, distinct, gathered_uint, gathered_string, has_label, is_uint_block, is_byte_block};
+ghost use Rattle.teal_source.specs.Statements.{appended, behind, distinct, gathered_uint, gathered_string, has_label, is_uint_block, is_byte_block};
 ghost use Rattle.teal_asm.specs.Meaning.{commands_in, label_entry};
 
-use crate::command::Command;
-use crate::fault::AsmFaultKind;
 use crate::gathered::{Labels, Strings};
-use crate::operand::LineError;
-use crate::statement::Statement;
 use indexmap::IndexSet;
 use std::alloc::{AllocError, Global};
 use teal_code::Immediates;
+use teal_source::{AsmFaultKind, Command, LineError, Statement};
 use teal_value::{ByteString, Failure};
 
 /// The most constants that are gathered of a kind.

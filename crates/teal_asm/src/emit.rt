@@ -7,9 +7,9 @@ ghost use Rattle.teal_code.specs.declared.instr.Immediates.TheVariants as is;
 ghost use Rattle.teal_asm.specs.Program.{size, total_size, spelling, version_byte, program, short_program};
 ghost use Rattle.teal_asm.specs.Instructions.{meant, all_meant, ArePlaces};
 
-use crate::fault::{AsmError, AsmFault, AsmFaultKind};
 use std::alloc::{AllocError, Global};
 use teal_code::{Immediates, Instr, encode_into};
+use teal_source::{AsmError, AsmFault, AsmFaultKind};
 use teal_table::{Opcode, Version};
 use teal_value::Failure;
 

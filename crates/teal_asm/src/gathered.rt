@@ -4,7 +4,7 @@ ghost use Rattle.std.specs.Prelude.{◌≡◌, ◌∷◌, ◌++◌, [], None, le
 ghost use Rattle.std.specs.List.{position_or_len};
 ghost use Rattle.std.specs.Map.{lookup};
 ghost use Rattle.std.specs.Str.{bytes_eq};
-ghost use Rattle.teal_asm.specs.Statements.{with_new};
+ghost use Rattle.teal_source.specs.Statements.{with_new};
 
 use indexmap::{IndexMap, IndexSet};
 use std::alloc::{AllocError, Global};

@@ -4,15 +4,14 @@ ghost use Rattle.std.specs.Prelude.{◌≡◌, ◌∷◌, [], length, map, All, 
 ghost use Rattle.teal_value.specs.Answer.{Gives, Leaves};
 ghost use Rattle.teal_text.specs.Tokens.{LiesWithin};
 ghost use Rattle.teal_text.specs.Lines.{view, views};
-ghost use Rattle.teal_asm.specs.Statements.{failure_on_line, pragma_in, pragma_of, statements, word_at, words_of_line, words_of_lines, words_on};
+ghost use Rattle.teal_source.specs.Statements.{failure_on_line, pragma_in, pragma_of, statements, word_at, words_of_line, words_of_lines, words_on};
 ghost use Rattle.teal_asm.specs.Bodies.{IsBody};
-ghost use Rattle.teal_asm.specs.Shown.{words};
+ghost use Rattle.teal_source.specs.Shown.{words};
 
 use crate::body::Body;
-use crate::fault::{AsmError, AsmFault, AsmFaultKind};
-use crate::line::{add_line, is_pragma, named_version};
-use crate::operand::LineError;
+use crate::line::add_line;
 use std::alloc::{AllocError, Global};
+use teal_source::{AsmError, AsmFault, AsmFaultKind, LineError, is_pragma, named_version};
 use teal_table::Version;
 use teal_text::{Line, Token};
 use teal_value::Failure;
@@ -52,7 +51,7 @@ fn add_tokens(
     add_words(alloc, version, line.number, &words, body)
 }
 
-#[tactic(auto, unfolding(crate::specs::Statements::statements))]
+#[tactic(auto, unfolding(teal_source::specs::Statements::statements))]
 fn add_words(
     alloc: Global,
     version: Version,

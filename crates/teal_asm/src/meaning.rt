@@ -4,15 +4,15 @@ ghost use Rattle.std.specs.Prelude.{length, All};
 ghost use Rattle.teal_value.specs.Answer.{Gives};
 ghost use Rattle.teal_text.specs.Tokens.{LiesWithin};
 ghost use Rattle.teal_text.specs.Lines.{view, views};
-ghost use Rattle.teal_asm.specs.Statements.{pragma_of, words_of_lines};
+ghost use Rattle.teal_source.specs.Statements.{pragma_of, words_of_lines};
 ghost use Rattle.teal_asm.specs.Meaning.{meaning_of_lines, meaning_with};
 ghost use Rattle.teal_asm.specs.Instructions.{meaning_in};
 
 use crate::emit::Instruction;
-use crate::fault::{AsmError, AsmFault, AsmFaultKind};
 use crate::lines::{body_of, pragma_version};
 use crate::resolve::instructions_of;
 use std::alloc::Global;
+use teal_source::{AsmError, AsmFault, AsmFaultKind};
 use teal_table::Version;
 use teal_text::Line;
 use teal_value::Failure;

@@ -2,26 +2,24 @@
 
 ghost use Rattle.std.specs.Prelude.{◌≡◌, ◌+◌, ◌<◌, ◌++◌, List, length, nat_eq, IfOk};
 ghost use Rattle.std.specs.List.{position_or_len};
-ghost use Rattle.teal_value.specs.Answer.{Gives};
+ghost use Rattle.teal_value.specs.Answer.{Gives, Leaves};
 ghost use Rattle.teal_value.specs.declared.failure.Failure.TheVariants.{Fault};
 ghost use Rattle.teal_asm.specs.Meaning.{Straight, all_instructions, branch, byte_block, gathered_blocks, instruction, read_byte_constant, read_uint_constant, uint_block};
 ghost use Rattle.std.specs.Map.{lookup};
 ghost use Rattle.std.specs.Option.{option_map};
 ghost use Rattle.std.specs.Str.{bytes_eq};
 ghost use Rattle.teal_asm.specs.Bodies.{IsBody};
-ghost use Rattle.teal_asm.specs.Constants.{AreConstants, HasConstant, HasConstants, IsShort};
-ghost use Rattle.teal_asm.specs.Instructions.{all_meant, meant};
-ghost use Rattle.teal_asm.specs.declared.statement.Statement.{Statement as AnyStatement};
+ghost use Rattle.teal_asm.specs.Constants.{AreConstants, HasConstant, HasConstants, HasItsConstant, IsShort};
+ghost use Rattle.teal_asm.specs.Instructions.{all_meant, meant, with_instruction};
+ghost use Rattle.teal_source.specs.declared.statement.Statement.{Statement as AnyStatement};
 
 use crate::body::Body;
-use crate::command::Command;
 use crate::emit::Instruction;
-use crate::fault::{AsmError, AsmFault, AsmFaultKind};
 use crate::gathered::{Labels, Strings};
-use crate::statement::Statement;
 use indexmap::IndexSet;
 use std::alloc::{AllocError, Global};
 use teal_code::{Immediates, Instr};
+use teal_source::{AsmError, AsmFault, AsmFaultKind, Command, Statement};
 use teal_table::Opcode;
 use teal_value::{ByteStrings, Failure, Uints};
 
@@ -73,18 +71,35 @@ fn resolved(
 {
     let mut instructions = blocks;
     for statement in statements {
-        let Statement {
-            line,
-            label: _,
-            command,
-        } = statement;
-        if let Some(command) = command {
+        add_instruction(constants, statement, &mut instructions)?;
+    }
+    Ok(instructions)
+}
+
+// Adds the instruction of a statement, if it has a command.
+fn add_instruction(
+    constants: &Constants,
+    statement: Statement,
+    instructions: &mut Vec<Instruction>,
+) -> Result<(), AsmError>
+    requires known { HasItsConstant constants.now.uints.keys constants.now.strings statement.command }
+    requires short { IsShort constants.now }
+    ensures { (all : List AnyStatement) → AreConstants constants.now all → Leaves result (all_meant instructions.new.items) (with_instruction all (all_meant instructions.old.items) statement) }
+{
+    let Statement {
+        line,
+        label: _,
+        command,
+    } = statement;
+    match command {
+        Some(command) => {
             let number = instructions.len();
             let instruction = instruction_of(constants, number, line, command)?;
             instructions.push(instruction)?;
+            Ok(())
         }
+        None => Ok(()),
     }
-    Ok(instructions)
 }
 
 fn instruction_of(

@@ -35,17 +35,17 @@ has_first p (x ∷ xs) =
       | false ↦ (x ∷ r.0, r.1, ap (onto_first x) r.2)
     ]
 
-not_false : (b : Bool) → not b ≡ true → b ≡ false
+pub not_false : (b : Bool) → not b ≡ true → b ≡ false
 not_false true e = absurd cc
 not_false false e = refl
 
-line_text_before : (rest : List ℕ) → line_len rest < length rest → line_text rest ≡ strip_carriage_return (take (line_len rest) rest)
+pub line_text_before : (rest : List ℕ) → line_len rest < length rest → line_text rest ≡ strip_carriage_return (take (line_len rest) rest)
 unfolding line_text
 line_text_before rest lt =
     let test : eqb (line_len rest) (length rest) ≡ false = grind (arith, nat_tests) in
     rw test refl
 
-line_text_whole : (rest : List ℕ) → line_len rest ≡ length rest → line_text rest ≡ rest
+pub line_text_whole : (rest : List ℕ) → line_len rest ≡ length rest → line_text rest ≡ rest
 unfolding line_text
 line_text_whole rest e =
     let test : eqb (line_len rest) (length rest) ≡ true = grind (arith, nat_tests) in

@@ -14,7 +14,7 @@ use Rattle.teal_text.specs.declared.scan.FirstToken.{FirstToken}
 use Rattle.teal_text.specs.declared.token.Token.{Token}
 use Rattle.teal_text.specs.Tokens.{is_blank, blank_len, begins_comment, word_len, is_base64_word, announces_base64, first_token, tokens_from, tokens_of}
 use Rattle.teal_text.specs.Lines.{LineTokens, on_line, with_line, lines_from, is_line_feed}
-use Rattle.teal_text.specs.PlainWords.{is_plain_byte, is_plain_word, is_plain_line, spaced, line_of_words, text_of_lines, tokens_of_words, lines_of_words, words_at}
+use Rattle.teal_text.specs.PlainWords.{has_comment, is_plain_byte, is_plain_word, is_plain_line, spaced, line_of_words, text_of_lines, tokens_of_words, lines_of_words, words_at}
 use Rattle.teal_text.proofs.Reading.{step}
 use Rattle.teal_text.proofs.LineReading.{has_first}
 
@@ -28,20 +28,38 @@ record IsPlain (b : ℕ) : Type 0 where
   feed : eqb b 10 ≡ false
   return : eqb b 13 ≡ false
   mark : eqb b 34 ≡ false
-  slash : eqb b 47 ≡ false
 
-none_of : (p q r s t : Bool) → not ((((p || q) || r) || s) || t) ≡ true → (p ≡ false) × (q ≡ false) × (r ≡ false) × (s ≡ false) × (t ≡ false)
-none_of true q r s t e = absurd cc
-none_of false true r s t e = absurd cc
-none_of false false true s t e = absurd cc
-none_of false false false true t e = absurd cc
-none_of false false false false true e = absurd cc
-none_of false false false false false e = (refl, refl, refl, refl, refl)
+none_of : (p q r s : Bool) → not (((p || q) || r) || s) ≡ true → (p ≡ false) × (q ≡ false) × (r ≡ false) × (s ≡ false)
+none_of true q r s e = absurd cc
+none_of false true r s e = absurd cc
+none_of false false true s e = absurd cc
+none_of false false false true e = absurd cc
+none_of false false false false e = (refl, refl, refl, refl)
 
 plain : (b : ℕ) → is_plain_byte b ≡ true → IsPlain b
 plain b e =
-    let n = none_of (is_blank b) (eqb b 10) (eqb b 13) (eqb b 34) (eqb b 47) e in
-    record { blank = n.0; feed = n.1; return = n.2; mark = n.3; slash = n.4 }
+    let n = none_of (is_blank b) (eqb b 10) (eqb b 13) (eqb b 34) e in
+    record { blank = n.0; feed = n.1; return = n.2; mark = n.3 }
+
+-- a word that is not empty, of plain bytes, in which no comment begins
+record IsWord (word : List ℕ) : Type 0 where
+  some : 0 < length word
+  bytes : list_all is_plain_byte word ≡ true
+  comment : has_comment word ≡ false
+
+not_true : (b : Bool) → not b ≡ true → b ≡ false
+not_true true e = absurd cc
+not_true false e = refl
+
+is_word : (word : List ℕ) → is_plain_word word ≡ true → IsWord word
+is_word word p =
+    let first = both (ltb 0 (length word)) _ p in
+    let more = both (list_all is_plain_byte word) (not (has_comment word)) first.1 in
+    record { some = grind (arith, nat_tests, first.0); bytes = more.0; comment = not_true _ more.1 }
+
+neither : (a b : Bool) → a || b ≡ false → (a ≡ false) × (b ≡ false)
+neither true b e = absurd cc
+neither false b e = (refl, e)
 
 -- what may follow a word
 abbrev ends_word : List ℕ → Bool
@@ -52,10 +70,20 @@ spaced_ends : (words : List (List ℕ)) → ends_word (spaced words) ≡ true
 spaced_ends [] = refl
 spaced_ends (word ∷ words) = refl
 
-no_comment : (b : ℕ) (bs : List ℕ) → eqb b 47 ≡ false → begins_comment (b ∷ bs) ≡ false
-no_comment b bs e =
-    let other : eqb 47 b ≡ false = grind (arith, nat_tests) in
-    rw other refl
+blank_is : (b : ℕ) → is_blank b ≡ true → eqb 47 b ≡ false
+blank_is b e = elim (eqb b 32) as (λ x. x ≡ eqb b 32 → x || eqb b 9 ≡ true → eqb 47 b ≡ false) [
+  | true ↦ λ h _. grind (arith, nat_tests)
+  | false ↦ λ h tab. grind (arith, nat_tests)
+] refl e
+
+and_false : (a : Bool) → a && false ≡ false
+and_false true = refl
+and_false false = refl
+
+no_comment : (b : ℕ) (bs rest : List ℕ) → begins_comment (b ∷ bs) ≡ false → ends_word rest ≡ true → begins_comment (b ∷ (bs ++ rest)) ≡ false
+no_comment b [] [] e ends = e
+no_comment b [] (r ∷ rs) e ends = rw (blank_is r ends) (and_false (eqb 47 b))
+no_comment b (c ∷ cs) rest e ends = e
 
 stays : (p q r : Bool) (n : ℕ) → p ≡ false → r ≡ false → cond (p || (q && r)) 0 (suc n) ≡ suc n
 stays true q r n e f = absurd cc
@@ -67,14 +95,15 @@ stops : (p q : Bool) (n : ℕ) → p ≡ true → cond (p || q) 0 (suc n) ≡ 0
 stops true q n e = refl
 stops false q n e = absurd cc
 
-word_len_of : (base64 : Bool) (word rest : List ℕ) → list_all is_plain_byte word ≡ true → ends_word rest ≡ true → word_len base64 (word ++ rest) ≡ length word
-word_len_of base64 [] [] p ends = refl
-word_len_of base64 [] (b ∷ bs) p ends = stops (is_blank b) (not base64 && begins_comment (b ∷ bs)) (word_len base64 bs) ends
-word_len_of base64 (b ∷ bs) rest p ends =
+word_len_of : (base64 : Bool) (word rest : List ℕ) → list_all is_plain_byte word ≡ true → has_comment word ≡ false → ends_word rest ≡ true → word_len base64 (word ++ rest) ≡ length word
+word_len_of base64 [] [] p c ends = refl
+word_len_of base64 [] (b ∷ bs) p c ends = stops (is_blank b) (not base64 && begins_comment (b ∷ bs)) (word_len base64 bs) ends
+word_len_of base64 (b ∷ bs) rest p c ends =
     let here = both (is_plain_byte b) (list_all is_plain_byte bs) p in
     let is = plain b here.0 in
-    let more = word_len_of base64 bs rest here.1 ends in
-    stays (is_blank b) (not base64) (begins_comment (b ∷ (bs ++ rest))) (word_len base64 (bs ++ rest)) is.blank (no_comment b (bs ++ rest) is.slash) ∙ ap (λ n. suc n) more
+    let free = neither (begins_comment (b ∷ bs)) (has_comment bs) c in
+    let more = word_len_of base64 bs rest here.1 free.1 ends in
+    stays (is_blank b) (not base64) (begins_comment (b ∷ (bs ++ rest))) (word_len base64 (bs ++ rest)) is.blank (no_comment b bs rest free.0 ends) ∙ ap (λ n. suc n) more
 
 not_ended : (none q comment : Bool) → none ≡ false → comment ≡ false → none || (q && comment) ≡ false
 not_ended true q comment e f = absurd cc
@@ -89,11 +118,12 @@ first_token_of : (base64 : Bool) (word rest : List ℕ) → is_plain_word word �
 unfolding first_token
 first_token_of base64 [] rest p ends = absurd cc
 first_token_of base64 (b ∷ bs) rest p ends =
-    let parts = both (ltb 0 (length (b ∷ bs))) (list_all is_plain_byte (b ∷ bs)) p in
-    let is = plain b (both (is_plain_byte b) (list_all is_plain_byte bs) parts.1).0 in
+    let word = is_word (b ∷ bs) p in
+    let is = plain b (both (is_plain_byte b) (list_all is_plain_byte bs) word.bytes).0 in
+    let free = neither (begins_comment (b ∷ bs)) (has_comment bs) word.comment in
     let some : eqb (length (b ∷ (bs ++ rest))) 0 ≡ false = grind (arith, nat_tests) in
-    let open_line = not_ended (eqb (length (b ∷ (bs ++ rest))) 0) (not base64) (begins_comment (b ∷ (bs ++ rest))) some (no_comment b (bs ++ rest) is.slash) in
-    let len = word_len_of (is_base64_word base64 (b ∷ (bs ++ rest))) (b ∷ bs) rest parts.1 ends in
+    let open_line = not_ended (eqb (length (b ∷ (bs ++ rest))) 0) (not base64) (begins_comment (b ∷ (bs ++ rest))) some (no_comment b bs rest free.0 ends) in
+    let len = word_len_of (is_base64_word base64 (b ∷ (bs ++ rest))) (b ∷ bs) rest word.bytes word.comment ends in
     rw (open_line, is.mark, len) refl
 
 -- the tokens from a plain word on
@@ -112,8 +142,7 @@ blank_len_none : (word rest : List ℕ) → is_plain_word word ≡ true → blan
 unfolding blank_len
 blank_len_none [] rest p = absurd cc
 blank_len_none (b ∷ bs) rest p =
-    let parts = both (ltb 0 (length (b ∷ bs))) (list_all is_plain_byte (b ∷ bs)) p in
-    let is = plain b (both (is_plain_byte b) (list_all is_plain_byte bs) parts.1).0 in
+    let is = plain b (both (is_plain_byte b) (list_all is_plain_byte bs) (is_word (b ∷ bs) p).bytes).0 in
     rw is.blank refl
 
 blank_len_one : (word rest : List ℕ) → is_plain_word word ≡ true → blank_len (32 ∷ (word ++ rest)) ≡ 1
@@ -136,7 +165,7 @@ tokens_read place (word ∷ words) p =
     let parts = both (is_plain_word word) (is_plain_line words) p in
     let line = word ++ spaced words in
     let len = length-append word (spaced words) in
-    let some : 0 < length word = grind (arith, nat_tests, both (ltb 0 (length word)) (list_all is_plain_byte word) parts.0) in
+    let some = (is_word word parts.0).some in
     let start : place + 0 ≡ place = omega arith in
     let more = spaced_tokens (length line) (announces_base64 word (spaced words)) (place + length word) words (omega arith) parts.1 in
     one_word (length line) false place 0 line word (spaced words) (blank_len_none word (spaced words) parts.0) refl parts.0 (spaced_ends words) ∙ rw (start, more) refl
@@ -159,15 +188,13 @@ spaced_in_line : (words : List (List ℕ)) → is_plain_line words ≡ true → 
 spaced_in_line [] p = refl
 spaced_in_line (word ∷ words) p =
     let parts = both (is_plain_word word) (is_plain_line words) p in
-    let bytes = both (ltb 0 (length word)) (list_all is_plain_byte word) parts.0 in
-    rw (list_all-append in_line word (spaced words), word_in_line word bytes.1) (spaced_in_line words parts.1)
+    rw (list_all-append in_line word (spaced words), word_in_line word (is_word word parts.0).bytes) (spaced_in_line words parts.1)
 
 line_in_line : (words : List (List ℕ)) → is_plain_line words ≡ true → list_all in_line (line_of_words words) ≡ true
 line_in_line [] p = refl
 line_in_line (word ∷ words) p =
     let parts = both (is_plain_word word) (is_plain_line words) p in
-    let bytes = both (ltb 0 (length word)) (list_all is_plain_byte word) parts.0 in
-    rw (list_all-append in_line word (spaced words), word_in_line word bytes.1) (spaced_in_line words parts.1)
+    rw (list_all-append in_line word (spaced words), word_in_line word (is_word word parts.0).bytes) (spaced_in_line words parts.1)
 
 no_end : (b : ℕ) → in_line b ≡ true → (eqb b 10 ≡ false) × (eqb b 13 ≡ false)
 no_end b e = elim (is_plain_byte b) as (λ x. x ≡ is_plain_byte b → x || eqb b 32 ≡ true → (eqb b 10 ≡ false) × (eqb b 13 ≡ false)) [

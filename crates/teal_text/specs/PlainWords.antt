@@ -2,15 +2,20 @@
 use Rattle.std.specs.Prelude.{ℕ, ◌+◌, ◌==◌, Bool, false, not, ◌&&◌, ◌||◌, nat_lt, List, [], ◌∷◌, ◌++◌, length, map, slice_range}
 use Rattle.std.specs.List.{list_all}
 use Rattle.teal_text.specs.declared.token.Token.{Token}
-use Rattle.teal_text.specs.Tokens.{is_blank}
+use Rattle.teal_text.specs.Tokens.{begins_comment, is_blank}
 use Rattle.teal_text.specs.Lines.{LineTokens}
 
--- a byte that ends no word and no line, and with which no string and no comment begins
+-- a byte that ends no word and no line, and with which no string begins
 abbrev pub is_plain_byte : ℕ → Bool
-is_plain_byte b = not ((((is_blank b || b == 10) || b == 13) || b == 34) || b == 47)
+is_plain_byte b = not (((is_blank b || b == 10) || b == 13) || b == 34)
+
+-- whether a comment begins in a word
+abbrev pub has_comment : List ℕ → Bool
+has_comment [] = false
+has_comment (b ∷ bs) = begins_comment (b ∷ bs) || has_comment bs
 
 abbrev pub is_plain_word : List ℕ → Bool
-is_plain_word word = nat_lt 0 (length word) && list_all is_plain_byte word
+is_plain_word word = nat_lt 0 (length word) && (list_all is_plain_byte word && not (has_comment word))
 
 abbrev pub is_plain_line : List (List ℕ) → Bool
 is_plain_line words = list_all is_plain_word words

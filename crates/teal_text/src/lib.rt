@@ -14,7 +14,7 @@ mod string;
 mod token;
 
 pub use fault::{TextError, TextFault, TextFaultKind};
-pub use line::{Line, lines, plain_words_read_back, tokens_lie_in_order};
+pub use line::{Line, first_line, lines, plain_words_read_back, tokens_lie_in_order};
 pub use literal::{
     base64_bytes, byte_literal, encoded_bytes, literals_read_back, names_encoding, token_bytes,
 };

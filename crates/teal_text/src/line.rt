@@ -56,9 +56,9 @@ pub fn plain_words_read_back()
     ensures words { (lines : List (List (List ℕ))) → map (words_at (text_of_lines lines)) (lines_of_words 1 0 lines) ≡ lines }
 {}
 
-/// The first line, and what follows its line feed.
+/// The first line, without the carriage return directly before its line feed, and what follows that.
 #[tactic(auto, unfolding(crate::specs::Lines::line_text))]
-fn first_line(bytes: &[u8]) -> (&[u8], &[u8])
+pub fn first_line(bytes: &[u8]) -> (&[u8], &[u8])
     ensures line { result.0.now ≡ line_text bytes.now }
     ensures shorter { length result.0.now ≤ length bytes.now }
     ensures next { result.1.now ≡ drop (line_len bytes.now + 1) bytes.now }

@@ -13,5 +13,5 @@ pub returns : goal.returns
 returns g c = (
   c.in_ok-input.input.items,
   c.in_ok-input.ensures,
-  (rw c.as_slice.ensures.value at c.in_ok-asm_reply.ensures) ∙ sym (reply_of-short c.args.command c.in_ok-input.input.items (omega (arith, c.len.ensures, c.if-len-gt-INPUT_LIMIT.false))),
+  (rw c.as_slice.ensures.value at c.in_ok-command_reply.ensures) ∙ sym (reply_of-short c.args.command c.in_ok-input.input.items (omega (arith, c.len.ensures, c.if-len-gt-INPUT_LIMIT.false))),
 )

@@ -1,6 +1,6 @@
 use Rattle.std.proofs.Common.{ap, ◌∙◌}
-use Rattle.teal_asm.specs.Shown.{words}
-use Rattle.teal_asm.specs.Statements.{on_line}
+use Rattle.teal_source.specs.Shown.{words}
+use Rattle.teal_source.specs.Statements.{on_line}
 use Rattle.teal_asm.proofs.LineByLine.{one_line, fails_on_line}
 use Rattle.teal_asm.proofs.lines.add_first.Goals as goal
 

@@ -2,7 +2,7 @@ use Rattle.std.proofs.Common.{sym, ap, ◌∙◌, arith}
 use Rattle.std.proofs.lemmas.Result.{err_from_is_err_and}
 use Rattle.std.proofs.lemmas.List.{drop_all}
 use Rattle.teal_text.specs.Lines.{views}
-use Rattle.teal_asm.specs.Statements.{statements, words_of_lines}
+use Rattle.teal_source.specs.Statements.{statements, words_of_lines}
 use Rattle.teal_asm.proofs.LineByLine.{goes_on, stops, statements-nil}
 use Rattle.teal_asm.proofs.lines.body_of.Goals as goal
 

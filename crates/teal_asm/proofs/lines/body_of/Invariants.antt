@@ -1,6 +1,6 @@
 use Rattle.std.proofs.Common.{◌≡◌, [], drop}
 use Rattle.teal_text.specs.Lines.{views}
-use Rattle.teal_asm.specs.Statements.{statements, words_of_lines}
+use Rattle.teal_source.specs.Statements.{statements, words_of_lines}
 use Rattle.teal_asm.specs.Bodies.{IsBody}
 use Rattle.teal_asm.proofs.lines.body_of.Given as goal
 

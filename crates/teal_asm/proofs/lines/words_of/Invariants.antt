@@ -1,6 +1,6 @@
 use Rattle.std.proofs.Common.{◌≡◌, ◌++◌, map, drop}
-use Rattle.teal_asm.specs.Statements.{word_at}
-use Rattle.teal_asm.specs.Shown.{words}
+use Rattle.teal_source.specs.Statements.{word_at}
+use Rattle.teal_source.specs.Shown.{words}
 use Rattle.teal_asm.proofs.lines.words_of.Given as goal
 
 abbrev pub invariant-loop-token : goal.invariant-loop-token

@@ -2,7 +2,7 @@ use Rattle.std.proofs.Common.{◌≡◌, ◌-◌, ◌<◌, length, take, drop, A
 use Rattle.std.proofs.lemmas.List.{nil_from_length}
 use Rattle.teal_text.specs.Tokens.{LiesWithin}
 use Rattle.teal_text.specs.Lines.{views}
-use Rattle.teal_asm.specs.Statements.{words_of_lines}
+use Rattle.teal_source.specs.Statements.{words_of_lines}
 use Rattle.teal_asm.specs.Meaning.{meaning_of_lines}
 use Rattle.teal_asm.proofs.Pragma.{first_and_more, first_of, more_of, fewer, no_token, some_token, blank_line, behind_pragma}
 use Rattle.teal_asm.proofs.meaning.meaning_of.Goals as goal

@@ -1,7 +1,7 @@
 use Rattle.std.proofs.Common.{◌≡◌, length, All}
 use Rattle.teal_text.specs.Tokens.{LiesWithin}
 use Rattle.teal_text.specs.Lines.{views}
-use Rattle.teal_asm.specs.Statements.{words_of_lines}
+use Rattle.teal_source.specs.Statements.{words_of_lines}
 use Rattle.teal_asm.proofs.meaning.meaning_of.Given as goal
 
 abbrev pub invariant-loop-rest : goal.invariant-loop-rest

@@ -1,6 +1,6 @@
 use Rattle.std.proofs.Common.{◌++◌, ◌∷◌, [], nat_eq, ◌||◌, ap, sym, ◌∙◌, zero-add, arith}
 use Rattle.std.specs.Str.{bytes_eq}
-use Rattle.teal_asm.specs.Statements.{distinct, gathered_uint, gathered_string, is_uint_block, is_byte_block}
+use Rattle.teal_source.specs.Statements.{distinct, gathered_uint, gathered_string, is_uint_block, is_byte_block}
 use Rattle.teal_asm.specs.Bodies.{command_count}
 use Rattle.teal_asm.specs.Meaning.{labels_from, label_entry}
 use Rattle.teal_asm.proofs.Bodying.{uints-push, strings-push, list_any-push, labels-push, command_count-push, command_count-le, is_mixed, is_too_many, is_behind, few, body_is, is_fresh}

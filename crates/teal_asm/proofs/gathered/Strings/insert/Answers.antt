@@ -1,6 +1,6 @@
 use Rattle.std.proofs.Common.{◌∙◌, ap}
 use Rattle.std.specs.Str.{bytes_eq}
-use Rattle.teal_asm.specs.Statements.{with_new}
+use Rattle.teal_source.specs.Statements.{with_new}
 use Rattle.teal_asm.proofs.Gathering.{inserted}
 use Rattle.teal_asm.proofs.gathered.Strings.insert.Goals as goal
 

@@ -1,0 +1,87 @@
+//! Why an input of lines of digits is refused, and what is answered to it.
+
+ghost use Rattle.std.specs.Prelude.{◌≡◌, IfOk, string_bytes};
+ghost use Rattle.avm_node.specs.Refusals.{check_name, check_place, check_text, code_name, refusal_reply};
+ghost use Rattle.avm_node.specs.Shown.{shown};
+
+use crate::output::{REFUSED, Reply};
+use std::alloc::{AllocError, Global};
+use teal_check::CheckFault;
+use teal_code::CodeFault;
+
+/// Why an input of lines of digits is refused.
+#[derive(Clone, Copy, Debug, PartialEq, Eq)]
+pub enum Refusal {
+    /// The line of this number has another character than digits, or an odd count of them.
+    Hex(usize),
+    /// There is a line too many, or too few.
+    Lines,
+    /// The program breaks this rule.
+    Check(CheckFault),
+}
+
+/// What is answered to a refused input.
+pub fn refusal_reply(alloc: Global, refusal: Refusal) -> Result<Reply, AllocError>
+    ensures { IfOk result (λ reply. shown reply ≡ refusal_reply refusal) }
+{
+    let text = match refusal {
+        Refusal::Hex(line) => format!(in alloc; "refused hex {line}\n")?,
+        Refusal::Lines => String::from_str(alloc, "refused lines\n")?,
+        Refusal::Check(fault) => check_text(alloc, fault)?,
+    };
+    Ok(Reply {
+        text,
+        status: REFUSED,
+    })
+}
+
+fn check_text(alloc: Global, fault: CheckFault) -> Result<String, AllocError>
+    ensures { IfOk result (λ text. string_bytes text ≡ check_text fault) }
+{
+    let name = check_name(fault);
+    match check_place(fault) {
+        Some(place) => format!(in alloc; "refused check {name} {place}\n"),
+        None => format!(in alloc; "refused check {name}\n"),
+    }
+}
+
+fn check_name(fault: CheckFault) -> &'static str
+    ensures { result.now ≡ check_name fault }
+{
+    match fault {
+        CheckFault::Version => "Version",
+        CheckFault::Length => "Length",
+        CheckFault::Code { fault, .. } => code_name(fault),
+        CheckFault::OutOfProfile { .. } => "OutOfProfile",
+        CheckFault::Backward { .. } => "Backward",
+        CheckFault::NotAligned { .. } => "NotAligned",
+        CheckFault::PastEnd { .. } => "PastEnd",
+        CheckFault::Cost => "Cost",
+        CheckFault::UnknownField { .. } => "UnknownField",
+    }
+}
+
+fn code_name(fault: CodeFault) -> &'static str
+    ensures { result.now ≡ code_name fault }
+{
+    match fault {
+        CodeFault::UnknownOp => "UnknownOp",
+        CodeFault::Truncated => "Truncated",
+        CodeFault::BadVaruint => "BadVaruint",
+    }
+}
+
+// The place of the instruction that breaks the rule, where the rule is one of instructions.
+fn check_place(fault: CheckFault) -> Option<u16>
+    ensures { result ≡ check_place fault }
+{
+    match fault {
+        CheckFault::Code { place, .. }
+        | CheckFault::OutOfProfile { place }
+        | CheckFault::Backward { place }
+        | CheckFault::NotAligned { place }
+        | CheckFault::PastEnd { place }
+        | CheckFault::UnknownField { place } => Some(place),
+        CheckFault::Version | CheckFault::Length | CheckFault::Cost => None,
+    }
+}

@@ -1,0 +1,96 @@
+//! Every short text of a few characters that begin or end something, behind the pragma.
+
+use avm_node::answer;
+use std::process::Abort;
+use std::test::Fail;
+
+/// The characters, in the order of the answers below.
+const CHARACTERS: &str = "\"\\/:x\n";
+
+/// A beginning, and for each character the answer to the text that it makes with it: P and how often the program has the
+/// opcode `/` behind its version, T and the line of a text fault, or U and the line of an unknown name.
+const ANSWERS: [(&str, &str); 43] = [
+    ("", "T2 U2 P1 U2 U2 P0"),
+    ("\"", "U2 T2 T2 T2 T2 T2"),
+    ("\\", "U2 U2 U2 P0 U2 U2"),
+    ("/", "U2 U2 P0 P0 U2 P1"),
+    (":", "U2 U2 U2 P0 U2 U2"),
+    ("x", "U2 U2 U2 P0 U2 U2"),
+    ("\n", "T3 U3 P1 U3 U3 P0"),
+    ("\"\"", "T2 T2 T2 T2 T2 U2"),
+    ("\"\\", "T2 T2 T2 T2 T2 T2"),
+    ("\"/", "U2 T2 T2 T2 T2 T2"),
+    ("\":", "U2 T2 T2 T2 T2 T2"),
+    ("\"x", "U2 T2 T2 T2 T2 T2"),
+    ("\"\n", "T2 T2 T2 T2 T2 T2"),
+    ("\\\"", "U2 U2 U2 P0 U2 U2"),
+    ("\\\\", "U2 U2 U2 P0 U2 U2"),
+    ("\\/", "U2 U2 U2 P0 U2 U2"),
+    ("\\:", "U2 U2 U2 P0 U2 P0"),
+    ("\\x", "U2 U2 U2 P0 U2 U2"),
+    ("\\\n", "T3 U2 U2 U2 U2 U2"),
+    ("/\"", "U2 U2 U2 P0 U2 U2"),
+    ("/\\", "U2 U2 U2 P0 U2 U2"),
+    ("//", "P0 P0 P0 P0 P0 P0"),
+    ("/:", "U2 U2 U2 P0 U2 P0"),
+    ("/x", "U2 U2 U2 P0 U2 U2"),
+    ("/\n", "T3 U3 P2 U3 U3 P1"),
+    (":\"", "U2 U2 U2 P0 U2 U2"),
+    (":\\", "U2 U2 U2 P0 U2 U2"),
+    (":/", "U2 U2 U2 P0 U2 U2"),
+    ("::", "U2 U2 U2 P0 U2 P0"),
+    (":x", "U2 U2 U2 P0 U2 U2"),
+    (":\n", "T3 U2 U2 U2 U2 U2"),
+    ("x\"", "U2 U2 U2 P0 U2 U2"),
+    ("x\\", "U2 U2 U2 P0 U2 U2"),
+    ("x/", "U2 U2 U2 P0 U2 U2"),
+    ("x:", "U2 U2 U2 P0 U2 P0"),
+    ("xx", "U2 U2 U2 P0 U2 U2"),
+    ("x\n", "T3 U2 U2 U2 U2 U2"),
+    ("\n\"", "U3 T3 T3 T3 T3 T3"),
+    ("\n\\", "U3 U3 U3 P0 U3 U3"),
+    ("\n/", "U3 U3 P0 P0 U3 P1"),
+    ("\n:", "U3 U3 U3 P0 U3 U3"),
+    ("\nx", "U3 U3 U3 P0 U3 U3"),
+    ("\n\n", "T4 U4 P1 U4 U4 P0"),
+];
+
+/// The output and the status that an answer stands for.
+fn reply_for(rt: &impl AllocGlobal, answer: &str) -> Result<(String, u8), Fail> {
+    let alloc = rt.alloc();
+    let line = &answer[1..];
+    let text = match answer {
+        "P0" => String::from_str(alloc, "02\n")?,
+        "P1" => String::from_str(alloc, "020a\n")?,
+        "P2" => String::from_str(alloc, "020a0a\n")?,
+        _ if answer.starts_with("T") => format!(in alloc; "refused asm {line} Text\n")?,
+        _ => format!(in alloc; "refused asm {line} UnknownName\n")?,
+    };
+    let status = if answer.starts_with("P") { 0 } else { 1 };
+    Ok((text, status))
+}
+
+fn is_answered(rt: &(impl Abort + AllocGlobal), text: &str, expected: &str) -> Result<(), Fail> {
+    let alloc = rt.alloc();
+    let source = format!(in alloc; "#pragma version 2\n{text}")?;
+    let (reply, status) = reply_for(rt, expected)?;
+    let mut written = Vec::new(alloc);
+    let found = answer(alloc, &["asm"], &mut source.as_bytes(), &mut written);
+    assert_eq!(rt; found, Some(status));
+    assert_eq!(rt; written.as_slice(), reply.as_bytes());
+    Ok(())
+}
+
+#[test]
+fn all_up_to_three_characters(rt: HostRuntime) -> Result<(), Fail> {
+    is_answered(&rt, "", "P0")?;
+    for (beginning, answers) in ANSWERS {
+        let mut characters = CHARACTERS.chars();
+        for expected in answers.split(' ') {
+            let last = characters.next().unwrap_or(' ');
+            let text = format!(in rt.alloc(); "{beginning}{last}")?;
+            is_answered(&rt, text.as_str(), expected)?;
+        }
+    }
+    Ok(())
+}

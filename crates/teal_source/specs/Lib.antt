@@ -1,0 +1,4 @@
+pub mod Operands
+pub mod Commands
+pub mod Statements
+pub mod Shown
