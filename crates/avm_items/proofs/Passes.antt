@@ -24,25 +24,12 @@ use Rattle.avm_items.specs.Items.{ItemMap, IsInItemOrder, item_cmp, sort_key}
 use Rattle.avm_items.specs.LedgerItems.{put_one, put}
 use Rattle.avm_items.specs.Putting.{is_absent, set_one, set_all, absent_items, without_all}
 use Rattle.avm_items.proofs.PutBack.{changed, changed_there, changed_gone, changed_twice}
-use Rattle.avm_items.proofs.Puts.{stays_in_order}
+use Rattle.avm_items.proofs.Puts.{accounts_apart, differ, ids_apart, other_application, other_without, stays_in_order}
 
 -- ---- applications
 
-other_there : (l : Ledger) (id other : ℕ) (app : StoredApplication) → is_eq (nat_cmp other id) ≡ false → application_at (with_application l id app) other ≡ application_at l other
-other_there l id other app n = lookup-inserted_other nat_cmp_total other id app l.applications n
-
-other_without : (l : Ledger) (id other : ℕ) → is_eq (nat_cmp other id) ≡ false → application_at (without_application l id) other ≡ application_at l other
-other_without l id other n = lookup-removed_other nat_cmp_total other id l.applications n
-
 turned_apart : (a b : ℕ) → is_eq (nat_cmp a b) ≡ false → is_eq (nat_cmp b a) ≡ false
-turned_apart a b n = by (is_eq (nat_cmp b a)) refl
-  where
-    by : (t : Bool) → is_eq (nat_cmp b a) ≡ t → t ≡ false
-    by false e = refl
-    by true e =
-        let same : b ≡ a = nat_cmp-IsAntisymmetric b a (is_Equal (nat_cmp b a) e) in
-        let tied : is_eq (nat_cmp a b) ≡ true = ap (λ x. is_eq (nat_cmp a x)) same ∙ ap is_eq (tied_itself nat_cmp_total a) in
-        absurd cc
+turned_apart a b n = ids_apart b a (λ e. let tied : is_eq (nat_cmp a b) ≡ true = ap (λ x. is_eq (nat_cmp a x)) e ∙ ap is_eq (tied_itself nat_cmp_total a) in cc)
 
 -- an application taken out, and another one's row set
 without_then_row : (l : Ledger) (id other : ℕ) (row : Application) → IsInOrder l → is_eq (nat_cmp id other) ≡ false
@@ -82,7 +69,7 @@ changed_other : (l : Ledger) (id other : ℕ) (change : Entries → Entries) →
     → application_at (changed l id change) other ≡ application_at l other
 changed_other l id other change n None e = ap (λ m. application_at m other) (changed_gone l id change e)
 changed_other l id other change n (Some app) e =
-    ap (λ m. application_at m other) (changed_there l id change app e) ∙ other_there l id other (record app { state = change app.state }) n
+    ap (λ m. application_at m other) (changed_there l id change app e) ∙ other_application l id other (record app { state = change app.state }) n
 
 own_changes : (l : Ledger) → IsInOrder l → (id : ℕ) (f g : Entries → Entries) → ((s : Entries) → IsInKeyOrder s → f (g s) ≡ g (f s)) → (a : Option StoredApplication) → application_at l id ≡ a
     → changed (changed l id g) id f ≡ changed (changed l id f) id g
@@ -128,31 +115,11 @@ state_then_local : (l : Ledger) (id : ℕ) (change : Entries → Entries) (who :
 state_then_local l id change who other state None = refl
 state_then_local l id change who other state (Some app) = refl
 
-accounts_apart : (who who' : Address) (id id' : ℕ) → item_cmp (item.Local who id) (item.Local who' id') ≡ Less → is_eq (account_cmp (who, id) (who', id')) ≡ false
-accounts_apart who who' id id' less = by (is_eq (account_cmp (who, id) (who', id'))) refl
-  where
-    by : (t : Bool) → is_eq (account_cmp (who, id) (who', id')) ≡ t → t ≡ false
-    by false e = refl
-    by true e =
-        let same = account_same (who, id) (who', id') (is_Equal (account_cmp (who, id) (who', id')) e) in
-        let tied : item_cmp (item.Local who id) (item.Local who' id') ≡ Equal = ap (λ x. item_cmp (item.Local who id) (item.Local x.0 x.1)) (sym same) ∙ tied_itself byte_total (sort_key (item.Local who id)) in
-        absurd cc
-
-ids_apart : (id other : ℕ) → item_cmp (item.App id) (item.App other) ≡ Less → is_eq (nat_cmp id other) ≡ false
-ids_apart id other less = by (is_eq (nat_cmp id other)) refl
-  where
-    by : (t : Bool) → is_eq (nat_cmp id other) ≡ t → t ≡ false
-    by false e = refl
-    by true e =
-        let same : id ≡ other = nat_cmp-IsAntisymmetric id other (is_Equal (nat_cmp id other) e) in
-        let tied : item_cmp (item.App id) (item.App other) ≡ Equal = ap (λ x. item_cmp (item.App id) (item.App x)) (sym same) ∙ tied_itself byte_total (sort_key (item.App id)) in
-        absurd cc
-
 taken_later : (l : Ledger) (x y : Item) (v : ItemValue) → IsInOrder l → item_cmp x y ≡ Less → is_absent v ≡ false → put_one (put_one l y v) x value.Absent ≡ put_one (put_one l x value.Absent) y v
 taken_later l x y value.Absent o less p = absurd cc
 taken_later l item.NextApp y v o less p = refl
 taken_later l (item.Counts id) y v o less p = refl
-taken_later l (item.App id) (item.App other) (value.App row) o less p = without_then_row l id other row o (ids_apart id other less)
+taken_later l (item.App id) (item.App other) (value.App row) o less p = without_then_row l id other row o (ids_apart id other (λ e. differ (item.App other) (item.App id) (ap is_eq less) (ap item.App e)))
 taken_later l (item.App id) (item.Key other key) (value.Key w) o less p = without_then_change l id other (λ s. with_entry s key w) o (application_at l other) refl (is_eq (nat_cmp id other)) refl
 taken_later l (item.App id) (item.Local who other) (value.Local state) o less p = refl
 taken_later l (item.App id) item.NextApp v o less p = absurd cc
@@ -163,7 +130,7 @@ taken_later l (item.Key id key) item.NextApp v o less p = absurd cc
 taken_later l (item.Key id key) (item.App other) v o less p = absurd cc
 taken_later l (item.Key id key) y v o less p = refl
 taken_later l (item.Local who id) (item.Local who' id') (value.Local state) o less p =
-    ap (λ states. record l { local_states = states }) (remove-insert account_total account_same (who, id) (who', id') state l.local_states o.local_states (accounts_apart who who' id id' less))
+    ap (λ states. record l { local_states = states }) (remove-insert account_total account_same (who, id) (who', id') state l.local_states o.local_states (accounts_apart (who', id') (who, id) (λ e. differ (item.Local who' id') (item.Local who id) (ap is_eq less) (ap (λ x. item.Local x.0 x.1) e))))
 taken_later l (item.Local who id) item.NextApp v o less p = absurd cc
 taken_later l (item.Local who id) (item.App other) v o less p = absurd cc
 taken_later l (item.Local who id) (item.Key other key) v o less p = absurd cc

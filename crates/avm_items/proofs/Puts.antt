@@ -127,27 +127,27 @@ is_its_items l m o p same =
 item_total : IsTotalOrder item_cmp
 item_total = on_total sort_key nat_list_cmp_total
 
-differ : (x y : Item) → is_eq (item_cmp y x) ≡ false → y ≡ x → ⊥
+pub differ : (x y : Item) → is_eq (item_cmp y x) ≡ false → y ≡ x → ⊥
 differ x y n e = let same : is_eq (item_cmp y x) ≡ true = ap (λ z. is_eq (item_cmp z x)) e ∙ ap is_eq (tied_itself item_total x) in cc
 
 apart : (b : Bool) → (b ≡ true → ⊥) → b ≡ false
 apart true h = absurd (h refl)
 apart false h = refl
 
-ids_apart : (other id : ℕ) → (other ≡ id → ⊥) → is_eq (nat_cmp other id) ≡ false
+pub ids_apart : (other id : ℕ) → (other ≡ id → ⊥) → is_eq (nat_cmp other id) ≡ false
 ids_apart other id h = apart (is_eq (nat_cmp other id)) (λ e. h (nat_cmp-IsAntisymmetric other id (is_Equal (nat_cmp other id) e)))
 
 not_the_id : (other id : ℕ) → (other == id) ≡ false → is_eq (nat_cmp other id) ≡ false
 not_the_id other id h = ids_apart other id (λ e. let same : (other == id) ≡ true = eq-eqb other id e in cc)
 
-accounts_apart : (x y : Address × ℕ) → (y ≡ x → ⊥) → is_eq (account_cmp y x) ≡ false
+pub accounts_apart : (x y : Address × ℕ) → (y ≡ x → ⊥) → is_eq (account_cmp y x) ≡ false
 accounts_apart x y h = apart (is_eq (account_cmp y x)) (λ e. h (account_same y x (is_Equal (account_cmp y x) e)))
 
 -- another application, after one is set
-other_application : (l : Ledger) (id other : ℕ) (app : StoredApplication) → is_eq (nat_cmp other id) ≡ false → application_at (with_application l id app) other ≡ application_at l other
+pub other_application : (l : Ledger) (id other : ℕ) (app : StoredApplication) → is_eq (nat_cmp other id) ≡ false → application_at (with_application l id app) other ≡ application_at l other
 other_application l id other app n = lookup-inserted_other nat_cmp_total other id app l.applications n
 
-other_without : (l : Ledger) (id other : ℕ) → is_eq (nat_cmp other id) ≡ false → application_at (without_application l id) other ≡ application_at l other
+pub other_without : (l : Ledger) (id other : ℕ) → is_eq (nat_cmp other id) ≡ false → application_at (without_application l id) other ≡ application_at l other
 other_without l id other n = lookup-removed_other nat_cmp_total other id l.applications n
 
 app_keeps : (l m : Ledger) (id : ℕ) → m.next_id ≡ l.next_id → m.local_states ≡ l.local_states → ((other : ℕ) → is_eq (nat_cmp other id) ≡ false → application_at m other ≡ application_at l other)
