@@ -2,6 +2,8 @@ pub mod Questions
 pub mod Counting
 pub mod Puts
 pub mod Orders
+pub mod PutBack
+pub mod Passes
 pub mod CallBack
 pub mod CallSpelled
 pub mod RulesKept

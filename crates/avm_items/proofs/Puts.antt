@@ -1,12 +1,11 @@
 -- The laws of setting and reading the items of a ledger, by the laws of finite maps.
 use Rattle.std.proofs.Common.{◌≡◌, ℕ, ◌==◌, Bool, true, false, List, [], ◌∷◌, ◌++◌, Option, None, Some, refl, sym, ap, ◌∙◌, subst, cond, eq-eqb}
 use Rattle.std.specs.Prelude.{is_none}
-use Rattle.std.specs.Ordering.{is_eq, nat_cmp, ordering_then}
-use Rattle.std.specs.declared.cmp.Ordering.{Ordering}
-use Rattle.std.specs.declared.cmp.Ordering.TheVariants.{Less, Equal, Greater}
+use Rattle.std.specs.Ordering.{is_eq, nat_cmp}
+use Rattle.std.specs.declared.cmp.Ordering.TheVariants.{Less, Equal}
 use Rattle.std.specs.Cmp.{IsTotalOrder, on_total, tied_itself}
 use Rattle.std.proofs.lemmas.Cmp.{nat_cmp_total, nat_list_cmp_total}
-use Rattle.std.specs.FinMap.{nat_cmp-IsAntisymmetric, slice_cmp-IsAntisymmetric}
+use Rattle.std.specs.FinMap.{nat_cmp-IsAntisymmetric}
 use Rattle.std.specs.Map.{lookup, keys_of}
 use Rattle.std.specs.BTreeMap.{is_at}
 use Rattle.std.specs.List.Sorted.{IsStrictlySortedBy}
@@ -16,7 +15,7 @@ use Rattle.avm_ledger.specs.declared.application.Application.{Application}
 use Rattle.avm_ledger.specs.Entries.{Entries, byte_cmp, value_of_key, with_entry, without_entry, IsInKeyOrder}
 use Rattle.avm_ledger.specs.declared.application.StoredApplication.{StoredApplication}
 use Rattle.avm_ledger.specs.Ledgers.{Ledger, account_cmp, application_at, with_application, without_application, local_state_at, with_local_state, without_local_state, with_row, with_state, IsInOrder}
-use Rattle.avm_ledger.proofs.Changes.{account_total, byte_total, set_application, with_application_in_order, without_application_in_order}
+use Rattle.avm_ledger.proofs.Changes.{account_total, account_same, address_is, byte_total, byte_same, set_application, with_application_in_order, without_application_in_order}
 use Rattle.avm_ledger.proofs.Maps.{lookup-inserted, lookup-inserted_other, lookup-removed, lookup-removed_other, is_Equal, above_tied, below_none, sorted-inserted, sorted-removed, same_map}
 use Rattle.avm_items.specs.declared.item.Item.{Item}
 use Rattle.avm_items.specs.declared.item.Item.TheVariants as item
@@ -88,24 +87,6 @@ stays_in_order l x v o = o
 
 -- ---- two ledgers with the same items
 
-address_is : (a b : Address) → a.0 ≡ b.0 → a ≡ b
-address_is a b e = λ i. record { 0 = e i }
-
-both_Equal : (r s : Ordering) → ordering_then r s ≡ Equal → (r ≡ Equal) × (s ≡ Equal)
-both_Equal Less s e = absurd cc
-both_Equal Equal s e = (refl, e)
-both_Equal Greater s e = absurd cc
-
-pub byte_same : (x y : List ℕ) → byte_cmp x y ≡ Equal → x ≡ y
-byte_same = slice_cmp-IsAntisymmetric nat_cmp-IsAntisymmetric
-
-pub account_same : (x y : Address × ℕ) → account_cmp x y ≡ Equal → x ≡ y
-account_same x y e =
-    let both = both_Equal (byte_cmp x.0.0 y.0.0) (nat_cmp x.1 y.1) e in
-    let who = address_is x.0 y.0 (byte_same x.0.0 y.0.0 both.0) in
-    let id = nat_cmp-IsAntisymmetric x.1 y.1 both.1 in
-    λ i. (who i, id i)
-
 key_values : (a b : Option Value) → key_value a ≡ key_value b → a ≡ b
 key_values None None e = refl
 key_values None (Some w) e = absurd cc
@@ -146,27 +127,27 @@ is_its_items l m o p same =
 item_total : IsTotalOrder item_cmp
 item_total = on_total sort_key nat_list_cmp_total
 
-differ : (x y : Item) → is_eq (item_cmp y x) ≡ false → y ≡ x → ⊥
+pub differ : (x y : Item) → is_eq (item_cmp y x) ≡ false → y ≡ x → ⊥
 differ x y n e = let same : is_eq (item_cmp y x) ≡ true = ap (λ z. is_eq (item_cmp z x)) e ∙ ap is_eq (tied_itself item_total x) in cc
 
 apart : (b : Bool) → (b ≡ true → ⊥) → b ≡ false
 apart true h = absurd (h refl)
 apart false h = refl
 
-ids_apart : (other id : ℕ) → (other ≡ id → ⊥) → is_eq (nat_cmp other id) ≡ false
+pub ids_apart : (other id : ℕ) → (other ≡ id → ⊥) → is_eq (nat_cmp other id) ≡ false
 ids_apart other id h = apart (is_eq (nat_cmp other id)) (λ e. h (nat_cmp-IsAntisymmetric other id (is_Equal (nat_cmp other id) e)))
 
 not_the_id : (other id : ℕ) → (other == id) ≡ false → is_eq (nat_cmp other id) ≡ false
 not_the_id other id h = ids_apart other id (λ e. let same : (other == id) ≡ true = eq-eqb other id e in cc)
 
-accounts_apart : (x y : Address × ℕ) → (y ≡ x → ⊥) → is_eq (account_cmp y x) ≡ false
+pub accounts_apart : (x y : Address × ℕ) → (y ≡ x → ⊥) → is_eq (account_cmp y x) ≡ false
 accounts_apart x y h = apart (is_eq (account_cmp y x)) (λ e. h (account_same y x (is_Equal (account_cmp y x) e)))
 
 -- another application, after one is set
-other_application : (l : Ledger) (id other : ℕ) (app : StoredApplication) → is_eq (nat_cmp other id) ≡ false → application_at (with_application l id app) other ≡ application_at l other
+pub other_application : (l : Ledger) (id other : ℕ) (app : StoredApplication) → is_eq (nat_cmp other id) ≡ false → application_at (with_application l id app) other ≡ application_at l other
 other_application l id other app n = lookup-inserted_other nat_cmp_total other id app l.applications n
 
-other_without : (l : Ledger) (id other : ℕ) → is_eq (nat_cmp other id) ≡ false → application_at (without_application l id) other ≡ application_at l other
+pub other_without : (l : Ledger) (id other : ℕ) → is_eq (nat_cmp other id) ≡ false → application_at (without_application l id) other ≡ application_at l other
 other_without l id other n = lookup-removed_other nat_cmp_total other id l.applications n
 
 app_keeps : (l m : Ledger) (id : ℕ) → m.next_id ≡ l.next_id → m.local_states ≡ l.local_states → ((other : ℕ) → is_eq (nat_cmp other id) ≡ false → application_at m other ≡ application_at l other)

@@ -31,7 +31,7 @@ use Rattle.avm_items.specs.declared.item_value.ItemValue.TheVariants as value
 use Rattle.avm_items.specs.Items.{ItemMap}
 use Rattle.avm_items.specs.LedgerItems.{put_one, put}
 use Rattle.avm_items.specs.RuleLaws.{IsRowFor, MayKeep, MayKeepAll}
-use Rattle.avm_items.proofs.Puts.{byte_same, account_same}
+use Rattle.avm_ledger.proofs.Changes.{byte_same, account_same}
 
 -- ---- all entries
 

@@ -1,7 +1,8 @@
 -- Items in order, finite maps from items to values, and what their values say.
 use Rattle.std.specs.Prelude.{ℕ, List, [], ◌∷◌, ◌++◌, Option, Some, None}
 use Rattle.std.specs.declared.cmp.Ordering.{Ordering}
-use Rattle.std.specs.Map.{lookup}
+use Rattle.std.specs.List.Sorted.{IsStrictlySortedBy}
+use Rattle.std.specs.Map.{lookup, keys_of}
 use Rattle.std.specs.BTreeMap.{insert_entry, is_at}
 use Rattle.teal_value.specs.declared.value.Value.{Value}
 use Rattle.avm_ledger.specs.declared.application.Application.{Application}
@@ -34,6 +35,10 @@ item_cmp x y = byte_cmp (sort_key x) (sort_key y)
 -- values of some items, by rising item
 abbrev pub ItemMap : Type 0
 ItemMap = List (Item × ItemValue)
+
+-- the items rise
+abbrev pub IsInItemOrder : ItemMap → Type 0
+IsInItemOrder items = IsStrictlySortedBy item_cmp (keys_of items)
 
 abbrev pub value_in : ItemMap → Item → Option ItemValue
 value_in items x = lookup (is_at (item_cmp x)) items

@@ -13,3 +13,4 @@ pub mod LedgerItems
 pub mod PutLaws
 pub mod RuleLaws
 pub mod Environments
+pub mod Putting

@@ -8,10 +8,10 @@ use Rattle.avm_ledger.specs.Entries.{is_same_entry}
 use Rattle.avm_items.specs.declared.item_value.ItemValue.{ItemValue}
 use Rattle.avm_items.specs.declared.item_value.ItemValue.TheVariants as value
 
-abbrev is_same_schema : Schema → Schema → Bool
+abbrev pub is_same_schema : Schema → Schema → Bool
 is_same_schema s t = (s.uints == t.uints) && (s.bytes == t.bytes)
 
-abbrev is_same_application : Application → Application → Bool
+abbrev pub is_same_application : Application → Application → Bool
 is_same_application a b =
     are_same_bytes a.creator.0 b.creator.0 && are_same_bytes a.approval b.approval && are_same_bytes a.clear b.clear
     && is_same_schema a.global_schema b.global_schema && is_same_schema a.local_schema b.local_schema

@@ -1,13 +1,17 @@
 //! Maps from items to their values.
 
 ghost use Rattle.std.specs.Prelude.{◌≡◌, [], IfErr, IfOk, length};
+ghost use Rattle.std.specs.Map.Iter.{GivesInOrder};
 ghost use Rattle.std.specs.Option.{option_copied};
-ghost use Rattle.avm_items.specs.Items.{value_in, with_item};
+ghost use Rattle.avm_items.specs.declared.item.Item.{Item as ItemOf};
+ghost use Rattle.avm_items.specs.declared.item_value.ItemValue.{ItemValue as ValueOf};
+ghost use Rattle.avm_items.specs.Items.{IsInItemOrder, value_in, with_item};
 
 use crate::item::Item;
 use crate::item_value::ItemValue;
 use std::alloc::{AllocError, Global};
 use std::collections::BTreeMap;
+use std::collections::btree_map::IntoIter;
 use std::marker::Model;
 
 /// The values of some items, which contracts see as the list of them by rising item.
@@ -46,6 +50,15 @@ impl ItemMap {
         ensures { option_copied result ≡ value_in self.now item.now }
     {
         self.values.get(item)
+    }
+
+    /// The items with their values, by rising item, without a copy.
+    pub fn into_entries(self) -> IntoIter<Item, ItemValue>
+        ensures rest { result ≡ self }
+        ensures runs { GivesInOrder (ItemOf × ValueOf) }
+        ensures order { IsInItemOrder self }
+    {
+        self.values.into_iter()
     }
 
     /// Gives an item a value, in place of the one that it may have had.

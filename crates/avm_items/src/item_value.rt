@@ -1,6 +1,10 @@
 //! Values of items.
 
+ghost use Rattle.std.specs.Prelude.{◌≡◌, ◌↔◌, IfOk, IsTrue};
+ghost use Rattle.avm_items.specs.SameValues.{is_same_application, is_same_schema, is_same_value};
+
 use avm_ledger::{Application, Schema, State};
+use std::alloc::AllocError;
 use teal_value::Value;
 
 /// The value of an item. A value of another kind than its item's says as little as `Absent`.
@@ -13,4 +17,56 @@ pub enum ItemValue {
     Counts(Schema),
     Key(Value),
     Local(State),
+}
+
+/// Whether two schemas are the same.
+fn is_same_schema(schema: Schema, other: Schema) -> bool
+    ensures { result ≡ is_same_schema schema other }
+{
+    schema.uints == other.uints && schema.bytes == other.bytes
+}
+
+/// Whether two applications are the same.
+fn is_same_application(app: &Application, other: &Application) -> bool
+    ensures { result ≡ is_same_application app.now other.now }
+{
+    app.creator.0 == other.creator.0
+        && app.approval.as_slice() == other.approval.as_slice()
+        && app.clear.as_slice() == other.clear.as_slice()
+        && is_same_schema(app.global_schema, other.global_schema)
+        && is_same_schema(app.local_schema, other.local_schema)
+}
+
+impl ItemValue {
+    /// A copy of the value, in memory of its own.
+    pub fn clone(&self) -> Result<ItemValue, AllocError>
+        ensures { IfOk result (λ copy. copy ≡ self.now) }
+    {
+        match self {
+            ItemValue::Absent => Ok(ItemValue::Absent),
+            ItemValue::NextApp(id) => Ok(ItemValue::NextApp(*id)),
+            ItemValue::App(row) => Ok(ItemValue::App(row.clone()?)),
+            ItemValue::Counts(counts) => Ok(ItemValue::Counts(*counts)),
+            ItemValue::Key(value) => Ok(ItemValue::Key(value.clone()?)),
+            ItemValue::Local(state) => Ok(ItemValue::Local(state.clone()?)),
+        }
+    }
+
+    /// Whether two values are the same. It takes no memory.
+    pub fn is_same(&self, other: &ItemValue) -> bool
+        ensures test { result ≡ is_same_value self.now other.now }
+        ensures same { IsTrue result ↔ (self.now ≡ other.now) }
+    {
+        match (self, other) {
+            (ItemValue::Absent, ItemValue::Absent) => true,
+            (ItemValue::NextApp(id), ItemValue::NextApp(other)) => id == other,
+            (ItemValue::App(row), ItemValue::App(other)) => is_same_application(row, other),
+            (ItemValue::Counts(counts), ItemValue::Counts(other)) => is_same_schema(
+                *counts, *other,
+            ),
+            (ItemValue::Key(value), ItemValue::Key(other)) => value == other,
+            (ItemValue::Local(state), ItemValue::Local(other)) => state == other,
+            _ => false,
+        }
+    }
 }

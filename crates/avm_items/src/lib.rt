@@ -11,8 +11,10 @@ mod item;
 mod item_map;
 mod item_value;
 pub mod laws;
+mod ledger_items;
 pub mod reading_laws;
 pub mod rule_laws;
+mod writing;
 
 pub use call_data::{Addresses, CallData, Completion};
 pub use call_fault::{CallDataError, CallDataFault};
@@ -20,3 +22,5 @@ pub use env::Env;
 pub use item::Item;
 pub use item_map::ItemMap;
 pub use item_value::ItemValue;
+pub use ledger_items::item_of;
+pub use writing::put_items;

@@ -1,12 +1,15 @@
 -- What a change of one part of a ledger leaves: the order of its maps, and a value written in place.
 use Rattle.std.proofs.Common.{◌≡◌, ℕ, Bool, true, false, List, None, Some, refl, sym, ap, ◌∙◌, subst}
-use Rattle.std.specs.Ordering.{is_eq, nat_cmp}
+use Rattle.std.specs.Ordering.{is_eq, nat_cmp, ordering_then}
+use Rattle.std.specs.declared.cmp.Ordering.{Ordering}
+use Rattle.std.specs.declared.cmp.Ordering.TheVariants.{Less, Equal, Greater}
 use Rattle.std.specs.Cmp.{IsTotalOrder, on_total}
 use Rattle.std.proofs.lemmas.Cmp.{nat_cmp_total, nat_list_cmp_total, then_total}
 use Rattle.std.proofs.lemmas.Map.Steps.{set_value_same}
-use Rattle.std.specs.FinMap.{nat_cmp-IsAntisymmetric}
+use Rattle.std.specs.FinMap.{nat_cmp-IsAntisymmetric, slice_cmp-IsAntisymmetric}
 use Rattle.std.specs.Map.{set_value}
 use Rattle.std.specs.BTreeMap.{is_at}
+use Rattle.teal_value.specs.declared.address.Address.{Address}
 use Rattle.avm_ledger.specs.declared.application.Application.{Application}
 use Rattle.avm_ledger.specs.declared.application.StoredApplication.{StoredApplication}
 use Rattle.avm_ledger.specs.Entries.{Entries, byte_cmp, IsInKeyOrder}
@@ -18,6 +21,26 @@ account_total = then_total (on_total (λ x. x.0.0) nat_list_cmp_total) (on_total
 
 pub byte_total : IsTotalOrder byte_cmp
 byte_total = nat_list_cmp_total
+
+-- ---- keys that tie are the same
+
+pub address_is : (a b : Address) → a.0 ≡ b.0 → a ≡ b
+address_is a b e = λ i. record { 0 = e i }
+
+both_Equal : (r s : Ordering) → ordering_then r s ≡ Equal → (r ≡ Equal) × (s ≡ Equal)
+both_Equal Less s e = absurd cc
+both_Equal Equal s e = (refl, e)
+both_Equal Greater s e = absurd cc
+
+pub byte_same : (x y : List ℕ) → byte_cmp x y ≡ Equal → x ≡ y
+byte_same = slice_cmp-IsAntisymmetric nat_cmp-IsAntisymmetric
+
+pub account_same : (x y : Address × ℕ) → account_cmp x y ≡ Equal → x ≡ y
+account_same x y e =
+    let both = both_Equal (byte_cmp x.0.0 y.0.0) (nat_cmp x.1 y.1) e in
+    let who = address_is x.0 y.0 (byte_same x.0.0 y.0.0 both.0) in
+    let id = nat_cmp-IsAntisymmetric x.1 y.1 both.1 in
+    λ i. (who i, id i)
 
 -- ---- the order stays
 

@@ -1,5 +1,5 @@
 -- The counts of a state follow its entries: one value more or less, whatever stands before it.
-use Rattle.std.proofs.Common.{◌≡◌, ◌<◌, ◌≤◌, ◌+◌, ℕ, Bool, true, false, List, [], ◌∷◌, length, Option, None, Some, refl, sym, ap, ◌∙◌, cond, inl, inr, arith}
+use Rattle.std.proofs.Common.{◌≡◌, ◌<◌, ◌≤◌, ◌+◌, ℕ, Bool, true, false, List, [], ◌∷◌, length, Option, None, Some, refl, sym, ap, ◌∙◌, subst, cond, inl, inr, arith}
 use Rattle.std.specs.Prelude.{◌⊎◌, is_some}
 use Rattle.std.specs.Ordering.{is_eq, match_ordering}
 use Rattle.std.specs.declared.cmp.Ordering.{Ordering}
@@ -7,14 +7,18 @@ use Rattle.std.specs.declared.cmp.Ordering.TheVariants.{Less, Equal, Greater}
 use Rattle.std.specs.Cmp.{IsTotalOrder}
 use Rattle.std.proofs.lemmas.Cmp.{nat_list_cmp_total}
 use Rattle.std.specs.Map.{keys_of}
-use Rattle.std.specs.List.{AllByRecursion}
+use Rattle.std.specs.List.{All, AllByRecursion}
+use Rattle.std.specs.BTreeMap.{is_at}
+use Rattle.std.specs.FinMap.{nat_cmp-IsAntisymmetric, slice_cmp-IsAntisymmetric}
+use Rattle.std.proofs.lemmas.List.Elements.{All-head, All-tail}
+use Rattle.std.proofs.lemmas.Map.Views.{All-keys-insert_entry, All-map-remove_entry}
 use Rattle.std.specs.List.Sorted.{IsStrictlySortedBy}
 use Rattle.teal_value.specs.declared.value.Value.{Value}
 use Rattle.teal_value.specs.declared.value.Value.TheVariants.{Uint, Bytes}
 use Rattle.avm_ledger.specs.declared.schema.Schema.{Schema}
 use Rattle.avm_ledger.specs.Entries.{Entries, byte_cmp, value_of_key, with_entry, without_entry, IsInKeyOrder}
 use Rattle.avm_ledger.specs.Schemas.{IsCounted, no_entries, count_with, count_without, counts_in, uncounted, counts_after, keeps_kind}
-use Rattle.avm_ledger.proofs.Maps.{below_none, all_below}
+use Rattle.avm_ledger.proofs.Maps.{below_none, all_below, is_Equal}
 
 byte_total : IsTotalOrder byte_cmp
 byte_total = nat_list_cmp_total
@@ -149,13 +153,14 @@ count_with-by_sum (Uint a) n = schema_is _ _ refl (omega arith)
 count_with-by_sum (Bytes a) n = schema_is _ _ (omega arith) refl
 
 pub counted_after_put : (es es' : Entries) (key : List ℕ) (v : Value) (n rest count : Schema) (old : Option Value) → IsInKeyOrder es → IsCounted es n → es' ≡ with_entry es key v
-    → old ≡ value_of_key es key → rest ≡ uncounted old n → count ≡ count_with v no_entries → length es' ≤ 255
+    → old ≡ value_of_key es key → rest ≡ uncounted old n → count ≡ count_with v no_entries → length es' ≤ 255 → length key ≤ 64
     → IsCounted es' (record { uints = rest.uints + count.uints; bytes = rest.bytes + count.bytes })
 unfolding both
-counted_after_put es es' key v n rest count old s h is was left one room = record {
+counted_after_put es es' key v n rest count old s h is was left one room short = record {
   counts = ap counts_in is ∙ follow_puts es key v s ∙ ap (λ m. counts_after (value_of_key es key) (Some v) m) h.counts
       ∙ ap (λ o. count_with v (uncounted o n)) (sym was) ∙ count_with-by_sum v (uncounted old n) ∙ sym (λ i. both (left i) (one i));
   room = room;
+  keys = subst (λ xs. All (λ k. length k ≤ 64) (keys_of xs)) (sym is) (All-keys-insert_entry byte_cmp key v (λ k. length k ≤ 64) es h.keys short);
 }
 
 pub counted_after_delete : (es es' : Entries) (key : List ℕ) (n rest : Schema) (old : Option Value) → IsCounted es n → es' ≡ without_entry es key
@@ -163,9 +168,22 @@ pub counted_after_delete : (es es' : Entries) (key : List ℕ) (n rest : Schema)
 counted_after_delete es es' key n rest old h is was left room = record {
   counts = ap counts_in is ∙ follow_deletes es key ∙ ap (uncounted (value_of_key es key)) h.counts ∙ ap (λ o. uncounted o n) (sym was) ∙ sym left;
   room = room;
+  keys = subst (λ xs. All (λ k. length k ≤ 64) (keys_of xs)) (sym is) (All-map-remove_entry (is_at (byte_cmp key)) (λ e. e.0) (λ k. length k ≤ 64) es h.keys);
 }
 
 pub room_after_put : (n m : ℕ) (old : Option Value) → m ≡ n + cond (is_some old) 0 1 → n ≤ 255 → (n < 255) ⊎ (is_some old ≡ true) → m ≤ 255
 room_after_put n m None e h (inl below) = omega arith
 room_after_put n m None e h (inr there) = absurd cc
 room_after_put n m (Some v) e h there = omega arith
+
+-- no key has more than 64 bytes
+pub no_long_key : (es : Entries) (key : List ℕ) → All (λ k. length k ≤ 64) (keys_of es) → 64 < length key → value_of_key es key ≡ None
+no_long_key [] key short long = refl
+no_long_key (e ∷ es) key short long =
+    at_key (no_long_key es key (All-tail (λ k. length k ≤ 64) e.0 (keys_of es) short) long) (is_eq (byte_cmp key e.0)) refl
+  where
+    at_key : value_of_key es key ≡ None → (b : Bool) → is_eq (byte_cmp key e.0) ≡ b → cond b (Some e.1) (value_of_key es key) ≡ None
+    at_key later false other = later
+    at_key later true same =
+        let key_is : key ≡ e.0 = slice_cmp-IsAntisymmetric nat_cmp-IsAntisymmetric key e.0 (is_Equal (byte_cmp key e.0) same) in
+        absurd (omega (arith, All-head (λ k. length k ≤ 64) e.0 (keys_of es) short, long, ap length key_is))

@@ -1,6 +1,7 @@
 pub mod Maps
 pub mod Counts
 pub mod Changes
+pub mod SameStates
 pub mod FieldsBack
 pub mod FieldsSpelled
 pub mod FieldsFit

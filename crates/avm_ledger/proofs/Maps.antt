@@ -1,6 +1,7 @@
 -- Finite maps as entries by rising key: what is found after an insertion and after a removal, that both keep the order,
 -- and that two maps that answer alike are one.
-use Rattle.std.proofs.Common.{◌≡◌, Bool, true, false, List, [], ◌∷◌, None, Some, refl, sym, ap, ◌∙◌, cond}
+use Rattle.std.proofs.Common.{◌≡◌, Bool, true, false, List, [], ◌∷◌, Option, None, Some, refl, sym, ap, ◌∙◌, subst, cond}
+use Rattle.std.proofs.lemmas.Map.Steps.{set_value_same}
 use Rattle.std.specs.Ordering.{is_eq, match_ordering, ordering_reverse}
 use Rattle.std.specs.declared.cmp.Ordering.{Ordering}
 use Rattle.std.specs.declared.cmp.Ordering.TheVariants.{Less, Equal, Greater}
@@ -32,6 +33,12 @@ module _ {K : Type 0} {R : K → K → Ordering} (o : IsTotalOrder R) where
 
   turned : (k x : K) → R k x ≡ Greater → R x k ≡ Less
   turned k x p = turned_by (R x k) (sym p ∙ o.antisymm k x)
+
+  not_both : {P : Type 0} (q k x : K) → is_eq (R k x) ≡ false → is_eq (R q k) ≡ true → is_eq (R q x) ≡ true → P
+  not_both q k x n a b =
+      let tied : R k x ≡ Equal = sym (o.congr q k x (is_Equal (R q k) a)) ∙ is_Equal (R q x) b in
+      let t : is_eq (R k x) ≡ true = ap is_eq tied in
+      absurd cc
 
 module _ {K X : Type 0} {R : K → K → Ordering} (o : IsTotalOrder R) where
   -- ---- after an insertion
@@ -197,3 +204,79 @@ module _ {K X : Type 0} {R : K → K → Ordering} (o : IsTotalOrder R) where
   unfolding IsStrictlySortedBy
   set_value-there k v old [] s found = absurd cc
   set_value-there k v old (e ∷ es) s found = written_by k v old e es s.0 (set_value-there k v old es s.1) (R k e.0) refl found
+
+-- Where keys that tie are the same, what a change leaves is found at each key by a test of that key, and two changes that
+-- find alike are one.
+module _ {K X : Type 0} {R : K → K → Ordering} (o : IsTotalOrder R) (same : (x y : K) → R x y ≡ Equal → x ≡ y) where
+  found_inserted : (q k : K) (v : X) (es : List (K × X)) (b : Bool) → is_eq (R q k) ≡ b → lookup (is_at (R q)) (insert_entry R es k v) ≡ cond b (Some v) (lookup (is_at (R q)) es)
+  found_inserted q k v es true p =
+      let e : k ≡ q = sym (same q k (is_Equal (R q k) p)) in
+      subst (λ z. lookup (is_at (R z)) (insert_entry R es k v) ≡ Some v) e (lookup-inserted o k v es)
+  found_inserted q k v es false p = lookup-inserted_other o q k v es p
+
+  found_removed : (q k : K) (es : List (K × X)) → IsStrictlySortedBy R (keys_of es) → (b : Bool) → is_eq (R q k) ≡ b
+      → lookup (is_at (R q)) (remove_entry (is_at (R k)) es) ≡ cond b None (lookup (is_at (R q)) es)
+  found_removed q k es s true p =
+      let e : k ≡ q = sym (same q k (is_Equal (R q k) p)) in
+      subst (λ z. lookup (is_at (R z)) (remove_entry (is_at (R k)) es) ≡ None) e (lookup-removed o k es s)
+  found_removed q k es s false p = lookup-removed_other o q k es p
+
+  inserted_twice : (q k : K) (v w : X) (es : List (K × X)) (b : Bool) → is_eq (R q k) ≡ b
+      → cond b (Some w) (lookup (is_at (R q)) (insert_entry R es k v)) ≡ cond b (Some w) (lookup (is_at (R q)) es)
+  inserted_twice q k v w es true p = refl
+  inserted_twice q k v w es false p = found_inserted q k v es false p
+
+  pub insert-insert_same : (k : K) (v w : X) (es : List (K × X)) → IsStrictlySortedBy R (keys_of es) → insert_entry R (insert_entry R es k v) k w ≡ insert_entry R es k w
+  insert-insert_same k v w es s =
+      same_map o same _ _ (sorted-inserted o k w _ (sorted-inserted o k v es s)) (sorted-inserted o k w es s)
+      (λ q. found_inserted q k w (insert_entry R es k v) (is_eq (R q k)) refl ∙ inserted_twice q k v w es (is_eq (R q k)) refl ∙ sym (found_inserted q k w es (is_eq (R q k)) refl))
+
+  pub insert_same : (k : K) (v : X) (es : List (K × X)) → IsStrictlySortedBy R (keys_of es) → lookup (is_at (R k)) es ≡ Some v → insert_entry R es k v ≡ es
+  insert_same k v es s found = sym (set_value-there o k v v es s found) ∙ set_value_same (is_at (R k)) es v found
+
+  inserted_then_removed : (q k : K) (v : X) (es : List (K × X)) (b : Bool) → is_eq (R q k) ≡ b
+      → cond b None (lookup (is_at (R q)) (insert_entry R es k v)) ≡ cond b None (lookup (is_at (R q)) es)
+  inserted_then_removed q k v es true p = refl
+  inserted_then_removed q k v es false p = found_inserted q k v es false p
+
+  pub remove-insert_same : (k : K) (v : X) (es : List (K × X)) → IsStrictlySortedBy R (keys_of es) → remove_entry (is_at (R k)) (insert_entry R es k v) ≡ remove_entry (is_at (R k)) es
+  remove-insert_same k v es s =
+      let t = sorted-inserted o k v es s in
+      same_map o same _ _ (sorted-removed o k _ t) (sorted-removed o k es s)
+      (λ q. found_removed q k (insert_entry R es k v) t (is_eq (R q k)) refl ∙ inserted_then_removed q k v es (is_eq (R q k)) refl ∙ sym (found_removed q k es s (is_eq (R q k)) refl))
+
+  removed_absent : (q k : K) (es : List (K × X)) → lookup (is_at (R k)) es ≡ None → (b : Bool) → is_eq (R q k) ≡ b → cond b None (lookup (is_at (R q)) es) ≡ lookup (is_at (R q)) es
+  removed_absent q k es none true p =
+      let e : k ≡ q = sym (same q k (is_Equal (R q k) p)) in
+      subst (λ z. None ≡ lookup (is_at (R z)) es) e (sym none)
+  removed_absent q k es none false p = refl
+
+  pub remove_absent : (k : K) (es : List (K × X)) → IsStrictlySortedBy R (keys_of es) → lookup (is_at (R k)) es ≡ None → remove_entry (is_at (R k)) es ≡ es
+  remove_absent k es s none =
+      same_map o same _ _ (sorted-removed o k es s) s (λ q. found_removed q k es s (is_eq (R q k)) refl ∙ removed_absent q k es none (is_eq (R q k)) refl)
+
+  -- ---- changes at two keys, in either order
+
+  first_of_two : (q k x : K) (n : is_eq (R k x) ≡ false) (v w f : Option X) (a b : Bool) → is_eq (R q k) ≡ a → is_eq (R q x) ≡ b → cond a v (cond b w f) ≡ cond b w (cond a v f)
+  first_of_two q k x n v w f true true p r = not_both o q k x n p r
+  first_of_two q k x n v w f true false p r = refl
+  first_of_two q k x n v w f false b p r = refl
+
+  pub insert-insert : (k x : K) (v w : X) (es : List (K × X)) → IsStrictlySortedBy R (keys_of es) → is_eq (R k x) ≡ false
+      → insert_entry R (insert_entry R es x w) k v ≡ insert_entry R (insert_entry R es k v) x w
+  insert-insert k x v w es s n =
+      same_map o same _ _ (sorted-inserted o k v _ (sorted-inserted o x w es s)) (sorted-inserted o x w _ (sorted-inserted o k v es s))
+      (λ q. found_inserted q k v (insert_entry R es x w) (is_eq (R q k)) refl
+      ∙ ap (cond (is_eq (R q k)) (Some v)) (found_inserted q x w es (is_eq (R q x)) refl)
+      ∙ first_of_two q k x n (Some v) (Some w) (lookup (is_at (R q)) es) (is_eq (R q k)) (is_eq (R q x)) refl refl
+      ∙ sym (found_inserted q x w (insert_entry R es k v) (is_eq (R q x)) refl ∙ ap (cond (is_eq (R q x)) (Some w)) (found_inserted q k v es (is_eq (R q k)) refl)))
+
+  pub remove-insert : (k x : K) (w : X) (es : List (K × X)) → IsStrictlySortedBy R (keys_of es) → is_eq (R k x) ≡ false
+      → remove_entry (is_at (R k)) (insert_entry R es x w) ≡ insert_entry R (remove_entry (is_at (R k)) es) x w
+  remove-insert k x w es s n =
+      let t = sorted-inserted o x w es s in
+      same_map o same _ _ (sorted-removed o k _ t) (sorted-inserted o x w _ (sorted-removed o k es s))
+      (λ q. found_removed q k (insert_entry R es x w) t (is_eq (R q k)) refl
+      ∙ ap (cond (is_eq (R q k)) None) (found_inserted q x w es (is_eq (R q x)) refl)
+      ∙ first_of_two q k x n None (Some w) (lookup (is_at (R q)) es) (is_eq (R q k)) (is_eq (R q x)) refl refl
+      ∙ sym (found_inserted q x w (remove_entry (is_at (R k)) es) (is_eq (R q x)) refl ∙ ap (cond (is_eq (R q x)) (Some w)) (found_removed q k es s (is_eq (R q k)) refl)))

@@ -1,5 +1,7 @@
 -- How many uints and byte strings a state has, and the limit that its schema sets.
 use Rattle.std.specs.Prelude.{◌≡◌, ℕ, ◌+◌, ◌-◌, ◌≤◌, ◌&&◌, Bool, true, false, nat_le, length, List, [], ◌∷◌, Option, Some, None}
+use Rattle.std.specs.List.{All}
+use Rattle.std.specs.Map.{keys_of}
 use Rattle.teal_value.specs.declared.value.Value.{Value}
 use Rattle.teal_value.specs.declared.value.Value.TheVariants.{Uint, Bytes}
 use Rattle.avm_ledger.specs.declared.schema.Schema.{Schema}
@@ -22,10 +24,11 @@ abbrev pub counts_in : Entries → Schema
 counts_in [] = no_entries
 counts_in (e ∷ es) = count_with e.1 (counts_in es)
 
--- The counts are those of the entries, of which there are at most 255.
+-- The counts are those of the entries, of which there are at most 255, under keys of at most 64 bytes.
 pub record IsCounted (state : Entries) (n : Schema) : Type 0 where
   pub counts : counts_in state ≡ n
   pub room : length state ≤ 255
+  pub keys : All (λ k. length k ≤ 64) (keys_of state)
 
 -- whether so many may stand under the schema
 abbrev pub is_within : Schema → Schema → Bool

@@ -1,6 +1,6 @@
 //! States of applications and accounts.
 
-ghost use Rattle.std.specs.Prelude.{◌≡◌, ◌+◌, ◌<◌, ◌≤◌, [], None, IfErr, IfOk, length, List, ℕ};
+ghost use Rattle.std.specs.Prelude.{◌≡◌, ◌+◌, ◌<◌, ◌≤◌, [], None, IfErr, IfOk, IfSome, length, List, ℕ};
 ghost use Rattle.std.specs.Map.Iter.{ShowsInOrder, deref_pair};
 ghost use Rattle.std.specs.Option.{option_copied};
 ghost use Rattle.teal_value.specs.declared.value.Value.{Value};
@@ -113,6 +113,22 @@ impl State {
         self.entries.get(key)
     }
 
+    /// The value of the key of these bytes. No key has more than 64.
+    #[tactic(auto, using(crate::proofs::Counts::no_long_key))]
+    pub fn value_of(&self, key: &[u8]) -> Option<&Value>
+        ensures value { option_copied result ≡ value_of_key self.now key.now }
+        ensures short { IfSome result (λ _. length key.now ≤ 64) }
+    {
+        let _counts = self.counts;
+        match StateKey::of(key) {
+            Some(key) => {
+                let _bytes = key.as_slice();
+                self.entries.get(&key)
+            }
+            None => None,
+        }
+    }
+
     /// The entries by rising key.
     pub fn iter(&self) -> Iter<'_, StateKey, Value>
         ensures rest { result ≡ self.now }
@@ -131,6 +147,7 @@ impl State {
         ensures only_new { IfErr result (λ _. value_of_key self.old key ≡ None) }
         ensures order { IsInKeyOrder self.new }
     {
+        let _bytes = key.as_slice();
         if self.entries.len() >= MOST_ENTRIES && !self.entries.contains_key(&key) {
             return Err(AllocError);
         }

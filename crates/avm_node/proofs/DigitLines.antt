@@ -1,5 +1,5 @@
 -- The first of an input's lines, and those behind it.
-use Rattle.std.proofs.Common.{◌≡◌, ◌∙◌, ap, ℕ, ◌+◌, ◌<◌, ◌≤◌, Bool, true, false, eqb, List, [], ◌∷◌, length, take, drop, length-drop, refl, not, arith, inl, inr}
+use Rattle.std.proofs.Common.{◌≡◌, ◌∙◌, ap, ℕ, ◌+◌, ◌<◌, Bool, true, false, eqb, List, [], ◌∷◌, length, take, drop, length-drop, refl, not, arith, inl, inr}
 use Rattle.std.specs.List.{list_all, slice_split}
 use Rattle.std.specs.Str.Lines.{lines, lines_of_parts, strip_carriage_return}
 use Rattle.std.proofs.lemmas.List.{drop_all, nil_from_length}
@@ -11,7 +11,7 @@ use Rattle.std.proofs.lemmas.Bool.Decides.{nat_tests}
 use Rattle.teal_text.specs.Tokens.{is_blank}
 use Rattle.teal_text.specs.Lines.{is_line_feed, line_len, line_text}
 use Rattle.teal_text.proofs.LineReading.{has_first, line_text_before, line_text_whole, not_false}
-use Rattle.avm_node.specs.DigitLines.{DigitLine, lines_after}
+use Rattle.avm_node.specs.DigitLines.{lines_after}
 
 abbrev behind : List ℕ → List ℕ
 behind bytes = drop (line_len bytes + 1) bytes

@@ -1,6 +1,6 @@
 -- An instruction asks for at most three items, and a run goes on behind it: by families, and then row by row.
 use Rattle.std.proofs.Common.{rules, ◌<◌, ◌+◌, ◌-◌, ℕ, Bool, true, false, nat_lt, nat_le, if◌then◌else◌, List, length, Option, None, Some, Result, Ok, Err, refl, arith}
-use Rattle.std.specs.Prelude.{◌==◌, drop, slice_get, unwrap_or}
+use Rattle.std.specs.Prelude.{drop, slice_get, unwrap_or}
 use Rattle.teal_value.specs.Answer.{◌>>=◌}
 use Rattle.teal_value.specs.declared.value.Value.{Value}
 use Rattle.teal_value.specs.declared.value.Value.TheVariants.{Uint, Bytes}
@@ -22,7 +22,7 @@ use Rattle.avm_ops.specs.Frame.{Context, After, Stepped, pushes, pushes_pair, ne
 use Rattle.avm_ops.specs.Immediates.{index_of, field_of, uint_of, bytes_of}
 use Rattle.avm_ops.specs.Stack.{target_of}
 use Rattle.avm_ops.specs.Fields.{global_at}
-use Rattle.avm_ops.specs.States.{value_length, foreign_application, global_entry, may_put, global_put_over, global_delete_of}
+use Rattle.avm_ops.specs.States.{value_length, foreign_of, foreign_application, global_entry, may_put, global_put_over, global_delete_of}
 use Rattle.avm_ops.specs.Effect.{effect}
 use Rattle.avm_ops.specs.Steps.{branch_target, GoesOn}
 
@@ -64,13 +64,12 @@ entry_by n target id key f some h false = at_most-more Any (n - 1) n (GoesOn tar
 entry_asks : (n : ℕ) (target : Option ℕ) (id : ℕ) (key : List ℕ) (f : Option Value → Act Fault After) → 0 < n → ((v : Option Value) → AsksAtMost Any (n - 1) (GoesOn target) (f v)) → AsksAtMost Any n (GoesOn target) (and_then (global_entry id key) (on_ok f))
 entry_asks n target id key f some h = entry_by n target id key f some h (nat_le (length key) 64)
 
-foreign_by : (n : ℕ) (target : Option ℕ) (c : Context) (i : ℕ) (f : ℕ → Act Fault After) → ((id : ℕ) → AsksAtMost Any n (GoesOn target) (f id)) → (b : Bool)
-    → AsksAtMost Any n (GoesOn target) (and_then (if b then Gives (Ok c.current) else found (slice_get c.call.foreign_applications (i - 1)) fault.NoForeign) (on_ok f))
-foreign_by n target c i f h true = h c.current
-foreign_by n target c i f h false = then_found n target _ _ f h
+on_result : (n : ℕ) (target : Option ℕ) (f : ℕ → Act Fault After) → ((id : ℕ) → AsksAtMost Any n (GoesOn target) (f id)) → (r : Result ℕ Fault) → AsksAtMost Any n (GoesOn target) (on_ok f r)
+on_result n target f h (Ok id) = h id
+on_result n target f h (Err e) = tt
 
 foreign_asks : (n : ℕ) (target : Option ℕ) (c : Context) (i : ℕ) (f : ℕ → Act Fault After) → ((id : ℕ) → AsksAtMost Any n (GoesOn target) (f id)) → AsksAtMost Any n (GoesOn target) (and_then (foreign_application c i) (on_ok f))
-foreign_asks n target c i f h = foreign_by n target c i f h (i == 0)
+foreign_asks n target c i f h = on_result n target f h (foreign_of c.call c.current i)
 
 may_put_by : (n : ℕ) (target : Option ℕ) (f : Unit {0} → Act Fault After) → AsksAtMost Any n (GoesOn target) (f tt) → (b d : Bool)
     → AsksAtMost Any n (GoesOn target) (and_then (and_then (test b fault.KeyLength) (on_ok (λ _. test d fault.TooLong))) (on_ok f))

@@ -1,9 +1,13 @@
 -- What a part of an instruction answers: a value, a fault, or an item that isn't known.
-use Rattle.std.specs.Prelude.{◌≡◌, Result, Ok, Err}
+use Rattle.std.specs.Prelude.{◌≡◌, ℕ, List, Option, Some, None, Result, Ok, Err}
+use Rattle.teal_value.specs.declared.value.Value.{Value}
 use Rattle.teal_value.specs.declared.fault.Fault.{Fault}
 use Rattle.avm_items.specs.Asks.{Answer}
 use Rattle.avm_ops.specs.declared.op.Stop.{Stop}
 use Rattle.avm_ops.specs.declared.op.Stop.TheVariants as stop
+use Rattle.avm_ledger.specs.declared.schema.Schema.{Schema}
+use Rattle.avm_ops.specs.Frame.{Context, After}
+use Rattle.avm_ops.specs.States.{leaves, key_written, counts_written}
 
 -- the part's answer is this one, where the value is seen so
 abbrev pub Answers : {A B : Type 0} → (A → B) → Result A Stop → Answer (Result B Fault) → Type 0
@@ -11,3 +15,13 @@ Answers view (Ok a) answer = answer ≡ Ok (Ok (view a))
 Answers view (Err (stop.Fault f)) answer = answer ≡ Ok (Err f)
 Answers view (Err (stop.Need x)) answer = answer ≡ Err x
 Answers view (Err stop.Memory) answer = Unit {0}
+
+-- What a put into this application's global state leaves: the key's value, and the counts where they change.
+abbrev pub after_put : Context → List ℕ → Value → Option Schema → After
+after_put c key v None = leaves c 2 (key_written c key (Some v) c.writes)
+after_put c key v (Some counts) = leaves c 2 (counts_written c counts (key_written c key (Some v) c.writes))
+
+-- What a delete leaves: nothing else where the key was absent.
+abbrev pub after_delete : Context → List ℕ → Option Schema → After
+after_delete c key None = leaves c 1 c.writes
+after_delete c key (Some counts) = leaves c 1 (counts_written c counts (key_written c key None c.writes))

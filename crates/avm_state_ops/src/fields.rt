@@ -101,7 +101,11 @@ fn txn_array_value(
 }
 
 /// The value of the field of a number.
-pub(crate) fn scalar_field(alloc: Global, call: &CallData, number: u8) -> Result<Value, Failure<Fault>>
+pub(crate) fn scalar_field(
+    alloc: Global,
+    call: &CallData,
+    number: u8,
+) -> Result<Value, Failure<Fault>>
     ensures { Gives (λ v. v) result (scalar_field call.now number) }
 {
     match txn_field(number) {

@@ -64,7 +64,13 @@ impl Op for GlobalOp {
     }
 
     #[tactic(auto, unfolding(avm_ops::specs::Effect::effect))]
-    fn exec(&self, alloc: Global, instr: &Instr, cpu: &mut Cpu, env: &mut Env) -> Result<Flow, Stop> {
+    fn exec(
+        &self,
+        alloc: Global,
+        instr: &Instr,
+        cpu: &mut Cpu,
+        env: &mut Env,
+    ) -> Result<Flow, Stop> {
         let Some(field) = global_field(field_of(&instr.immediates)) else {
             return Err(Stop::Fault(Fault::BadField));
         };

@@ -7,7 +7,11 @@
 mod fields;
 mod global;
 mod known;
+mod reads;
 mod txn;
+mod writes;
 
 pub use global::GlobalOp;
+pub use reads::{AppGlobalGet, AppGlobalGetEx, AppLocalGet, AppLocalGetEx, AppOptedIn};
 pub use txn::Txn;
+pub use writes::{AppGlobalDel, AppGlobalPut, AppLocalDel, AppLocalPut};

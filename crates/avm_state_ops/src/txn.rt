@@ -82,7 +82,13 @@ impl Op for Txn {
     }
 
     #[tactic(auto, unfolding(avm_ops::specs::Effect::effect))]
-    fn exec(&self, alloc: Global, instr: &Instr, cpu: &mut Cpu, env: &mut Env) -> Result<Flow, Stop> {
+    fn exec(
+        &self,
+        alloc: Global,
+        instr: &Instr,
+        cpu: &mut Cpu,
+        env: &mut Env,
+    ) -> Result<Flow, Stop> {
         let immediates = &instr.immediates;
         let field = field_of(immediates);
         match self {

@@ -56,24 +56,25 @@ const ANSWERS: [(&str, &str); 43] = [
 ];
 
 /// The output and the status that an answer stands for.
-fn reply_for(rt: &impl AllocGlobal, answer: &str) -> Result<(String, u8), Fail> {
-    let alloc = rt.alloc();
-    let line = &answer[1..];
-    let text = match answer {
-        "P0" => String::from_str(alloc, "02\n")?,
-        "P1" => String::from_str(alloc, "020a\n")?,
-        "P2" => String::from_str(alloc, "020a0a\n")?,
-        _ if answer.starts_with("T") => format!(in alloc; "refused asm {line} Text\n")?,
-        _ => format!(in alloc; "refused asm {line} UnknownName\n")?,
-    };
-    let status = if answer.starts_with("P") { 0 } else { 1 };
-    Ok((text, status))
+fn reply_for(answer: &str) -> (&'static str, u8) {
+    match answer {
+        "P0" => ("02\n", 0),
+        "P1" => ("020a\n", 0),
+        "P2" => ("020a0a\n", 0),
+        "T2" => ("refused asm 2 Text\n", 1),
+        "T3" => ("refused asm 3 Text\n", 1),
+        "T4" => ("refused asm 4 Text\n", 1),
+        "U2" => ("refused asm 2 UnknownName\n", 1),
+        "U3" => ("refused asm 3 UnknownName\n", 1),
+        "U4" => ("refused asm 4 UnknownName\n", 1),
+        _ => ("", 1),
+    }
 }
 
 fn is_answered(rt: &(impl Abort + AllocGlobal), text: &str, expected: &str) -> Result<(), Fail> {
     let alloc = rt.alloc();
     let source = format!(in alloc; "#pragma version 2\n{text}")?;
-    let (reply, status) = reply_for(rt, expected)?;
+    let (reply, status) = reply_for(expected);
     let mut written = Vec::new(alloc);
     let found = answer(alloc, &["asm"], &mut source.as_bytes(), &mut written);
     assert_eq!(rt; found, Some(status));

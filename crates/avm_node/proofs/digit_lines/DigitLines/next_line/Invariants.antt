@@ -1,4 +1,4 @@
-use Rattle.std.proofs.Common.{◌≡◌, ◌+◌, ◌<◌, ◌^◌, ℕ, length}
+use Rattle.std.proofs.Common.{◌≡◌, ◌+◌, ◌<◌, ◌^◌, length}
 use Rattle.std.specs.Str.Lines.{lines}
 use Rattle.avm_node.specs.DigitLines.{lines_after}
 use Rattle.avm_node.proofs.digit_lines.DigitLines.next_line.Given as goal

@@ -1,0 +1,35 @@
+//! Items read from a ledger.
+
+ghost use Rattle.std.specs.Prelude.{◌≡◌, IfOk};
+ghost use Rattle.avm_items.specs.LedgerItems.{at};
+
+use crate::item::Item;
+use crate::item_value::ItemValue;
+use avm_ledger::Ledger;
+use std::alloc::AllocError;
+
+/// The value of an item in a ledger, in memory of its own. It is found in logarithmic time; the calls of [`Ledger`] lend
+/// what needs no copy.
+pub fn item_of(ledger: &Ledger, item: &Item) -> Result<ItemValue, AllocError>
+    ensures { IfOk result (λ value. value ≡ at ledger.now item.now) }
+{
+    match item {
+        Item::NextApp => Ok(ItemValue::NextApp(ledger.next_id())),
+        Item::App(id) => match ledger.application(*id) {
+            Some(row) => Ok(ItemValue::App(row.clone()?)),
+            None => Ok(ItemValue::Absent),
+        },
+        Item::Counts(id) => match ledger.global_state(*id) {
+            Some(state) => Ok(ItemValue::Counts(state.counts())),
+            None => Ok(ItemValue::Absent),
+        },
+        Item::Key(id, key) => match ledger.global_value(*id, key) {
+            Some(value) => Ok(ItemValue::Key(value.clone()?)),
+            None => Ok(ItemValue::Absent),
+        },
+        Item::Local(who, id) => match ledger.local_state(who, *id) {
+            Some(state) => Ok(ItemValue::Local(state.clone()?)),
+            None => Ok(ItemValue::Absent),
+        },
+    }
+}

@@ -1,0 +1,169 @@
+//! Items put into a ledger.
+
+ghost use Rattle.std.specs.Prelude.{◌≡◌, ◌++◌, [], false, IfErr, IfOk};
+ghost use Rattle.avm_ledger.specs.Ledgers.{Ledger as LedgerMaps};
+ghost use Rattle.avm_items.specs.declared.item_value.ItemValue.TheVariants.{Absent};
+ghost use Rattle.avm_items.specs.Items.{IsInItemOrder};
+ghost use Rattle.avm_items.specs.LedgerItems.{at, put, put_one};
+ghost use Rattle.avm_items.specs.Putting.{AllPutBack, CanPutBack, ChangePutBack, absent_items, absent_one, is_absent, set_all, set_one, without_all};
+
+use crate::item::Item;
+use crate::item_map::ItemMap;
+use crate::item_value::ItemValue;
+use avm_ledger::Ledger;
+use std::alloc::{AllocError, Global};
+
+/// Takes an item out.
+fn remove(ledger: &mut Ledger, item: &Item)
+    ensures { ledger.new ≡ put_one ledger.old item.now Absent }
+{
+    match item {
+        Item::App(id) => {
+            let _ = ledger.remove_application(*id);
+        }
+        Item::Key(id, key) => {
+            let _ = ledger.remove_key(*id, key);
+        }
+        Item::Local(who, id) => {
+            let _ = ledger.remove_local_state(who, *id);
+        }
+        Item::NextApp | Item::Counts(_) => {}
+    }
+}
+
+/// Sets an item to a value that is not absent, and answers the value that it had; nothing, where the value is of another
+/// kind than the item's and nothing is set.
+fn set(
+    alloc: Global,
+    ledger: &mut Ledger,
+    item: &Item,
+    value: ItemValue,
+) -> Result<Option<ItemValue>, AllocError>
+    requires { is_absent value ≡ false }
+    ensures set { IfOk result (λ _. ledger.new ≡ put_one ledger.old item.now value) }
+    ensures back { IfOk result (λ old. ChangePutBack ledger.new ledger.old item.now old) }
+    ensures unchanged { IfErr result (λ _. ledger.new ≡ ledger.old) }
+    ensures only_new { IfErr result (λ _. at ledger.old item.now ≡ Absent) }
+{
+    let next_id = ledger.next_id();
+    match (item, value) {
+        (Item::NextApp, ItemValue::NextApp(id)) => {
+            ledger.set_next_id(id);
+            Ok(Some(ItemValue::NextApp(next_id)))
+        }
+        (Item::App(id), ItemValue::App(row)) => match ledger.set_application(alloc, *id, row)? {
+            Some(old) => Ok(Some(ItemValue::App(old))),
+            None => Ok(Some(ItemValue::Absent)),
+        },
+        (Item::Key(id, key), ItemValue::Key(value)) => {
+            match ledger.set_key(*id, key.copied(), value)? {
+                Some(old) => Ok(Some(ItemValue::Key(old))),
+                None => Ok(Some(ItemValue::Absent)),
+            }
+        }
+        (Item::Local(who, id), ItemValue::Local(state)) => {
+            match ledger.set_local_state(*who, *id, state)? {
+                Some(old) => Ok(Some(ItemValue::Local(old))),
+                None => Ok(Some(ItemValue::Absent)),
+            }
+        }
+        _ => Ok(None),
+    }
+}
+
+/// Puts the old value of an item back.
+fn put_back(alloc: Global, ledger: &mut Ledger, item: &Item, old: ItemValue)
+    ensures { CanPutBack ledger.old (item.now, old) → ledger.new ≡ put_one ledger.old item.now old }
+{
+    if let ItemValue::Absent = old {
+        remove(ledger, item);
+        return;
+    }
+    let _ = set(alloc, ledger, item, old);
+}
+
+/// Puts the old values of items back, the last one first.
+fn put_all_back(alloc: Global, ledger: &mut Ledger, changes: Vec<(Item, ItemValue)>)
+    ensures { (before : LedgerMaps) → AllPutBack ledger.old changes.items before → ledger.new ≡ before }
+{
+    let mut changes = changes;
+    while let Some((item, old)) = changes.pop() {
+        put_back(alloc, ledger, &item, old);
+    }
+}
+
+/// Takes items out.
+fn remove_all(ledger: &mut Ledger, items: &[Item])
+    ensures { ledger.new ≡ without_all ledger.old items.now }
+{
+    for item in items {
+        remove(ledger, item);
+    }
+}
+
+/// Sets an item, or keeps it for later if it is to be absent. What an item had is kept in `changes`; where memory is
+/// refused, `changes` still has what leads back.
+fn change(
+    alloc: Global,
+    ledger: &mut Ledger,
+    item: Item,
+    value: ItemValue,
+    changes: &mut Vec<(Item, ItemValue)>,
+    absent: &mut Vec<Item>,
+) -> Result<(), AllocError>
+    ensures set { IfOk result (λ _. ledger.new ≡ set_one ledger.old (item, value)) }
+    ensures absent { IfOk result (λ _. absent.new.items ≡ absent.old.items ++ absent_one (item, value) []) }
+    ensures back { (before : LedgerMaps) → AllPutBack ledger.old changes.old.items before → AllPutBack ledger.new changes.new.items before }
+{
+    if let ItemValue::Absent = value {
+        absent.push(item)?;
+        return Ok(());
+    }
+    let Some(old) = set(alloc, ledger, &item, value)? else {
+        return Ok(());
+    };
+    if let Err(refused) = changes.push((item, old)) {
+        let (item, old) = refused.value;
+        put_back(alloc, ledger, &item, old);
+        return Err(AllocError);
+    }
+    Ok(())
+}
+
+/// Sets items, and keeps those that are to be absent.
+fn change_all(
+    alloc: Global,
+    ledger: &mut Ledger,
+    items: ItemMap,
+    changes: &mut Vec<(Item, ItemValue)>,
+    absent: &mut Vec<Item>,
+) -> Result<(), AllocError>
+    ensures set { IfOk result (λ _. ledger.new ≡ set_all ledger.old items) }
+    ensures absent { IfOk result (λ _. absent.new.items ≡ absent.old.items ++ absent_items items) }
+    ensures back { (before : LedgerMaps) → AllPutBack ledger.old changes.old.items before → AllPutBack ledger.new changes.new.items before }
+    ensures order { IsInItemOrder items }
+{
+    for (item, value) in items.into_entries() {
+        change(alloc, ledger, item, value, changes, absent)?;
+    }
+    Ok(())
+}
+
+/// Puts items into a ledger, without a copy of a value. Each takes logarithmic time.
+///
+/// First all is set that is not to be absent, since only that can want memory; then what is to be absent is taken out.
+pub fn put_items(alloc: Global, ledger: &mut Ledger, items: ItemMap) -> Result<(), AllocError>
+    ensures put { IfOk result (λ _. ledger.new ≡ put ledger.old items) }
+    ensures unchanged { IfErr result (λ _. ledger.new ≡ ledger.old) }
+{
+    // The ledger's maps are in order, as its readers say.
+    let _next_id = ledger.next_id();
+    let mut changes = Vec::new(alloc);
+    let mut absent = Vec::new(alloc);
+    if let Err(refused) = change_all(alloc, ledger, items, &mut changes, &mut absent) {
+        put_all_back(alloc, ledger, changes);
+        return Err(refused);
+    }
+    remove_all(ledger, absent.as_slice());
+    Ok(())
+}

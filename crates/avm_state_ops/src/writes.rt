@@ -1,0 +1,310 @@
+//! Instructions that change states.
+
+ghost use Rattle.std.specs.Prelude.{◌≡◌, ◌||◌, ℕ, List, Some, false, true, IfOk, MatchOption, MatchResult};
+ghost use Rattle.std.specs.Option.{option_copied};
+ghost use Rattle.teal_table.specs.declared.opcode.Opcode.TheVariants as op;
+ghost use Rattle.avm_ledger.specs.Entries.{with_entry, without_entry};
+ghost use Rattle.avm_ledger.specs.Schemas.{count_without, counts_after, is_within, keeps_kind};
+ghost use Rattle.teal_value.specs.declared.fault.Fault.TheVariants.{Schema as SchemaFault};
+ghost use Rattle.avm_items.specs.Asks.{answer_from};
+ghost use Rattle.avm_items.specs.Environments.{known_to};
+ghost use Rattle.avm_cpu.specs.Machine.{Machine};
+ghost use Rattle.avm_ops.specs.Objects.{context_of};
+ghost use Rattle.avm_ops.specs.States.{global_delete_of, global_put_over, schema_in, value_length};
+ghost use Rattle.avm_state_ops.specs.Parts.{Answers, after_delete, after_put};
+
+use crate::fields::account;
+use crate::known::{application, global_counts, global_entry, local_state};
+use avm_cpu::{Cpu, Flow};
+use avm_items::{Env, Item, ItemValue};
+use avm_ledger::{Application, Schema, State};
+use avm_ops::{Op, Stop};
+use std::alloc::{AllocError, Global};
+use teal_code::Instr;
+use teal_table::Opcode;
+use teal_value::{Fault, StateKey, Value};
+
+/// Puts a value into an account's local state of this application.
+#[derive(Clone, Copy, Debug, PartialEq, Eq)]
+pub struct AppLocalPut;
+
+/// Puts a value into this application's global state.
+#[derive(Clone, Copy, Debug, PartialEq, Eq)]
+pub struct AppGlobalPut;
+
+/// Takes a key out of an account's local state of this application.
+#[derive(Clone, Copy, Debug, PartialEq, Eq)]
+pub struct AppLocalDel;
+
+/// Takes a key out of this application's global state.
+#[derive(Clone, Copy, Debug, PartialEq, Eq)]
+pub struct AppGlobalDel;
+
+/// How many bytes a value has.
+fn value_length(value: &Value) -> usize
+    ensures { result ≡ value_length value.now }
+{
+    match value {
+        Value::Uint(_) => 0,
+        Value::Bytes(bytes) => bytes.len(),
+    }
+}
+
+/// The limit on an application's global state.
+fn global_limit(row: Option<&Application>) -> Schema
+    ensures { result ≡ schema_in (λ row. row.global_schema) (option_copied row.entry) }
+{
+    match row {
+        Some(row) => row.global_schema,
+        None => Schema { uints: 0, bytes: 0 },
+    }
+}
+
+/// The limit on each local state of an application.
+fn local_limit(row: Option<&Application>) -> Schema
+    ensures { result ≡ schema_in (λ row. row.local_schema) (option_copied row.entry) }
+{
+    match row {
+        Some(row) => row.local_schema,
+        None => Schema { uints: 0, bytes: 0 },
+    }
+}
+
+/// Whether an entry keeps its kind where its value becomes another.
+fn keeps_kind(old: Option<&Value>, new: &Value) -> bool
+    ensures { result ≡ keeps_kind (option_copied old.entry) (Some new.now) }
+{
+    matches!(
+        (old, new),
+        (Some(Value::Uint(_)), Value::Uint(_)) | (Some(Value::Bytes(_)), Value::Bytes(_))
+    )
+}
+
+/// The counts without a value.
+fn count_without(value: &Value, counts: Schema) -> Schema
+    ensures { result ≡ count_without value.now counts }
+{
+    let Schema { uints, bytes } = counts;
+    match value {
+        Value::Uint(_) => Schema {
+            uints: uints.saturating_sub(1),
+            bytes,
+        },
+        Value::Bytes(_) => Schema {
+            uints,
+            bytes: bytes.saturating_sub(1),
+        },
+    }
+}
+
+/// The counts where an entry's value becomes another, if they keep to the limit.
+fn counts_within(old: Option<&Value>, new: &Value, counts: Schema, limit: Schema) -> Option<Schema>
+    ensures { MatchOption result
+        (is_within (counts_after (option_copied old.entry) (Some new.now) counts) limit ≡ false)
+        (λ after. (after ≡ counts_after (option_copied old.entry) (Some new.now) counts) × (is_within after limit ≡ true)) }
+{
+    let Schema { uints, bytes } = match old {
+        Some(value) => count_without(value, counts),
+        None => counts,
+    };
+    match new {
+        Value::Uint(_) if uints < limit.uints && bytes <= limit.bytes => Some(Schema {
+            uints: uints + 1,
+            bytes,
+        }),
+        Value::Bytes(_) if uints <= limit.uints && bytes < limit.bytes => Some(Schema {
+            uints,
+            bytes: bytes + 1,
+        }),
+        _ => None,
+    }
+}
+
+/// Whether a put may leave such counts: they keep to the limit, or the value is of the old one's kind.
+fn test_schema(old: Option<&Value>, new: &Value, counts: Schema, limit: Schema) -> Result<(), Fault>
+    ensures { MatchResult result
+        (λ _. (keeps_kind (option_copied old.entry) (Some new.now) || is_within counts limit) ≡ true)
+        (λ fault. ((keeps_kind (option_copied old.entry) (Some new.now) || is_within counts limit) ≡ false) × (fault ≡ SchemaFault)) }
+{
+    if keeps_kind(old, new) || (counts.uints <= limit.uints && counts.bytes <= limit.bytes) {
+        Ok(())
+    } else {
+        Err(Fault::Schema)
+    }
+}
+
+/// The counts of the global state of the application that runs after a put, where they change.
+fn counts_of_put(env: &Env, old: Option<&Value>, new: &Value) -> Result<Option<Schema>, Stop>
+    ensures { (m : Machine) (key : List ℕ) → Answers (after_put (context_of m env.now) key new.now) result
+        (answer_from (known_to env.now) (global_put_over (context_of m env.now) key new.now (option_copied old.entry) (keeps_kind (option_copied old.entry) (Some new.now)))) }
+{
+    if keeps_kind(old, new) {
+        return Ok(None);
+    }
+    let counts = global_counts(env)?;
+    let limit = global_limit(application(env, env.current())?);
+    match counts_within(old, new, counts, limit) {
+        Some(after) => Ok(Some(after)),
+        None => Err(Stop::Fault(Fault::Schema)),
+    }
+}
+
+/// The counts of the global state of the application that runs after a delete, where they change.
+fn counts_of_delete(env: &Env, old: Option<&Value>) -> Result<Option<Schema>, Stop>
+    ensures { (m : Machine) (key : List ℕ) → Answers (after_delete (context_of m env.now) key) result
+        (answer_from (known_to env.now) (global_delete_of (context_of m env.now) key (option_copied old.entry))) }
+{
+    match old {
+        Some(old) => Ok(Some(count_without(old, global_counts(env)?))),
+        None => Ok(None),
+    }
+}
+
+/// A copy of a state with a value at a key.
+fn with_entry(state: &State, key: StateKey, value: &Value) -> Result<State, AllocError>
+    ensures { IfOk result (λ copy. copy ≡ with_entry state.now key value.now) }
+{
+    let mut copy = state.clone()?;
+    copy.insert(key, value.clone()?)?;
+    Ok(copy)
+}
+
+/// A copy of a state without a key.
+fn without_entry(state: &State, key: StateKey) -> Result<State, AllocError>
+    ensures { IfOk result (λ copy. copy ≡ without_entry state.now key) }
+{
+    let mut copy = state.clone()?;
+    copy.remove(&key);
+    Ok(copy)
+}
+
+impl Op for AppLocalPut {
+    ghost opcode = { λ _. op.AppLocalPut };
+
+    fn code(&self) -> u8 {
+        Opcode::AppLocalPut.code()
+    }
+
+    #[tactic(auto, unfolding(avm_ops::specs::Effect::effect))]
+    fn exec(
+        &self,
+        _alloc: Global,
+        _instr: &Instr,
+        cpu: &mut Cpu,
+        env: &mut Env,
+    ) -> Result<Flow, Stop> {
+        let (index, key, value) = cpu.uint_bytes_and_value()?;
+        let who = account(env.call(), index)?;
+        let current = env.current();
+        let Some(state) = local_state(env, who, current)? else {
+            return Err(Stop::Fault(Fault::NotOptedIn));
+        };
+        let Some(state_key) = StateKey::of(key) else {
+            return Err(Stop::Fault(Fault::KeyLength));
+        };
+        if value_length(value) > 64 {
+            return Err(Stop::Fault(Fault::TooLong));
+        }
+        let limit = local_limit(application(env, current)?);
+        let changed = with_entry(state, state_key, value)?;
+        test_schema(state.value_of(key), value, changed.counts(), limit)?;
+        env.write(Item::Local(who, current), ItemValue::Local(changed))?;
+        cpu.drop_top(3);
+        Ok(Flow::Next)
+    }
+}
+
+impl Op for AppGlobalPut {
+    ghost opcode = { λ _. op.AppGlobalPut };
+
+    fn code(&self) -> u8 {
+        Opcode::AppGlobalPut.code()
+    }
+
+    #[tactic(auto, unfolding(avm_ops::specs::Effect::effect))]
+    fn exec(
+        &self,
+        _alloc: Global,
+        _instr: &Instr,
+        cpu: &mut Cpu,
+        env: &mut Env,
+    ) -> Result<Flow, Stop> {
+        let (key, value) = cpu.bytes_and_value()?;
+        let Some(state_key) = StateKey::of(key) else {
+            return Err(Stop::Fault(Fault::KeyLength));
+        };
+        if value_length(value) > 64 {
+            return Err(Stop::Fault(Fault::TooLong));
+        }
+        let current = env.current();
+        let old = global_entry(env, current, key)?;
+        let after = counts_of_put(env, old, value)?;
+        let copy = value.clone()?;
+        env.write(Item::Key(current, state_key), ItemValue::Key(copy))?;
+        if let Some(after) = after {
+            env.write(Item::Counts(current), ItemValue::Counts(after))?;
+        }
+        cpu.drop_top(2);
+        Ok(Flow::Next)
+    }
+}
+
+impl Op for AppLocalDel {
+    ghost opcode = { λ _. op.AppLocalDel };
+
+    fn code(&self) -> u8 {
+        Opcode::AppLocalDel.code()
+    }
+
+    #[tactic(auto, unfolding(avm_ops::specs::Effect::effect))]
+    fn exec(
+        &self,
+        _alloc: Global,
+        _instr: &Instr,
+        cpu: &mut Cpu,
+        env: &mut Env,
+    ) -> Result<Flow, Stop> {
+        let (index, key) = cpu.uint_and_bytes()?;
+        let who = account(env.call(), index)?;
+        let current = env.current();
+        let Some(state) = local_state(env, who, current)? else {
+            return Err(Stop::Fault(Fault::NotOptedIn));
+        };
+        if state.value_of(key).is_some() {
+            if let Some(state_key) = StateKey::of(key) {
+                let changed = without_entry(state, state_key)?;
+                env.write(Item::Local(who, current), ItemValue::Local(changed))?;
+            }
+        }
+        cpu.drop_top(2);
+        Ok(Flow::Next)
+    }
+}
+
+impl Op for AppGlobalDel {
+    ghost opcode = { λ _. op.AppGlobalDel };
+
+    fn code(&self) -> u8 {
+        Opcode::AppGlobalDel.code()
+    }
+
+    #[tactic(auto, unfolding(avm_ops::specs::Effect::effect))]
+    fn exec(
+        &self,
+        _alloc: Global,
+        _instr: &Instr,
+        cpu: &mut Cpu,
+        env: &mut Env,
+    ) -> Result<Flow, Stop> {
+        let key = cpu.one_bytes()?;
+        let current = env.current();
+        let old = global_entry(env, current, key)?;
+        let counts = counts_of_delete(env, old)?;
+        if let (Some(after), Some(state_key)) = (counts, StateKey::of(key)) {
+            env.write(Item::Key(current, state_key), ItemValue::Absent)?;
+            env.write(Item::Counts(current), ItemValue::Counts(after))?;
+        }
+        cpu.drop_top(1);
+        Ok(Flow::Next)
+    }
+}

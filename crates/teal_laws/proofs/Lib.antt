@@ -1,0 +1,16 @@
+pub mod Names
+pub mod FieldNames
+pub mod InstructionWords
+pub mod Bytes
+pub mod PlacedInstructions
+pub mod PlainListing
+pub mod Labels
+pub mod ListedStatements
+pub mod ListedInstructions
+pub mod ListingMeaning
+pub mod Spellings
+pub mod SpelledPrograms
+pub mod AssembledListing
+pub mod Forms
+pub mod TextCommands
+pub mod TextMeaning

@@ -1,0 +1,14 @@
+//! The laws that join the checker, the disassembler and the assembler: what the listing of a program means. Each is the
+//! contract of a function without work.
+//!
+//! `specs/Listed.antt` says what a program's instructions have in common, and `specs/ListedMeaning.antt` what a program
+//! means, in the words in which `teal_asm` says what a text means. `specs/AssembledListing.antt` says what it is for a
+//! listing to assemble back.
+#![tactic(auto)]
+
+mod laws;
+
+pub use laws::{
+    instruction_words_read_back, listings_assemble_back, listings_keep_the_meaning,
+    listings_mean_their_programs, programs_have_known_instructions,
+};
