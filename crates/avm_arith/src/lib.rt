@@ -5,6 +5,7 @@
 #![tactic(auto)]
 
 mod binary;
+mod bits;
 mod comparison;
 mod joined;
 mod of_bytes;
@@ -12,6 +13,7 @@ mod unary;
 mod wide;
 
 pub use binary::Binary;
+pub use bits::{Getbit, Getbyte, Setbit, Setbyte};
 pub use comparison::{Comparison, Equality};
 pub use joined::{Concat, Substring3};
 pub use of_bytes::OfBytes;

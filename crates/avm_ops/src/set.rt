@@ -67,6 +67,17 @@ impl<O: Op> Ops<O> {
         self.slots[usize::from(code)].as_ref()
     }
 
+    /// The object of an opcode, in a set that has one of each.
+    pub fn object(&self, opcode: Opcode) -> &O
+        requires full { IsFull O.opcode self.now }
+        ensures { O.opcode result.now ≡ opcode }
+    {
+        match self.get(opcode.code()) {
+            Some(op) => op,
+            None => unreachable!(),
+        }
+    }
+
     /// Whether an object of the opcode stands at its code.
     #[tactic(auto, using(crate::proofs::Sets::same_code))]
     fn has(&self, opcode: Opcode) -> bool

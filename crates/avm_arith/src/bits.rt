@@ -1,0 +1,214 @@
+//! Instructions on the bytes and bits of values.
+
+ghost use Rattle.std.specs.Prelude.{◌≡◌, ◌<◌, ◌^◌, ◌≤◌, length, IfOk, nat_lt, slice_set};
+ghost use Rattle.teal_table.specs.declared.opcode.Opcode.TheVariants as op;
+ghost use Rattle.avm_ops.specs.ByteStrings.{bit_count, bit_of, bit_of_value, value_with_bit, with_bit};
+
+use avm_cpu::{Cpu, Flow};
+use avm_items::Env;
+use avm_ops::{Op, Stop};
+use std::alloc::{AllocError, Global};
+use teal_code::Instr;
+use teal_table::Opcode;
+use teal_value::{ByteString, Fault, Value};
+
+/// A byte of a byte string.
+#[derive(Clone, Copy, Debug, PartialEq, Eq)]
+pub struct Getbyte;
+
+/// A byte string with another byte at a place.
+#[derive(Clone, Copy, Debug, PartialEq, Eq)]
+pub struct Setbyte;
+
+/// A bit of a number, the least at 0, or of a byte string, the highest of the first byte at 0.
+#[derive(Clone, Copy, Debug, PartialEq, Eq)]
+pub struct Getbit;
+
+/// A number or a byte string with another bit at a place.
+#[derive(Clone, Copy, Debug, PartialEq, Eq)]
+pub struct Setbit;
+
+/// A copy of the bytes with another at a place.
+fn with_byte(alloc: Global, bytes: &[u8], place: usize, byte: u8) -> Result<ByteString, AllocError>
+    requires { place < length bytes.now }
+    ensures { IfOk result (λ copy. copy ≡ slice_set bytes.now place byte) }
+{
+    let mut copy = Vec::from_slice(alloc, bytes)?;
+    copy[place] = byte;
+    Ok(ByteString::from_vec(copy))
+}
+
+/// Whether a value has a bit at a place.
+fn has_bit(value: &Value, place: u64) -> bool
+    ensures { result ≡ nat_lt place (bit_count value.now) }
+{
+    match value {
+        Value::Uint(_) => place < 64,
+        Value::Bytes(bytes) => place / 8 < bytes.len() as u64,
+    }
+}
+
+/// The number whose one bit is this, the least at 0.
+fn unit(k: u64) -> u64
+    requires { k < 64 }
+    ensures { result ≡ 2 ^ k }
+{
+    1 << k
+}
+
+/// Bit k of a number, the least at 0.
+fn bit_of(number: u64, k: u64) -> u64
+    requires { k < 64 }
+    ensures { result ≡ bit_of number k }
+{
+    number / unit(k) % 2
+}
+
+/// The number with another bit k.
+fn with_bit(number: u64, k: u64, bit: u64) -> u64
+    requires place { k < 64 }
+    requires bit { bit < 2 }
+    ensures { result ≡ with_bit number k bit }
+{
+    let unit = unit(k);
+    number - number / unit % 2 * unit + bit * unit
+}
+
+/// The byte with another bit k.
+fn byte_with_bit(byte: u8, k: u64, bit: u64) -> u8
+    requires place { k < 8 }
+    requires bit { bit < 2 }
+    ensures { result ≡ with_bit byte k bit }
+{
+    with_bit(u64::from(byte), k, bit) as u8
+}
+
+/// The bit of a value at a place that it has.
+fn bit_of_value(value: &Value, place: u64) -> u64
+    requires { place < bit_count value.now }
+    ensures { result ≡ bit_of_value value.now place }
+{
+    match value {
+        Value::Uint(number) => bit_of(*number, place),
+        Value::Bytes(bytes) => bit_of(
+            u64::from(bytes.as_slice()[(place / 8) as usize]),
+            7 - place % 8,
+        ),
+    }
+}
+
+/// A copy of a value with another bit at a place that it has.
+fn value_with_bit(alloc: Global, value: &Value, place: u64, bit: u64) -> Result<Value, AllocError>
+    requires place { place < bit_count value.now }
+    requires bit { bit < 2 }
+    ensures { IfOk result (λ copy. copy ≡ value_with_bit value.now place bit) }
+{
+    match value {
+        Value::Uint(number) => Ok(Value::Uint(with_bit(*number, place, bit))),
+        Value::Bytes(bytes) => {
+            let index = (place / 8) as usize;
+            let byte = byte_with_bit(bytes.as_slice()[index], 7 - place % 8, bit);
+            Ok(Value::Bytes(with_byte(alloc, bytes.as_slice(), index, byte)?))
+        }
+    }
+}
+
+impl Op for Getbyte {
+    ghost opcode = { λ _. op.Getbyte };
+
+    fn code(&self) -> u8 {
+        Opcode::Getbyte.code()
+    }
+
+    #[tactic(auto, unfolding(avm_ops::specs::Effect::effect))]
+    fn exec(
+        &self,
+        _alloc: Global,
+        _instr: &Instr,
+        cpu: &mut Cpu,
+        _env: &mut Env,
+    ) -> Result<Flow, Stop> {
+        let (bytes, place) = cpu.bytes_and_uint()?;
+        if place >= bytes.len() as u64 {
+            return Err(Stop::Fault(Fault::Range));
+        }
+        let byte = bytes[place as usize];
+        cpu.replace(2, Value::Uint(u64::from(byte)));
+        Ok(Flow::Next)
+    }
+}
+
+impl Op for Setbyte {
+    ghost opcode = { λ _. op.Setbyte };
+
+    fn code(&self) -> u8 {
+        Opcode::Setbyte.code()
+    }
+
+    #[tactic(auto, unfolding(avm_ops::specs::Effect::effect))]
+    fn exec(
+        &self,
+        alloc: Global,
+        _instr: &Instr,
+        cpu: &mut Cpu,
+        _env: &mut Env,
+    ) -> Result<Flow, Stop> {
+        let (bytes, place, byte) = cpu.bytes_and_two_uints()?;
+        if place >= bytes.len() as u64 || byte > 255 {
+            return Err(Stop::Fault(Fault::Range));
+        }
+        let copy = with_byte(alloc, bytes, place as usize, byte as u8)?;
+        cpu.replace(3, Value::Bytes(copy));
+        Ok(Flow::Next)
+    }
+}
+
+impl Op for Getbit {
+    ghost opcode = { λ _. op.Getbit };
+
+    fn code(&self) -> u8 {
+        Opcode::Getbit.code()
+    }
+
+    #[tactic(auto, unfolding(avm_ops::specs::Effect::effect))]
+    fn exec(
+        &self,
+        _alloc: Global,
+        _instr: &Instr,
+        cpu: &mut Cpu,
+        _env: &mut Env,
+    ) -> Result<Flow, Stop> {
+        let (value, place) = cpu.value_and_uint()?;
+        if !has_bit(value, place) {
+            return Err(Stop::Fault(Fault::Range));
+        }
+        let bit = bit_of_value(value, place);
+        cpu.replace(2, Value::Uint(bit));
+        Ok(Flow::Next)
+    }
+}
+
+impl Op for Setbit {
+    ghost opcode = { λ _. op.Setbit };
+
+    fn code(&self) -> u8 {
+        Opcode::Setbit.code()
+    }
+
+    #[tactic(auto, unfolding(avm_ops::specs::Effect::effect))]
+    fn exec(
+        &self,
+        alloc: Global,
+        _instr: &Instr,
+        cpu: &mut Cpu,
+        _env: &mut Env,
+    ) -> Result<Flow, Stop> {
+        let (value, place, bit) = cpu.value_and_two_uints()?;
+        if !has_bit(value, place) || bit > 1 {
+            return Err(Stop::Fault(Fault::Range));
+        }
+        let copy = value_with_bit(alloc, value, place, bit)?;
+        cpu.replace(3, copy);
+        Ok(Flow::Next)
+    }
+}
