@@ -1,3 +1,5 @@
 pub mod Questions
 pub mod Counting
 pub mod Puts
+pub mod Orders
+pub mod CallBack

@@ -5,7 +5,7 @@ use Rattle.std.specs.Ordering.{is_eq, nat_cmp, ordering_then}
 use Rattle.std.specs.declared.cmp.Ordering.{Ordering}
 use Rattle.std.specs.declared.cmp.Ordering.TheVariants.{Less, Equal, Greater}
 use Rattle.std.specs.Cmp.{IsTotalOrder, on_total, tied_itself}
-use Rattle.std.proofs.lemmas.Cmp.{nat_cmp_total, nat_list_cmp_total, then_total}
+use Rattle.std.proofs.lemmas.Cmp.{nat_cmp_total, nat_list_cmp_total}
 use Rattle.std.specs.FinMap.{nat_cmp-IsAntisymmetric, slice_cmp-IsAntisymmetric}
 use Rattle.std.specs.Map.{lookup, keys_of}
 use Rattle.std.specs.BTreeMap.{is_at}
@@ -13,15 +13,17 @@ use Rattle.std.specs.List.Sorted.{IsStrictlySortedBy}
 use Rattle.teal_value.specs.declared.address.Address.{Address}
 use Rattle.teal_value.specs.declared.value.Value.{Value}
 use Rattle.avm_ledger.specs.declared.application.Application.{Application}
-use Rattle.avm_ledger.specs.Entries.{Entries, byte_cmp, value_of_key, with_entry, without_entry}
-use Rattle.avm_ledger.specs.Ledgers.{StoredApplication, Ledger, account_cmp, application_at, with_application, without_application, local_state_at, with_local_state, without_local_state, IsInKeyOrder, IsInOrder}
+use Rattle.avm_ledger.specs.Entries.{Entries, byte_cmp, value_of_key, with_entry, without_entry, IsInKeyOrder}
+use Rattle.avm_ledger.specs.declared.application.StoredApplication.{StoredApplication}
+use Rattle.avm_ledger.specs.Ledgers.{Ledger, account_cmp, application_at, with_application, without_application, local_state_at, with_local_state, without_local_state, with_row, with_state, IsInOrder}
+use Rattle.avm_ledger.proofs.Changes.{account_total, byte_total, set_application, with_application_in_order, without_application_in_order}
 use Rattle.avm_ledger.proofs.Maps.{lookup-inserted, lookup-inserted_other, lookup-removed, lookup-removed_other, is_Equal, above_tied, below_none, sorted-inserted, sorted-removed, same_map}
 use Rattle.avm_items.specs.declared.item.Item.{Item}
 use Rattle.avm_items.specs.declared.item.Item.TheVariants as item
 use Rattle.avm_items.specs.declared.item_value.ItemValue.{ItemValue}
 use Rattle.avm_items.specs.declared.item_value.ItemValue.TheVariants as value
 use Rattle.avm_items.specs.Items.{item_cmp, sort_key, key_value}
-use Rattle.avm_items.specs.LedgerItems.{at, put_one, with_row, with_state, row_value, counts_value, entry_value, local_value}
+use Rattle.avm_items.specs.LedgerItems.{at, put_one, row_value, counts_value, entry_value, local_value}
 use Rattle.std.specs.Prelude.{◌||◌, length, unwrap_or}
 use Rattle.std.specs.List.{AllByRecursion}
 use Rattle.std.proofs.Common.{arith, length-append}
@@ -29,16 +31,7 @@ use Rattle.avm_items.specs.Items.{ItemMap, value_in}
 use Rattle.avm_items.specs.LedgerItems.{put}
 use Rattle.avm_items.specs.PutLaws.{MaySet, changes_with, is_counts, deletes, is_deleted_by, MayPut, MayPutAll}
 
-account_total : IsTotalOrder account_cmp
-account_total = then_total (on_total (λ x. x.0.0) nat_list_cmp_total) (on_total (λ x. x.1) nat_cmp_total)
-
-byte_total : IsTotalOrder byte_cmp
-byte_total = nat_list_cmp_total
-
 -- ---- what was put is there
-
-set_application : (l : Ledger) (id : ℕ) (app : StoredApplication) → application_at (with_application l id app) id ≡ Some app
-set_application l id app = lookup-inserted nat_cmp_total id app l.applications
 
 set_key : (l : Ledger) (id : ℕ) (key : List ℕ) (v : Value) (a : Option StoredApplication) → application_at l id ≡ a → is_none a ≡ false → at (with_state l id (λ s. with_entry s key v) a) (item.Key id key) ≡ value.Key v
 set_key l id key v None e stands = absurd cc
@@ -67,43 +60,6 @@ has_what_was_put l (item.Local who id) value.Absent o m = ap local_value (lookup
 has_what_was_put l x v o m = absurd m
 
 -- ---- the order stays
-
-found_is : {A : Type 0} {a b : A} → Some a ≡ Some b → a ≡ b
-found_is e = cc
-
-state_in_order : (l : Ledger) (id : ℕ) (app : StoredApplication) → IsInOrder l → IsInKeyOrder app.state
-    → (other : ℕ) (found : StoredApplication) → application_at (with_application l id app) other ≡ Some found → (b : Bool) → is_eq (nat_cmp other id) ≡ b → IsInKeyOrder found.state
-state_in_order l id app o s other found e true same =
-    let other_is : other ≡ id = nat_cmp-IsAntisymmetric other id (is_Equal (nat_cmp other id) same) in
-    let app_is : app ≡ found = found_is (sym (set_application l id app) ∙ ap (application_at (with_application l id app)) (sym other_is) ∙ e) in
-    subst (λ a. IsInKeyOrder a.state) app_is s
-state_in_order l id app o s other found e false differs =
-    o.global_states other found (sym (lookup-inserted_other nat_cmp_total other id app l.applications differs) ∙ e)
-
-with_application_in_order : (l : Ledger) (id : ℕ) (app : StoredApplication) → IsInOrder l → IsInKeyOrder app.state → IsInOrder (with_application l id app)
-with_application_in_order l id app o s = record {
-  applications = sorted-inserted nat_cmp_total id app l.applications o.applications;
-  global_states = λ other found e. state_in_order l id app o s other found e (is_eq (nat_cmp other id)) refl;
-  local_states = o.local_states;
-}
-
-no_application : {A : Type 0} {a : A} {P : Type 0} → None ≡ Some a → P
-no_application e = absurd cc
-
-state_without : (l : Ledger) (id : ℕ) → IsInOrder l
-    → (other : ℕ) (found : StoredApplication) → application_at (without_application l id) other ≡ Some found → (b : Bool) → is_eq (nat_cmp other id) ≡ b → IsInKeyOrder found.state
-state_without l id o other found e true same =
-    let other_is : other ≡ id = nat_cmp-IsAntisymmetric other id (is_Equal (nat_cmp other id) same) in
-    no_application (sym (lookup-removed nat_cmp_total id l.applications o.applications) ∙ ap (application_at (without_application l id)) (sym other_is) ∙ e)
-state_without l id o other found e false differs =
-    o.global_states other found (sym (lookup-removed_other nat_cmp_total other id l.applications differs) ∙ e)
-
-without_application_in_order : (l : Ledger) (id : ℕ) → IsInOrder l → IsInOrder (without_application l id)
-without_application_in_order l id o = record {
-  applications = sorted-removed nat_cmp_total id l.applications o.applications;
-  global_states = λ other found e. state_without l id o other found e (is_eq (nat_cmp other id)) refl;
-  local_states = o.local_states;
-}
 
 row_in_order : (l : Ledger) (id : ℕ) (row : Application) → IsInOrder l → (a : Option StoredApplication) → application_at l id ≡ a → IsInKeyOrder (with_row a row).state
 unfolding IsStrictlySortedBy

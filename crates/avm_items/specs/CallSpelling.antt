@@ -5,7 +5,7 @@ use Rattle.avm_ledger.specs.Spellings.{u8_bytes, u64_bytes, string_bytes, counte
 use Rattle.avm_items.specs.declared.call_data.CallData.{CallData}
 use Rattle.avm_items.specs.CallFields.{completion_number}
 
-abbrev address_bytes : Address → List ℕ
+abbrev pub address_bytes : Address → List ℕ
 address_bytes who = who.0
 
 abbrev pub call_bytes : CallData → List ℕ

@@ -12,6 +12,14 @@ use Rattle.avm_items.specs.declared.item.Item.TheVariants as item
 use Rattle.avm_items.specs.declared.item_value.ItemValue.{ItemValue}
 use Rattle.avm_items.specs.declared.item_value.ItemValue.TheVariants as value
 
+-- the place of an item's kind among the kinds
+abbrev pub kind_of : Item → ℕ
+kind_of item.NextApp = 0
+kind_of (item.App id) = 1
+kind_of (item.Counts id) = 2
+kind_of (item.Key id key) = 3
+kind_of (item.Local who id) = 4
+
 -- Items are ordered by their kind, and then by what they name: lists of numbers are compared.
 abbrev pub sort_key : Item → List ℕ
 sort_key item.NextApp = 0 ∷ []

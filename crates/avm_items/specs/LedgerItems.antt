@@ -1,9 +1,9 @@
 -- The items of a ledger: the value of each, a ledger with some of them set, and what differs between two ledgers.
 use Rattle.std.specs.Prelude.{◌≡◌, ℕ, Bool, false, not, List, [], ◌∷◌, filter, Option, Some, None, is_none, unwrap_or}
-use Rattle.avm_ledger.specs.declared.application.Application.{Application}
 use Rattle.avm_ledger.specs.Entries.{Entries, value_of_key, with_entry, without_entry}
 use Rattle.avm_ledger.specs.Schemas.{counts_in}
-use Rattle.avm_ledger.specs.Ledgers.{StoredApplication, Ledger, application_at, with_application, without_application, local_state_at, with_local_state, without_local_state}
+use Rattle.avm_ledger.specs.declared.application.StoredApplication.{StoredApplication}
+use Rattle.avm_ledger.specs.Ledgers.{Ledger, application_at, with_application, without_application, with_row, with_state, local_state_at, with_local_state, without_local_state}
 use Rattle.avm_items.specs.declared.item.Item.{Item}
 use Rattle.avm_items.specs.declared.item.Item.TheVariants as item
 use Rattle.avm_items.specs.declared.item_value.ItemValue.{ItemValue}
@@ -37,15 +37,6 @@ at l (item.Key id key) = entry_value (application_at l id) key
 at l (item.Local who id) = local_value (local_state_at l who id)
 
 -- ---- a ledger with items set
-
--- a new application has no entries; one that stands keeps its own
-abbrev pub with_row : Option StoredApplication → Application → StoredApplication
-with_row None row = record { row = row; state = [] }
-with_row (Some app) row = record app { row = row }
-
-abbrev pub with_state : Ledger → ℕ → (Entries → Entries) → Option StoredApplication → Ledger
-with_state l id change None = l
-with_state l id change (Some app) = with_application l id (record app { state = change app.state })
 
 -- The ledger with an item set. The counts follow from the keys, a key is set in an application that stands, and an
 -- application that goes takes its global state with it. A value of another kind than the item's sets nothing.

@@ -6,5 +6,8 @@ pub mod Acts
 pub mod Locality
 pub mod Counting
 pub mod CallSpelling
+pub mod CallReader
+pub mod CallReading
 pub mod LedgerItems
 pub mod PutLaws
+pub mod Environments

@@ -1,23 +1,12 @@
 -- Whether two values of items are the same.
-use Rattle.std.specs.Prelude.{ℕ, ◌==◌, ◌&&◌, Bool, true, false, nat_eq, List}
+use Rattle.std.specs.Prelude.{◌==◌, ◌&&◌, Bool, true, false}
 use Rattle.std.specs.Cmp.Lexicographic.{pointwise}
-use Rattle.teal_value.specs.declared.value.Value.{Value}
-use Rattle.teal_value.specs.declared.value.Value.TheVariants.{Uint, Bytes}
+use Rattle.teal_value.specs.SameValues.{are_same_bytes, is_same}
 use Rattle.avm_ledger.specs.declared.application.Application.{Application}
 use Rattle.avm_ledger.specs.declared.schema.Schema.{Schema}
+use Rattle.avm_ledger.specs.Entries.{is_same_entry}
 use Rattle.avm_items.specs.declared.item_value.ItemValue.{ItemValue}
 use Rattle.avm_items.specs.declared.item_value.ItemValue.TheVariants as value
-
-abbrev pub are_same_bytes : List ℕ → List ℕ → Bool
-are_same_bytes = pointwise nat_eq
-
-abbrev pub is_same : Value → Value → Bool
-is_same (Uint a) (Uint b) = a == b
-is_same (Bytes a) (Bytes b) = are_same_bytes a b
-is_same _ _ = false
-
-abbrev is_same_entry : List ℕ × Value → List ℕ × Value → Bool
-is_same_entry d e = are_same_bytes d.0 e.0 && is_same d.1 e.1
 
 abbrev is_same_schema : Schema → Schema → Bool
 is_same_schema s t = (s.uints == t.uints) && (s.bytes == t.bytes)

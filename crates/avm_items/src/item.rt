@@ -1,5 +1,14 @@
 //! Items of a ledger.
 
+ghost use Rattle.std.specs.Prelude.{◌≡◌, ◌==◌, ◌++◌, ◌∷◌, []};
+ghost use Rattle.std.proofs.Common.{rules};
+ghost use Rattle.std.specs.Cmp.{partial_order_from_own_ties};
+ghost use Rattle.std.specs.Cmp.Lexicographic.{slice_cmp, pointwise};
+ghost use Rattle.std.specs.Cmp.Rules.{comparing};
+ghost use Rattle.std.specs.Ordering.{nat_cmp, on, as_partial_cmp};
+ghost use Rattle.avm_items.specs.Items.{kind_of, sort_key};
+
+use std::cmp::Ordering;
 use teal_value::{Address, StateKey};
 
 /// A part of a ledger that a call reads or writes as a whole. Items are ordered as written here.
@@ -15,4 +24,112 @@ pub enum Item {
     Key(u64, StateKey),
     /// An account's local state of an application, as a whole.
     Local(Address, u64),
+}
+
+impl Item {
+    /// The same item. It takes no memory.
+    pub fn copied(&self) -> Item
+        ensures { result ≡ self.now }
+    {
+        match self {
+            Item::NextApp => Item::NextApp,
+            Item::App(id) => Item::App(*id),
+            Item::Counts(id) => Item::Counts(*id),
+            Item::Key(id, key) => Item::Key(*id, key.copied()),
+            Item::Local(who, id) => Item::Local(*who, *id),
+        }
+    }
+
+    /// The place of its kind in the order of items.
+    fn kind(&self) -> u8
+        ensures { result ≡ kind_of self.now }
+    {
+        match self {
+            Item::NextApp => 0,
+            Item::App(_) => 1,
+            Item::Counts(_) => 2,
+            Item::Key(..) => 3,
+            Item::Local(..) => 4,
+        }
+    }
+}
+
+/// Whether two local states are the same account's, of the same application.
+#[tactic(auto, using(crate::proofs::Orders::pointwise_end))]
+fn is_same_local(who: &[u8; 32], id: u64, other_who: &[u8; 32], other: u64) -> bool
+    ensures { result ≡ pointwise ◌==◌ (who.now ++ id ∷ []) (other_who.now ++ other ∷ []) }
+{
+    who == other_who && id == other
+}
+
+/// The order of local states: by account, and then by application.
+#[tactic(auto, using(crate::proofs::Orders::slice_cmp_end))]
+fn local_cmp(who: &[u8; 32], id: u64, other_who: &[u8; 32], other: u64) -> Ordering
+    ensures { result ≡ slice_cmp nat_cmp (who.now ++ id ∷ []) (other_who.now ++ other ∷ []) }
+{
+    who.cmp(other_who).then(id.cmp(&other))
+}
+
+impl PartialEq for Item {
+    ghost eq = { on sort_key (pointwise ◌==◌) };
+
+    ghost laws = { Prim.search (comparing, rules) };
+
+    fn eq(&self, other: &Item) -> bool {
+        match (self, other) {
+            (Item::NextApp, Item::NextApp) => true,
+            (Item::App(id), Item::App(other)) | (Item::Counts(id), Item::Counts(other)) => id
+                == other,
+            (Item::Key(id, key), Item::Key(other, other_key)) => id == other && key == other_key,
+            (Item::Local(who, id), Item::Local(other_who, other)) => is_same_local(
+                &who.0,
+                *id,
+                &other_who.0,
+                *other,
+            ),
+            _ => false,
+        }
+    }
+}
+
+impl Eq for Item {
+    ghost laws = { Prim.search (comparing, rules) };
+}
+
+impl PartialOrd for Item {
+    ghost partial_cmp = { as_partial_cmp (on sort_key (slice_cmp nat_cmp)) };
+
+    ghost laws = { partial_order_from_own_ties (Prim.search (comparing, rules)) (Prim.search (comparing, rules)) };
+
+    fn partial_cmp(&self, other: &Item) -> Option<Ordering> {
+        Some(self.cmp(other))
+    }
+}
+
+impl Ord for Item {
+    ghost cmp = { on sort_key (slice_cmp nat_cmp) };
+
+    ghost total = { Prim.search (comparing, rules) };
+
+    ghost matches_partial_cmp = { Prim.search (comparing, rules) };
+
+    ghost matches_eq = { Prim.search (comparing, rules) };
+
+    fn cmp(&self, other: &Item) -> Ordering {
+        match (self, other) {
+            (Item::App(id), Item::App(other)) | (Item::Counts(id), Item::Counts(other)) => id.cmp(
+                other,
+            ),
+            (Item::Key(id, key), Item::Key(other, other_key)) => id
+                .cmp(other)
+                .then(key.cmp(other_key)),
+            (Item::Local(who, id), Item::Local(other_who, other)) => local_cmp(
+                &who.0,
+                *id,
+                &other_who.0,
+                *other,
+            ),
+            _ => self.kind().cmp(&other.kind()),
+        }
+    }
 }

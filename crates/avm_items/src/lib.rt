@@ -4,10 +4,17 @@
 #![tactic(auto)]
 
 mod call_data;
+mod env;
+mod call_fault;
 mod item;
+mod item_map;
 mod item_value;
 pub mod laws;
+pub mod reading_laws;
 
 pub use call_data::{Addresses, CallData, Completion};
+pub use env::Env;
+pub use call_fault::{CallDataError, CallDataFault};
 pub use item::Item;
+pub use item_map::ItemMap;
 pub use item_value::ItemValue;

@@ -1,5 +1,6 @@
 -- The counts of a state follow its entries: one value more or less, whatever stands before it.
-use Rattle.std.proofs.Common.{◌≡◌, ◌<◌, ℕ, Bool, true, false, List, [], ◌∷◌, Option, None, Some, refl, sym, ap, ◌∙◌, cond, arith}
+use Rattle.std.proofs.Common.{◌≡◌, ◌<◌, ◌≤◌, ◌+◌, ℕ, Bool, true, false, List, [], ◌∷◌, length, Option, None, Some, refl, sym, ap, ◌∙◌, cond, inl, inr, arith}
+use Rattle.std.specs.Prelude.{◌⊎◌, is_some}
 use Rattle.std.specs.Ordering.{is_eq, match_ordering}
 use Rattle.std.specs.declared.cmp.Ordering.{Ordering}
 use Rattle.std.specs.declared.cmp.Ordering.TheVariants.{Less, Equal, Greater}
@@ -11,9 +12,8 @@ use Rattle.std.specs.List.Sorted.{IsStrictlySortedBy}
 use Rattle.teal_value.specs.declared.value.Value.{Value}
 use Rattle.teal_value.specs.declared.value.Value.TheVariants.{Uint, Bytes}
 use Rattle.avm_ledger.specs.declared.schema.Schema.{Schema}
-use Rattle.avm_ledger.specs.Entries.{Entries, byte_cmp, value_of_key, with_entry, without_entry}
-use Rattle.avm_ledger.specs.Ledgers.{IsInKeyOrder}
-use Rattle.avm_ledger.specs.Schemas.{count_with, count_without, counts_in, uncounted, counts_after, keeps_kind}
+use Rattle.avm_ledger.specs.Entries.{Entries, byte_cmp, value_of_key, with_entry, without_entry, IsInKeyOrder}
+use Rattle.avm_ledger.specs.Schemas.{IsCounted, no_entries, count_with, count_without, counts_in, uncounted, counts_after, keeps_kind}
 use Rattle.avm_ledger.proofs.Maps.{below_none, all_below}
 
 byte_total : IsTotalOrder byte_cmp
@@ -121,3 +121,51 @@ same_kind_counts (Some (Bytes a)) (Uint b) n h k = absurd cc
 
 pub stay_with_kind : (state : Entries) (key : List ℕ) (v : Value) → IsInKeyOrder state → keeps_kind (value_of_key state key) (Some v) ≡ true → counts_in (with_entry state key v) ≡ counts_in state
 stay_with_kind state key v s k = follow_puts state key v s ∙ same_kind_counts (value_of_key state key) v (counts_in state) (found_is_counted state key) k
+
+-- ---- the counts that a state keeps
+
+total-count_with : (v : Value) (n : Schema) (m : ℕ) → n.uints + n.bytes ≡ m → (count_with v n).uints + (count_with v n).bytes ≡ m + 1
+total-count_with (Uint a) n m h = omega (arith, h)
+total-count_with (Bytes a) n m h = omega (arith, h)
+
+total-counts_in : (es : Entries) → (counts_in es).uints + (counts_in es).bytes ≡ length es
+total-counts_in [] = refl
+total-counts_in (e ∷ es) = omega (arith, total-count_with e.1 (counts_in es) (length es) (total-counts_in es))
+
+pub few : (es : Entries) (n : Schema) → IsCounted es n → (n.uints ≤ 255) × (n.bytes ≤ 255)
+few es n h =
+    let total : (counts_in es).uints + (counts_in es).bytes ≡ length es = total-counts_in es in
+    let uints : (counts_in es).uints ≡ n.uints = ap (λ m. m.uints) h.counts in
+    let bytes : (counts_in es).bytes ≡ n.bytes = ap (λ m. m.bytes) h.counts in
+    let room = h.room in
+    (omega arith, omega arith)
+
+both : Schema → Schema → Schema
+both n m = record { uints = n.uints + m.uints; bytes = n.bytes + m.bytes }
+
+count_with-by_sum : (v : Value) (n : Schema) → count_with v n ≡ both n (count_with v no_entries)
+unfolding both
+count_with-by_sum (Uint a) n = schema_is _ _ refl (omega arith)
+count_with-by_sum (Bytes a) n = schema_is _ _ (omega arith) refl
+
+pub counted_after_put : (es es' : Entries) (key : List ℕ) (v : Value) (n rest count : Schema) (old : Option Value) → IsInKeyOrder es → IsCounted es n → es' ≡ with_entry es key v
+    → old ≡ value_of_key es key → rest ≡ uncounted old n → count ≡ count_with v no_entries → length es' ≤ 255
+    → IsCounted es' (record { uints = rest.uints + count.uints; bytes = rest.bytes + count.bytes })
+unfolding both
+counted_after_put es es' key v n rest count old s h is was left one room = record {
+  counts = ap counts_in is ∙ follow_puts es key v s ∙ ap (λ m. counts_after (value_of_key es key) (Some v) m) h.counts
+      ∙ ap (λ o. count_with v (uncounted o n)) (sym was) ∙ count_with-by_sum v (uncounted old n) ∙ sym (λ i. both (left i) (one i));
+  room = room;
+}
+
+pub counted_after_delete : (es es' : Entries) (key : List ℕ) (n rest : Schema) (old : Option Value) → IsCounted es n → es' ≡ without_entry es key
+    → old ≡ value_of_key es key → rest ≡ uncounted old n → length es' ≤ 255 → IsCounted es' rest
+counted_after_delete es es' key n rest old h is was left room = record {
+  counts = ap counts_in is ∙ follow_deletes es key ∙ ap (uncounted (value_of_key es key)) h.counts ∙ ap (λ o. uncounted o n) (sym was) ∙ sym left;
+  room = room;
+}
+
+pub room_after_put : (n m : ℕ) (old : Option Value) → m ≡ n + cond (is_some old) 0 1 → n ≤ 255 → (n < 255) ⊎ (is_some old ≡ true) → m ≤ 255
+room_after_put n m None e h (inl below) = omega arith
+room_after_put n m None e h (inr there) = absurd cc
+room_after_put n m (Some v) e h there = omega arith

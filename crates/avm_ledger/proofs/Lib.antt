@@ -1,2 +1,5 @@
 pub mod Maps
 pub mod Counts
+pub mod Changes
+pub mod FieldsBack
+pub mod LedgerBack

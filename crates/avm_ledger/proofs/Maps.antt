@@ -5,7 +5,7 @@ use Rattle.std.specs.Ordering.{is_eq, match_ordering, ordering_reverse}
 use Rattle.std.specs.declared.cmp.Ordering.{Ordering}
 use Rattle.std.specs.declared.cmp.Ordering.TheVariants.{Less, Equal, Greater}
 use Rattle.std.specs.Cmp.{IsTotalOrder, alike_right, tied_back, tied_itself}
-use Rattle.std.specs.Map.{lookup, remove_entry, keys_of}
+use Rattle.std.specs.Map.{lookup, remove_entry, set_value, keys_of}
 use Rattle.std.specs.BTreeMap.{insert_entry, is_at}
 use Rattle.std.specs.List.{AllByRecursion}
 use Rattle.std.specs.List.Sorted.{IsStrictlySortedBy}
@@ -181,3 +181,19 @@ module _ {K X : Type 0} {R : K → K → Ordering} (o : IsTotalOrder R) where
   same_map same [] (f ∷ fs) s t alike = let some = sym (first_found f fs) ∙ sym (alike f.0) in absurd cc
   same_map same (e ∷ es) [] s t alike = let some = sym (first_found e es) ∙ alike e.0 in absurd cc
   same_map same (e ∷ es) (f ∷ fs) s t alike = heads_by same e f es fs s.0 t.0 alike (same_map same es fs s.1 t.1) (R e.0 f.0) refl
+
+  -- ---- a value written at a key that is there
+
+  written_by : (k : K) (v old : X) (e : K × X) (es : List (K × X)) → AllByRecursion (λ y. R e.0 y ≡ Less) (keys_of es)
+      → (lookup (is_at (R k)) es ≡ Some old → set_value (is_at (R k)) es v ≡ insert_entry R es k v) → (r : Ordering) → R k e.0 ≡ r
+      → cond (is_eq r) (Some e.1) (lookup (is_at (R k)) es) ≡ Some old
+      → cond (is_eq r) ((e.0, v) ∷ es) (e ∷ set_value (is_at (R k)) es v) ≡ match_ordering r ((k, v) ∷ e ∷ es) ((e.0, v) ∷ es) (e ∷ insert_entry R es k v)
+  written_by k v old e es below h Less p found = let none = below_none k es (all_below o k e.0 (keys_of es) p below) in absurd cc
+  written_by k v old e es below h Equal p found = refl
+  written_by k v old e es below h Greater p found = ap (λ rest. e ∷ rest) (h found)
+
+  pub set_value-there : (k : K) (v old : X) (es : List (K × X)) → IsStrictlySortedBy R (keys_of es) → lookup (is_at (R k)) es ≡ Some old
+      → set_value (is_at (R k)) es v ≡ insert_entry R es k v
+  unfolding IsStrictlySortedBy
+  set_value-there k v old [] s found = absurd cc
+  set_value-there k v old (e ∷ es) s found = written_by k v old e es s.0 (set_value-there k v old es s.1) (R k e.0) refl found

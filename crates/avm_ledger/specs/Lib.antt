@@ -2,3 +2,8 @@ pub mod Entries
 pub mod Ledgers
 pub mod Schemas
 pub mod Spellings
+pub mod FieldReader
+pub mod LedgerReader
+pub mod LedgerRules
+pub mod LedgerReading
+pub mod WorkedLedgers

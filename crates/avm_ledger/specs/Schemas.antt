@@ -1,10 +1,9 @@
 -- How many uints and byte strings a state has, and the limit that its schema sets.
-use Rattle.std.specs.Prelude.{◌≡◌, ℕ, ◌+◌, ◌-◌, ◌&&◌, Bool, true, false, nat_le, List, [], ◌∷◌, Option, Some, None}
+use Rattle.std.specs.Prelude.{◌≡◌, ℕ, ◌+◌, ◌-◌, ◌≤◌, ◌&&◌, Bool, true, false, nat_le, length, List, [], ◌∷◌, Option, Some, None}
 use Rattle.teal_value.specs.declared.value.Value.{Value}
 use Rattle.teal_value.specs.declared.value.Value.TheVariants.{Uint, Bytes}
 use Rattle.avm_ledger.specs.declared.schema.Schema.{Schema}
-use Rattle.avm_ledger.specs.Entries.{Entries, value_of_key, with_entry, without_entry}
-use Rattle.avm_ledger.specs.Ledgers.{IsInKeyOrder}
+use Rattle.avm_ledger.specs.Entries.{Entries, value_of_key, with_entry, without_entry, IsInKeyOrder}
 
 abbrev pub no_entries : Schema
 no_entries = record { uints = 0; bytes = 0 }
@@ -22,6 +21,11 @@ count_without (Bytes _) n = record n { bytes = n.bytes - 1 }
 abbrev pub counts_in : Entries → Schema
 counts_in [] = no_entries
 counts_in (e ∷ es) = count_with e.1 (counts_in es)
+
+-- The counts are those of the entries, of which there are at most 255.
+pub record IsCounted (state : Entries) (n : Schema) : Type 0 where
+  pub counts : counts_in state ≡ n
+  pub room : length state ≤ 255
 
 -- whether so many may stand under the schema
 abbrev pub is_within : Schema → Schema → Bool

@@ -9,7 +9,8 @@ use Rattle.teal_value.specs.declared.value.Value.TheVariants.{Uint, Bytes}
 use Rattle.avm_ledger.specs.declared.header.Header.{Header}
 use Rattle.avm_ledger.specs.declared.schema.Schema.{Schema}
 use Rattle.avm_ledger.specs.Entries.{Entries}
-use Rattle.avm_ledger.specs.Ledgers.{StoredApplication, Ledger}
+use Rattle.avm_ledger.specs.declared.application.StoredApplication.{StoredApplication}
+use Rattle.avm_ledger.specs.Ledgers.{Ledger}
 
 abbrev pub u8_bytes : ℕ → List ℕ
 u8_bytes n = to_be_bytes w8 n
@@ -38,7 +39,7 @@ abbrev pub value_bytes : Value → List ℕ
 value_bytes (Uint n) = 1 ∷ u64_bytes n
 value_bytes (Bytes s) = 2 ∷ short_string_bytes s
 
-abbrev entry_bytes : List ℕ × Value → List ℕ
+abbrev pub entry_bytes : List ℕ × Value → List ℕ
 entry_bytes e = short_string_bytes e.0 ++ value_bytes e.1
 
 abbrev pub state_bytes : Entries → List ℕ
@@ -47,12 +48,12 @@ state_bytes state = counted_bytes u8_bytes entry_bytes state
 abbrev pub schema_bytes : Schema → List ℕ
 schema_bytes s = u8_bytes s.uints ++ u8_bytes s.bytes
 
-abbrev application_bytes : ℕ × StoredApplication → List ℕ
+abbrev pub application_bytes : ℕ × StoredApplication → List ℕ
 application_bytes (id, app) =
     u64_bytes id ++ app.row.creator.0 ++ string_bytes app.row.approval ++ string_bytes app.row.clear
     ++ schema_bytes app.row.global_schema ++ schema_bytes app.row.local_schema ++ state_bytes app.state
 
-abbrev local_state_bytes : (Address × ℕ) × Entries → List ℕ
+abbrev pub local_state_bytes : (Address × ℕ) × Entries → List ℕ
 local_state_bytes e = e.0.0.0 ++ u64_bytes e.0.1 ++ state_bytes e.1
 
 abbrev pub ledger_bytes : Ledger → List ℕ

@@ -1,6 +1,10 @@
 //! Applications.
 
+ghost use Rattle.std.specs.Prelude.{◌≡◌, IfOk};
+
 use crate::schema::Schema;
+use crate::state::State;
+use std::alloc::AllocError;
 use teal_value::{Address, ByteString};
 
 /// An application, without its global state.
@@ -16,4 +20,37 @@ pub struct Application {
     pub global_schema: Schema,
     /// The limit on each of its local states.
     pub local_schema: Schema,
+}
+
+impl Application {
+    /// A copy of the application, in memory of its own.
+    pub fn clone(&self) -> Result<Application, AllocError>
+        ensures { IfOk result (λ copy. copy ≡ self.now) }
+    {
+        Ok(Application {
+            creator: self.creator,
+            approval: self.approval.clone()?,
+            clear: self.clear.clone()?,
+            global_schema: self.global_schema,
+            local_schema: self.local_schema,
+        })
+    }
+}
+
+/// An application with its global state.
+#[derive(Debug, Drop)]
+pub struct StoredApplication {
+    pub row: Application,
+    pub state: State,
+}
+
+impl Clone for StoredApplication {
+    ghost is_clone = { λ app copy. copy ≡ app };
+
+    fn clone(&self) -> Result<StoredApplication, AllocError> {
+        Ok(StoredApplication {
+            row: self.row.clone()?,
+            state: State::clone(&self.state)?,
+        })
+    }
 }

@@ -1,15 +1,29 @@
 //! States of applications and accounts.
 
-ghost use Rattle.std.specs.Prelude.{◌≡◌, []};
+ghost use Rattle.std.specs.Prelude.{◌≡◌, ◌+◌, ◌<◌, ◌≤◌, [], None, IfErr, IfOk, length, List, ℕ};
+ghost use Rattle.std.specs.Map.Iter.{ShowsInOrder, deref_pair};
+ghost use Rattle.std.specs.Option.{option_copied};
+ghost use Rattle.teal_value.specs.declared.value.Value.{Value};
+ghost use Rattle.avm_ledger.specs.Entries.{value_of_key, with_entry, without_entry, IsInKeyOrder};
+ghost use Rattle.avm_ledger.specs.Schemas.{count_with, counts_in, uncounted};
 
-use std::alloc::Global;
+use crate::schema::Schema;
+use std::alloc::{AllocError, Global};
+use std::collections::BTreeMap;
+use std::collections::btree_map::Iter;
 use std::marker::Model;
 use teal_value::{StateKey, Value};
 
-/// A global or local state: its entries by rising key, which contracts see as the list of them.
+/// The most entries that a state has room for. Schemas allow at most 64, and a call's changes pass through at most twice
+/// as many.
+const MOST_ENTRIES: usize = 255;
+
+/// A global or local state: its entries by rising key, which contracts see as the list of them. It has room for 255.
 #[derive(Debug, Drop)]
 pub struct State {
-    entries: Vec<(StateKey, Value)>,
+    entries: BTreeMap<StateKey, Value>,
+    /// How many of the entries are uints, and how many byte strings.
+    counts: Schema,
 }
 
 impl Model for State {
@@ -18,7 +32,50 @@ impl Model for State {
 
     ghost Value = { List (List ℕ × StateValue) };
 
-    ghost view = { λ s. s.entries.items };
+    ghost use Rattle.avm_ledger.specs.Schemas.{IsCounted};
+
+    ghost view = { λ s. s.entries.entries };
+
+    ghost invariant = { λ s. IsCounted s.entries.entries s.counts };
+}
+
+/// The counts without a value, if one is there.
+fn uncounted(counts: Schema, value: &Option<Value>) -> Schema
+    ensures { result ≡ uncounted value.now counts }
+{
+    let Schema { uints, bytes } = counts;
+    match value {
+        None => counts,
+        Some(Value::Uint(_)) => Schema {
+            uints: uints.saturating_sub(1),
+            bytes,
+        },
+        Some(Value::Bytes(_)) => Schema {
+            uints,
+            bytes: bytes.saturating_sub(1),
+        },
+    }
+}
+
+/// What one value counts.
+fn count_of(value: &Value) -> Schema
+    ensures { result ≡ count_with value.now (record { uints = 0; bytes = 0 }) }
+{
+    match value {
+        Value::Uint(_) => Schema { uints: 1, bytes: 0 },
+        Value::Bytes(_) => Schema { uints: 0, bytes: 1 },
+    }
+}
+
+/// Two counts together.
+fn sum(counts: Schema, more: Schema) -> Schema
+    requires { (counts.uints + more.uints ≤ 255) × (counts.bytes + more.bytes ≤ 255) }
+    ensures { result ≡ record { uints = counts.uints + more.uints; bytes = counts.bytes + more.bytes } }
+{
+    Schema {
+        uints: counts.uints + more.uints,
+        bytes: counts.bytes + more.bytes,
+    }
 }
 
 impl State {
@@ -27,7 +84,113 @@ impl State {
         ensures { result ≡ [] }
     {
         State {
-            entries: Vec::new(alloc),
+            entries: BTreeMap::new(alloc),
+            counts: Schema { uints: 0, bytes: 0 },
         }
     }
+
+    /// How many entries there are.
+    pub fn len(&self) -> usize
+        ensures len { result ≡ length self.now }
+        ensures room { length self.now ≤ 255 }
+        ensures order { IsInKeyOrder self.now }
+    {
+        let _counts = self.counts;
+        self.entries.len()
+    }
+
+    /// How many uints and how many byte strings there are.
+    pub fn counts(&self) -> Schema
+        ensures { result ≡ counts_in self.now }
+    {
+        self.counts
+    }
+
+    /// The value of a key, found in logarithmic time.
+    pub fn get(&self, key: &StateKey) -> Option<&Value>
+        ensures { option_copied result ≡ value_of_key self.now key.now }
+    {
+        self.entries.get(key)
+    }
+
+    /// The entries by rising key.
+    pub fn iter(&self) -> Iter<'_, StateKey, Value>
+        ensures rest { result ≡ self.now }
+        ensures runs { ShowsInOrder (deref_pair {K = List ℕ} {X = Value}) }
+        ensures order { IsInKeyOrder self.now }
+    {
+        self.entries.iter()
+    }
+
+    /// Gives a key a value, in place of the one that it may have had, which is answered. Only a new key can be refused:
+    /// for want of memory, or where there are 255.
+    pub fn insert(&mut self, key: StateKey, value: Value) -> Result<Option<Value>, AllocError>
+        ensures old { IfOk result (λ old. old ≡ value_of_key self.old key) }
+        ensures set { IfOk result (λ _. self.new ≡ with_entry self.old key value) }
+        ensures unchanged { IfErr result (λ _. self.new ≡ self.old) }
+        ensures only_new { IfErr result (λ _. value_of_key self.old key ≡ None) }
+        ensures order { IsInKeyOrder self.new }
+    {
+        if self.entries.len() >= MOST_ENTRIES && !self.entries.contains_key(&key) {
+            return Err(AllocError);
+        }
+        let count = count_of(&value);
+        let old = self.entries.insert(key, value)?;
+        let rest = uncounted(self.counts, &old);
+        self.counts = sum(rest, count);
+        Ok(old)
+    }
+
+    /// Takes a key out, and answers the value that it had.
+    pub fn remove(&mut self, key: &StateKey) -> Option<Value>
+        ensures old { result ≡ value_of_key self.old key.now }
+        ensures removed { self.new ≡ without_entry self.old key.now }
+        ensures order { IsInKeyOrder self.new }
+    {
+        let old = self.entries.remove(key);
+        self.counts = uncounted(self.counts, &old);
+        old
+    }
+
+    /// A copy of the state, in memory of its own.
+    pub fn clone(&self) -> Result<State, AllocError>
+        ensures { IfOk result (λ copy. copy ≡ self.now) }
+    {
+        let entries = self.entries.clone()?;
+        Ok(State {
+            entries,
+            counts: self.counts,
+        })
+    }
+}
+
+impl Clone for State {
+    ghost is_clone = { λ state copy. copy ≡ state };
+
+    fn clone(&self) -> Result<State, AllocError> {
+        State::clone(self)
+    }
+}
+
+impl PartialEq for State {
+    ghost use Rattle.std.specs.Cmp.{partial_equiv_from_equiv, on_equiv, and_equiv};
+    ghost use Rattle.std.specs.Cmp.Lexicographic.{pointwise, lists_equiv, nat_list_eq_equiv};
+    ghost use Rattle.teal_value.specs.SameValueLaws.{is_same_equiv};
+    ghost use Rattle.avm_ledger.specs.Entries.{is_same_entry};
+
+    ghost eq = { pointwise is_same_entry };
+
+    ghost laws = { partial_equiv_from_equiv (lists_equiv (and_equiv (on_equiv (λ e. e.0) nat_list_eq_equiv) (on_equiv (λ e. e.1) is_same_equiv))) };
+
+    fn eq(&self, other: &State) -> bool {
+        self.entries == other.entries
+    }
+}
+
+impl Eq for State {
+    ghost use Rattle.std.specs.Cmp.{on_equiv, and_equiv};
+    ghost use Rattle.std.specs.Cmp.Lexicographic.{lists_equiv, nat_list_eq_equiv};
+    ghost use Rattle.teal_value.specs.SameValueLaws.{is_same_equiv};
+
+    ghost laws = { lists_equiv (and_equiv (on_equiv (λ e. e.0) nat_list_eq_equiv) (on_equiv (λ e. e.1) is_same_equiv)) };
 }

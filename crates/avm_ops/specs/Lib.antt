@@ -7,4 +7,5 @@ pub mod Fields
 pub mod States
 pub mod Effect
 pub mod Steps
+pub mod Objects
 pub mod TakenOperands

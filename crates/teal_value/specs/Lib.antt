@@ -1,3 +1,5 @@
 pub mod Answer
 pub mod Base32
 pub mod AddressText
+pub mod SameValues
+pub mod SameValueLaws

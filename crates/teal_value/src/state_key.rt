@@ -1,8 +1,15 @@
 //! Keys of an application's states.
 
-ghost use Rattle.std.specs.Prelude.{◌≡◌, ◌<◌, ◌≤◌, length, IfSome, IfNone};
+ghost use Rattle.std.specs.Prelude.{◌≡◌, ◌<◌, ◌≤◌, ◌==◌, length, IfSome, IfNone};
+ghost use Rattle.std.proofs.Common.{rules};
+ghost use Rattle.std.specs.Cmp.{partial_order_from_own_ties};
+ghost use Rattle.std.specs.Cmp.Lexicographic.{slice_cmp, pointwise};
+ghost use Rattle.std.specs.Cmp.Rules.{comparing};
+ghost use Rattle.std.specs.Ordering.{nat_cmp, as_partial_cmp};
 
 use arrayvec::ArrayVec;
+use std::alloc::AllocError;
+use std::cmp::Ordering;
 use std::marker::Model;
 
 /// The key of an entry of a global or local state: 0 to 64 bytes, kept in place, so that a key takes no memory.
@@ -21,6 +28,18 @@ impl Model for StateKey {
     ghost invariant = { λ k. length k.bytes.items ≤ 64 };
 }
 
+/// The bytes, in place.
+fn kept(bytes: &[u8]) -> ArrayVec<u8, 64>
+    requires { length bytes.now ≤ 64 }
+    ensures { result.items ≡ bytes.now }
+{
+    let mut key = ArrayVec::new();
+    for byte in bytes {
+        key.push(*byte);
+    }
+    key
+}
+
 impl StateKey {
     /// The key of these bytes, if they are at most 64.
     pub fn of(bytes: &[u8]) -> Option<StateKey>
@@ -30,11 +49,7 @@ impl StateKey {
         if bytes.len() > 64 {
             return None;
         }
-        let mut key = ArrayVec::new();
-        for byte in bytes {
-            key.push(*byte);
-        }
-        Some(StateKey { bytes: key })
+        Some(StateKey { bytes: kept(bytes) })
     }
 
     pub fn as_slice(&self) -> &[u8]
@@ -42,5 +57,61 @@ impl StateKey {
         ensures short { length result.now ≤ 64 }
     {
         self.bytes.as_slice()
+    }
+
+    /// The same key. It takes no memory.
+    pub fn copied(&self) -> StateKey
+        ensures { result ≡ self.now }
+    {
+        StateKey {
+            bytes: kept(self.as_slice()),
+        }
+    }
+}
+
+impl Clone for StateKey {
+    ghost is_clone = { λ key copy. copy ≡ key };
+
+    fn clone(&self) -> Result<StateKey, AllocError> {
+        Ok(self.copied())
+    }
+}
+
+impl PartialEq for StateKey {
+    ghost eq = { pointwise ◌==◌ };
+
+    ghost laws = { Prim.search (comparing, rules) };
+
+    fn eq(&self, other: &StateKey) -> bool {
+        self.as_slice() == other.as_slice()
+    }
+}
+
+impl Eq for StateKey {
+    ghost laws = { Prim.search (comparing, rules) };
+}
+
+impl PartialOrd for StateKey {
+    ghost partial_cmp = { as_partial_cmp (slice_cmp nat_cmp) };
+
+    ghost laws = { partial_order_from_own_ties (Prim.search (comparing, rules)) (Prim.search (comparing, rules)) };
+
+    fn partial_cmp(&self, other: &StateKey) -> Option<Ordering> {
+        Some(self.cmp(other))
+    }
+}
+
+/// Keys are ordered byte by byte; a beginning comes before the longer.
+impl Ord for StateKey {
+    ghost cmp = { slice_cmp nat_cmp };
+
+    ghost total = { Prim.search (comparing, rules) };
+
+    ghost matches_partial_cmp = { Prim.search (comparing, rules) };
+
+    ghost matches_eq = { Prim.search (comparing, rules) };
+
+    fn cmp(&self, other: &StateKey) -> Ordering {
+        self.as_slice().cmp(other.as_slice())
     }
 }

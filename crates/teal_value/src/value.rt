@@ -33,3 +33,35 @@ impl Default for Value {
         Value::Uint(0)
     }
 }
+
+impl Clone for Value {
+    ghost is_clone = { λ value copy. copy ≡ value };
+
+    fn clone(&self) -> Result<Value, AllocError> {
+        Value::clone(self)
+    }
+}
+
+impl PartialEq for Value {
+    ghost use Rattle.std.specs.Cmp.{partial_equiv_from_equiv};
+    ghost use Rattle.teal_value.specs.SameValues.{is_same};
+    ghost use Rattle.teal_value.specs.SameValueLaws.{is_same_equiv};
+
+    ghost eq = { is_same };
+
+    ghost laws = { partial_equiv_from_equiv is_same_equiv };
+
+    fn eq(&self, other: &Value) -> bool {
+        match (self, other) {
+            (Value::Uint(number), Value::Uint(other)) => number == other,
+            (Value::Bytes(bytes), Value::Bytes(other)) => bytes.as_slice() == other.as_slice(),
+            _ => false,
+        }
+    }
+}
+
+impl Eq for Value {
+    ghost use Rattle.teal_value.specs.SameValueLaws.{is_same_equiv};
+
+    ghost laws = { is_same_equiv };
+}

@@ -1,5 +1,5 @@
 use Rattle.std.proofs.Common.{◌≡◌, ◌≤◌, length, take}
-use Rattle.teal_value.proofs.state_key.StateKey.of.Given as goal
+use Rattle.teal_value.proofs.state_key.kept.Given as goal
 
 -- the bytes so far are the key's
 abbrev pub invariant-loop-byte : goal.invariant-loop-byte

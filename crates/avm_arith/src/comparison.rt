@@ -1,0 +1,179 @@
+//! Instructions that compare two numbers, or two values of one type.
+
+ghost use Rattle.std.specs.Prelude.{◌≡◌, IfSome, Some};
+ghost use Rattle.teal_table.specs.Table.{code_of};
+ghost use Rattle.avm_ops.specs.Frame.{flag};
+ghost use Rattle.avm_ops.specs.Numbers.{are_equal};
+ghost use Rattle.avm_arith.specs.Families.{comparison_opcode, comparison_holds, equality_opcode, equality_holds};
+
+use avm_cpu::{Cpu, Flow};
+use avm_items::Env;
+use avm_ops::{Op, Stop};
+use std::alloc::Global;
+use teal_code::Instr;
+use teal_table::Opcode;
+use teal_value::{Fault, Value};
+
+/// 1 for true, 0 for false.
+pub(crate) fn flag(holds: bool) -> Value
+    ensures { result ≡ flag holds }
+{
+    if holds {
+        Value::Uint(1)
+    } else {
+        Value::Uint(0)
+    }
+}
+
+/// An instruction that compares two numbers, or takes them as truth values, and gives 1 or 0.
+#[derive(Clone, Copy, Debug, PartialEq, Eq)]
+pub enum Comparison {
+    Less,
+    Greater,
+    LessOrEqual,
+    GreaterOrEqual,
+    And,
+    Or,
+}
+
+impl Comparison {
+    /// The instruction of a code.
+    #[tactic(auto, unfolding(teal_table::specs::Table::row_of))]
+    pub fn of(code: u8) -> Option<Comparison>
+        ensures some { IfSome result (λ row. code_of (comparison_opcode row) ≡ code) }
+        ensures all { (row : _) → code_of (comparison_opcode row) ≡ code → result ≡ Some row }
+    {
+        match code {
+            0x0c => Some(Comparison::Less),
+            0x0d => Some(Comparison::Greater),
+            0x0e => Some(Comparison::LessOrEqual),
+            0x0f => Some(Comparison::GreaterOrEqual),
+            0x10 => Some(Comparison::And),
+            0x11 => Some(Comparison::Or),
+            _ => None,
+        }
+    }
+
+    fn opcode(self) -> Opcode
+        ensures { result ≡ comparison_opcode self }
+    {
+        match self {
+            Comparison::Less => Opcode::Less,
+            Comparison::Greater => Opcode::Greater,
+            Comparison::LessOrEqual => Opcode::LessOrEqual,
+            Comparison::GreaterOrEqual => Opcode::GreaterOrEqual,
+            Comparison::And => Opcode::And,
+            Comparison::Or => Opcode::Or,
+        }
+    }
+
+    /// Whether it gives 1.
+    fn holds(self, a: u64, b: u64) -> bool
+        ensures { result ≡ comparison_holds self a b }
+    {
+        match self {
+            Comparison::Less => a < b,
+            Comparison::Greater => a > b,
+            Comparison::LessOrEqual => a <= b,
+            Comparison::GreaterOrEqual => a >= b,
+            Comparison::And => a != 0 && b != 0,
+            Comparison::Or => a != 0 || b != 0,
+        }
+    }
+}
+
+impl Op for Comparison {
+    ghost opcode = { comparison_opcode };
+
+    fn code(&self) -> u8 {
+        self.opcode().code()
+    }
+
+    #[tactic(auto, unfolding(avm_ops::specs::Effect::effect))]
+    fn exec(
+        &self,
+        _alloc: Global,
+        _instr: &Instr,
+        cpu: &mut Cpu,
+        _env: &mut Env,
+    ) -> Result<Flow, Stop> {
+        let (a, b) = cpu.two_uints()?;
+        let holds = self.holds(a, b);
+        cpu.replace(2, flag(holds));
+        Ok(Flow::Next)
+    }
+}
+
+/// An instruction that tests whether two values of one type are the same.
+#[derive(Clone, Copy, Debug, PartialEq, Eq)]
+pub enum Equality {
+    Equal,
+    NotEqual,
+}
+
+impl Equality {
+    /// The instruction of a code.
+    #[tactic(auto, unfolding(teal_table::specs::Table::row_of))]
+    pub fn of(code: u8) -> Option<Equality>
+        ensures some { IfSome result (λ row. code_of (equality_opcode row) ≡ code) }
+        ensures all { (row : _) → code_of (equality_opcode row) ≡ code → result ≡ Some row }
+    {
+        match code {
+            0x12 => Some(Equality::Equal),
+            0x13 => Some(Equality::NotEqual),
+            _ => None,
+        }
+    }
+
+    fn opcode(self) -> Opcode
+        ensures { result ≡ equality_opcode self }
+    {
+        match self {
+            Equality::Equal => Opcode::Equal,
+            Equality::NotEqual => Opcode::NotEqual,
+        }
+    }
+
+    /// Whether it gives 1.
+    fn holds(self, are_equal: bool) -> bool
+        ensures { result ≡ equality_holds self are_equal }
+    {
+        match self {
+            Equality::Equal => are_equal,
+            Equality::NotEqual => !are_equal,
+        }
+    }
+}
+
+/// Whether two values of one type are the same.
+fn are_equal(a: &Value, b: &Value) -> Result<bool, Fault>
+    ensures { result ≡ are_equal a.now b.now }
+{
+    match (a, b) {
+        (Value::Uint(a), Value::Uint(b)) => Ok(a == b),
+        (Value::Bytes(a), Value::Bytes(b)) => Ok(a.as_slice() == b.as_slice()),
+        _ => Err(Fault::Compare),
+    }
+}
+
+impl Op for Equality {
+    ghost opcode = { equality_opcode };
+
+    fn code(&self) -> u8 {
+        self.opcode().code()
+    }
+
+    #[tactic(auto, unfolding(avm_ops::specs::Effect::effect))]
+    fn exec(
+        &self,
+        _alloc: Global,
+        _instr: &Instr,
+        cpu: &mut Cpu,
+        _env: &mut Env,
+    ) -> Result<Flow, Stop> {
+        let (a, b) = cpu.two_values()?;
+        let same = are_equal(a, b)?;
+        cpu.replace(2, flag(self.holds(same)));
+        Ok(Flow::Next)
+    }
+}

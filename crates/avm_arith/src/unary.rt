@@ -1,0 +1,82 @@
+//! Instructions on one number.
+
+ghost use Rattle.std.specs.Prelude.{◌≡◌, IfOk, IfSome, Some};
+ghost use Rattle.teal_table.specs.Table.{code_of};
+ghost use Rattle.avm_ops.specs.ByteStrings.{bytes_of_number};
+ghost use Rattle.avm_arith.specs.Families.{unary_opcode, unary_value};
+
+use crate::comparison::flag;
+use avm_cpu::{Cpu, Flow};
+use avm_items::Env;
+use avm_ops::{Op, Stop};
+use std::alloc::{AllocError, Global};
+use teal_code::Instr;
+use teal_table::Opcode;
+use teal_value::{ByteString, Value};
+
+/// An instruction that takes a number.
+#[derive(Clone, Copy, Debug, PartialEq, Eq)]
+pub enum Unary {
+    Not,
+    BitNot,
+    Itob,
+}
+
+impl Unary {
+    /// The instruction of a code.
+    #[tactic(auto, unfolding(teal_table::specs::Table::row_of))]
+    pub fn of(code: u8) -> Option<Unary>
+        ensures some { IfSome result (λ row. code_of (unary_opcode row) ≡ code) }
+        ensures all { (row : _) → code_of (unary_opcode row) ≡ code → result ≡ Some row }
+    {
+        match code {
+            0x14 => Some(Unary::Not),
+            0x16 => Some(Unary::Itob),
+            0x1c => Some(Unary::BitNot),
+            _ => None,
+        }
+    }
+
+    fn opcode(self) -> Opcode
+        ensures { result ≡ unary_opcode self }
+    {
+        match self {
+            Unary::Not => Opcode::Not,
+            Unary::BitNot => Opcode::BitNot,
+            Unary::Itob => Opcode::Itob,
+        }
+    }
+
+    /// The value that it gives.
+    fn value(self, alloc: Global, a: u64) -> Result<Value, AllocError>
+        ensures { IfOk result (λ value. value ≡ unary_value self a) }
+    {
+        match self {
+            Unary::Not => Ok(flag(a == 0)),
+            Unary::BitNot => Ok(Value::Uint(!a)),
+            Unary::Itob => Ok(Value::Bytes(ByteString::from_slice(alloc, &a.to_be_bytes())?)),
+        }
+    }
+}
+
+impl Op for Unary {
+    ghost opcode = { unary_opcode };
+
+    fn code(&self) -> u8 {
+        self.opcode().code()
+    }
+
+    #[tactic(auto, unfolding(avm_ops::specs::Effect::effect))]
+    fn exec(
+        &self,
+        alloc: Global,
+        _instr: &Instr,
+        cpu: &mut Cpu,
+        _env: &mut Env,
+    ) -> Result<Flow, Stop> {
+        let a = cpu.one_uint()?;
+        let value = self.value(alloc, a)?;
+        cpu.replace(1, value);
+        Ok(Flow::Next)
+    }
+}

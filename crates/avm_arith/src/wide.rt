@@ -1,0 +1,87 @@
+//! Instructions whose result has 128 bits.
+
+ghost use Rattle.std.specs.Prelude.{◌≡◌, ◌/◌, ◌%◌, ◌^◌, IfSome, Some};
+ghost use Rattle.teal_table.specs.Table.{code_of};
+ghost use Rattle.avm_arith.specs.Families.{wide_opcode, wide_value};
+
+use avm_cpu::{Cpu, Flow};
+use avm_items::Env;
+use avm_ops::{Op, Stop};
+use std::alloc::Global;
+use teal_code::Instr;
+use teal_table::Opcode;
+use teal_value::Value;
+
+/// An instruction that takes two numbers and gives a number of 128 bits: its high word, and its low word on top.
+#[derive(Clone, Copy, Debug, PartialEq, Eq)]
+pub enum Wide {
+    Mulw,
+    Addw,
+}
+
+/// One above the greatest word.
+const WORD: u128 = 1 << 64;
+
+impl Wide {
+    /// The instruction of a code.
+    #[tactic(auto, unfolding(teal_table::specs::Table::row_of))]
+    pub fn of(code: u8) -> Option<Wide>
+        ensures some { IfSome result (λ row. code_of (wide_opcode row) ≡ code) }
+        ensures all { (row : _) → code_of (wide_opcode row) ≡ code → result ≡ Some row }
+    {
+        match code {
+            0x1d => Some(Wide::Mulw),
+            0x1e => Some(Wide::Addw),
+            _ => None,
+        }
+    }
+
+    fn opcode(self) -> Opcode
+        ensures { result ≡ wide_opcode self }
+    {
+        match self {
+            Wide::Mulw => Opcode::Mulw,
+            Wide::Addw => Opcode::Addw,
+        }
+    }
+
+    /// Its result, as one number.
+    fn value(self, a: u64, b: u64) -> u128
+        ensures { result ≡ wide_value self a b }
+    {
+        match self {
+            Wide::Mulw => u128::from(a) * u128::from(b),
+            Wide::Addw => u128::from(a) + u128::from(b),
+        }
+    }
+}
+
+/// The high word and the low word.
+fn words(value: u128) -> (u64, u64)
+    ensures high { result.0 ≡ value / 2 ^ 64 }
+    ensures low { result.1 ≡ value % 2 ^ 64 }
+{
+    ((value / WORD) as u64, (value % WORD) as u64)
+}
+
+impl Op for Wide {
+    ghost opcode = { wide_opcode };
+
+    fn code(&self) -> u8 {
+        self.opcode().code()
+    }
+
+    #[tactic(auto, unfolding(avm_ops::specs::Effect::effect))]
+    fn exec(
+        &self,
+        _alloc: Global,
+        _instr: &Instr,
+        cpu: &mut Cpu,
+        _env: &mut Env,
+    ) -> Result<Flow, Stop> {
+        let (a, b) = cpu.two_uints()?;
+        let (high, low) = words(self.value(a, b));
+        cpu.replace_pair(2, Value::Uint(high), Value::Uint(low));
+        Ok(Flow::Next)
+    }
+}

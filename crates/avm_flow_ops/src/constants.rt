@@ -1,0 +1,214 @@
+//! Constant blocks, and the instructions that push their constants.
+
+ghost use Rattle.std.specs.Prelude.{◌≡◌, IfSome, Some};
+ghost use Rattle.teal_table.specs.declared.opcode.Opcode.TheVariants as op;
+ghost use Rattle.teal_table.specs.Table.{code_of};
+ghost use Rattle.avm_flow_ops.specs.Families.{intc_opcode, intc_index, bytec_opcode, bytec_index};
+
+use avm_cpu::{Cpu, Flow};
+use avm_items::Env;
+use avm_ops::immediates::{byte_strings_of, index_of, uints_of};
+use avm_ops::{Op, Stop};
+use std::alloc::Global;
+use teal_code::{Immediates, Instr};
+use teal_table::Opcode;
+use teal_value::{ByteString, Fault, Value};
+
+/// Puts a block of numbers in force.
+#[derive(Clone, Copy, Debug, PartialEq, Eq)]
+pub struct Intcblock;
+
+/// Puts a block of byte strings in force.
+#[derive(Clone, Copy, Debug, PartialEq, Eq)]
+pub struct Bytecblock;
+
+/// Pushes a number of the block in force.
+#[derive(Clone, Copy, Debug, PartialEq, Eq)]
+pub enum Intc {
+    /// The one whose number is the immediate.
+    Numbered,
+    Zero,
+    One,
+    Two,
+    Three,
+}
+
+/// Pushes a byte string of the block in force.
+#[derive(Clone, Copy, Debug, PartialEq, Eq)]
+pub enum Bytec {
+    /// The one whose number is the immediate.
+    Numbered,
+    Zero,
+    One,
+    Two,
+    Three,
+}
+
+impl Op for Intcblock {
+    ghost opcode = { λ _. op.Intcblock };
+
+    fn code(&self) -> u8 {
+        Opcode::Intcblock.code()
+    }
+
+    #[tactic(auto, unfolding(avm_ops::specs::Effect::effect))]
+    fn exec(
+        &self,
+        alloc: Global,
+        instr: &Instr,
+        cpu: &mut Cpu,
+        _env: &mut Env,
+    ) -> Result<Flow, Stop> {
+        cpu.set_uint_constants(alloc, uints_of(&instr.immediates))?;
+        Ok(Flow::Next)
+    }
+}
+
+impl Op for Bytecblock {
+    ghost opcode = { λ _. op.Bytecblock };
+
+    fn code(&self) -> u8 {
+        Opcode::Bytecblock.code()
+    }
+
+    #[tactic(auto, unfolding(avm_ops::specs::Effect::effect))]
+    fn exec(
+        &self,
+        alloc: Global,
+        instr: &Instr,
+        cpu: &mut Cpu,
+        _env: &mut Env,
+    ) -> Result<Flow, Stop> {
+        cpu.set_byte_constants(alloc, byte_strings_of(&instr.immediates))?;
+        Ok(Flow::Next)
+    }
+}
+
+impl Intc {
+    /// The instruction of a code.
+    #[tactic(auto, unfolding(teal_table::specs::Table::row_of))]
+    pub fn of(code: u8) -> Option<Intc>
+        ensures some { IfSome result (λ row. code_of (intc_opcode row) ≡ code) }
+        ensures all { (row : _) → code_of (intc_opcode row) ≡ code → result ≡ Some row }
+    {
+        match code {
+            0x21 => Some(Intc::Numbered),
+            0x22 => Some(Intc::Zero),
+            0x23 => Some(Intc::One),
+            0x24 => Some(Intc::Two),
+            0x25 => Some(Intc::Three),
+            _ => None,
+        }
+    }
+
+    fn opcode(self) -> Opcode
+        ensures { result ≡ intc_opcode self }
+    {
+        match self {
+            Intc::Numbered => Opcode::Intc,
+            Intc::Zero => Opcode::Intc0,
+            Intc::One => Opcode::Intc1,
+            Intc::Two => Opcode::Intc2,
+            Intc::Three => Opcode::Intc3,
+        }
+    }
+
+    fn index(self, immediates: &Immediates) -> u8
+        ensures { result ≡ intc_index self immediates.now }
+    {
+        match self {
+            Intc::Numbered => index_of(immediates),
+            Intc::Zero => 0,
+            Intc::One => 1,
+            Intc::Two => 2,
+            Intc::Three => 3,
+        }
+    }
+}
+
+impl Op for Intc {
+    ghost opcode = { intc_opcode };
+
+    fn code(&self) -> u8 {
+        self.opcode().code()
+    }
+
+    #[tactic(auto, unfolding(avm_ops::specs::Effect::effect))]
+    fn exec(
+        &self,
+        _alloc: Global,
+        instr: &Instr,
+        cpu: &mut Cpu,
+        _env: &mut Env,
+    ) -> Result<Flow, Stop> {
+        let index = self.index(&instr.immediates);
+        let number = cpu.uint_constant(index).ok_or(Fault::NoConstant)?;
+        cpu.push(Value::Uint(number))?;
+        Ok(Flow::Next)
+    }
+}
+
+impl Bytec {
+    /// The instruction of a code.
+    #[tactic(auto, unfolding(teal_table::specs::Table::row_of))]
+    pub fn of(code: u8) -> Option<Bytec>
+        ensures some { IfSome result (λ row. code_of (bytec_opcode row) ≡ code) }
+        ensures all { (row : _) → code_of (bytec_opcode row) ≡ code → result ≡ Some row }
+    {
+        match code {
+            0x27 => Some(Bytec::Numbered),
+            0x28 => Some(Bytec::Zero),
+            0x29 => Some(Bytec::One),
+            0x2a => Some(Bytec::Two),
+            0x2b => Some(Bytec::Three),
+            _ => None,
+        }
+    }
+
+    fn opcode(self) -> Opcode
+        ensures { result ≡ bytec_opcode self }
+    {
+        match self {
+            Bytec::Numbered => Opcode::Bytec,
+            Bytec::Zero => Opcode::Bytec0,
+            Bytec::One => Opcode::Bytec1,
+            Bytec::Two => Opcode::Bytec2,
+            Bytec::Three => Opcode::Bytec3,
+        }
+    }
+
+    fn index(self, immediates: &Immediates) -> u8
+        ensures { result ≡ bytec_index self immediates.now }
+    {
+        match self {
+            Bytec::Numbered => index_of(immediates),
+            Bytec::Zero => 0,
+            Bytec::One => 1,
+            Bytec::Two => 2,
+            Bytec::Three => 3,
+        }
+    }
+}
+
+impl Op for Bytec {
+    ghost opcode = { bytec_opcode };
+
+    fn code(&self) -> u8 {
+        self.opcode().code()
+    }
+
+    #[tactic(auto, unfolding(avm_ops::specs::Effect::effect))]
+    fn exec(
+        &self,
+        alloc: Global,
+        instr: &Instr,
+        cpu: &mut Cpu,
+        _env: &mut Env,
+    ) -> Result<Flow, Stop> {
+        let index = self.index(&instr.immediates);
+        let bytes = cpu.byte_constant(index).ok_or(Fault::NoConstant)?;
+        let copy = ByteString::from_slice(alloc, bytes)?;
+        cpu.push(Value::Bytes(copy))?;
+        Ok(Flow::Next)
+    }
+}

@@ -1,0 +1,40 @@
+-- Lists of one length with a number behind each: the lists are compared first, and then the numbers.
+use Rattle.std.proofs.Common.{ℕ, ◌≡◌, ◌==◌, ◌&&◌, ◌∙◌, Bool, true, false, List, [], ◌∷◌, ◌++◌, length, refl, ap, arith}
+use Rattle.std.specs.declared.cmp.Ordering.TheVariants.{Less, Equal, Greater}
+use Rattle.std.specs.declared.cmp.Ordering.{Ordering}
+use Rattle.std.specs.Cmp.Lexicographic.{slice_cmp, pointwise}
+use Rattle.std.specs.Ordering.{nat_cmp, ordering_then}
+
+then_end : (o : Ordering) → ordering_then o Equal ≡ o
+then_end Less = refl
+then_end Equal = refl
+then_end Greater = refl
+
+then_then : (o p q : Ordering) → ordering_then o (ordering_then p q) ≡ ordering_then (ordering_then o p) q
+then_then Less p q = refl
+then_then Equal p q = refl
+then_then Greater p q = refl
+
+and_true : (a : Bool) → (a && true) ≡ a
+and_true true = refl
+and_true false = refl
+
+and_and : (a b c : Bool) → (a && (b && c)) ≡ ((a && b) && c)
+and_and true b c = refl
+and_and false b c = refl
+
+pub slice_cmp_end : (xs ys : List ℕ) (a b : ℕ) → length xs ≡ length ys
+    → slice_cmp nat_cmp (xs ++ a ∷ []) (ys ++ b ∷ []) ≡ ordering_then (slice_cmp nat_cmp xs ys) (nat_cmp a b)
+slice_cmp_end [] [] a b e = then_end (nat_cmp a b)
+slice_cmp_end (x ∷ xs) (y ∷ ys) a b e =
+    ap (ordering_then (nat_cmp x y)) (slice_cmp_end xs ys a b (omega (arith, e))) ∙ then_then (nat_cmp x y) (slice_cmp nat_cmp xs ys) (nat_cmp a b)
+slice_cmp_end [] (y ∷ ys) a b e = absurd (omega (arith, e))
+slice_cmp_end (x ∷ xs) [] a b e = absurd (omega (arith, e))
+
+pub pointwise_end : (xs ys : List ℕ) (a b : ℕ) → length xs ≡ length ys
+    → pointwise ◌==◌ (xs ++ a ∷ []) (ys ++ b ∷ []) ≡ (pointwise ◌==◌ xs ys && (a == b))
+pointwise_end [] [] a b e = and_true (a == b)
+pointwise_end (x ∷ xs) (y ∷ ys) a b e =
+    ap (λ t. (x == y) && t) (pointwise_end xs ys a b (omega (arith, e))) ∙ and_and (x == y) (pointwise ◌==◌ xs ys) (a == b)
+pointwise_end [] (y ∷ ys) a b e = absurd (omega (arith, e))
+pointwise_end (x ∷ xs) [] a b e = absurd (omega (arith, e))

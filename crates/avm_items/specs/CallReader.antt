@@ -1,0 +1,63 @@
+-- Reading a call from its bytes: its fields in order, and the first that no call has or that the bytes end in.
+use Rattle.std.specs.Prelude.{ℕ, ◌-◌, ◌==◌, if◌then◌else◌, List, length, drop, Option, Some, None, Result, Ok, Err}
+use Rattle.std.specs.Option.{ok_or}
+use Rattle.std.specs.Int.{w8, w64}
+use Rattle.teal_value.specs.Answer.{◌>>=◌}
+use Rattle.avm_ledger.specs.FieldReader.{Front, bytes_at, number_at, string_at, address_at, schema_at, counted_at}
+use Rattle.avm_items.specs.declared.call_fault.CallDataFault.{CallDataFault}
+use Rattle.avm_items.specs.declared.call_fault.CallDataFault.TheVariants.{Field, Truncated, Rest}
+use Rattle.avm_items.specs.declared.call_data.Completion.{Completion}
+use Rattle.avm_items.specs.declared.call_data.Completion.TheVariants as completion
+use Rattle.avm_items.specs.declared.call_data.CallData.{CallData}
+
+-- the completion of a number
+abbrev pub completion_of : ℕ → Option Completion
+completion_of n =
+    if n == 0 then Some completion.NoOp else if n == 1 then Some completion.OptIn else if n == 2 then Some completion.CloseOut
+    else if n == 3 then Some completion.ClearState else if n == 4 then Some completion.UpdateApplication
+    else if n == 5 then Some completion.DeleteApplication else None
+
+abbrev pub completion_at : List ℕ → Front CallDataFault Completion
+completion_at bytes = number_at Truncated w8 bytes >>= λ n. ok_or (completion_of n.0) Field >>= λ done. Ok (done, n.1)
+
+-- the call that the bytes begin with
+abbrev pub call_front : List ℕ → Front CallDataFault CallData
+call_front bytes =
+    address_at Truncated bytes >>= λ sender. number_at Truncated w64 sender.1 >>= λ fee. number_at Truncated w64 fee.1 >>= λ first.
+    number_at Truncated w64 first.1 >>= λ last. string_at Truncated last.1 >>= λ note. bytes_at Truncated 32 note.1 >>= λ lease.
+    address_at Truncated lease.1 >>= λ rekey_to. number_at Truncated w64 rekey_to.1 >>= λ application. completion_at application.1 >>= λ done.
+    counted_at Truncated (string_at Truncated) done.1 >>= λ arguments. counted_at Truncated (address_at Truncated) arguments.1 >>= λ accounts.
+    counted_at Truncated (number_at Truncated w64) accounts.1 >>= λ foreign. string_at Truncated foreign.1 >>= λ approval.
+    string_at Truncated approval.1 >>= λ clear. schema_at Truncated clear.1 >>= λ global. schema_at Truncated global.1 >>= λ local.
+    Ok (
+      record {
+        sender = sender.0;
+        fee = fee.0;
+        first_valid = first.0;
+        last_valid = last.0;
+        note = note.0;
+        lease = lease.0;
+        rekey_to = rekey_to.0;
+        application = application.0;
+        completion = done.0;
+        arguments = arguments.0;
+        accounts = accounts.0;
+        foreign_applications = foreign.0;
+        approval = approval.0;
+        clear = clear.0;
+        global_schema = global.0;
+        local_schema = local.0;
+      },
+      local.1,
+    )
+
+-- the call that begins at a place, and the place behind it
+abbrev pub call_from : List ℕ → ℕ → Result (CallData × ℕ) CallDataFault
+call_from bytes place = call_front (drop place bytes) >>= λ c. Ok (c.0, length bytes - length c.1)
+
+abbrev pub alone : {A : Type 0} → A × List ℕ → Result A CallDataFault
+alone x = if length x.1 == 0 then Ok x.0 else Err Rest
+
+-- the call that the bytes are
+abbrev pub call_at : List ℕ → Result CallData CallDataFault
+call_at bytes = call_front bytes >>= alone

@@ -1,0 +1,142 @@
+//! What a call knows while its program runs.
+
+ghost use Rattle.std.specs.Prelude.{◌≡◌, [], IfErr, IfOk};
+ghost use Rattle.std.specs.Arc.{arc_value};
+ghost use Rattle.std.specs.Option.{option_copied};
+ghost use Rattle.avm_items.specs.CallFields.{new_keys};
+ghost use Rattle.avm_items.specs.Environments.{known_to};
+ghost use Rattle.avm_items.specs.Items.{with_item};
+
+use crate::call_data::CallData;
+use crate::item::Item;
+use crate::item_map::ItemMap;
+use crate::item_value::ItemValue;
+use avm_ledger::Header;
+use std::alloc::{AllocError, Global};
+use std::marker::Model;
+use std::sync::Arc;
+
+/// What a call knows while its program runs: its fields, the block's header, the application that runs, the items that
+/// it was given, and those that it has written.
+#[derive(Drop)]
+pub struct Env {
+    call: Arc<CallData>,
+    header: Header,
+    current: u64,
+    reads: ItemMap,
+    writes: ItemMap,
+    /// The value that the keys of a new application have, to be lent.
+    absent: ItemValue,
+}
+
+impl Model for Env {
+    ghost use Rattle.std.specs.Prelude.{◌≡◌};
+    ghost use Rattle.std.specs.Arc.{arc_value};
+    ghost use Rattle.avm_items.specs.Environments.{Environment};
+    ghost use Rattle.avm_items.specs.declared.item_value.ItemValue.TheVariants.{Absent};
+
+    ghost Value = { Environment };
+
+    ghost view = { λ e. record { call = arc_value e.call; header = e.header; current = e.current; reads = e.reads; writes = e.writes } };
+
+    ghost invariant = { λ e. e.absent ≡ Absent };
+}
+
+impl Env {
+    /// What a call knows that has read and written nothing. It takes no memory.
+    pub fn new(alloc: Global, call: Arc<CallData>, header: Header, current: u64) -> Env
+        ensures { result ≡ record { call = arc_value call; header = header; current = current; reads = []; writes = [] } }
+    {
+        Env {
+            call,
+            header,
+            current,
+            reads: ItemMap::new(alloc),
+            writes: ItemMap::new(alloc),
+            absent: ItemValue::Absent,
+        }
+    }
+
+    /// The fields of the call.
+    pub fn call(&self) -> &CallData
+        ensures { result.now ≡ self.now.call }
+    {
+        &self.call
+    }
+
+    pub fn header(&self) -> &Header
+        ensures { result.now ≡ self.now.header }
+    {
+        &self.header
+    }
+
+    /// The id of the application that runs.
+    pub fn current(&self) -> u64
+        ensures { result ≡ self.now.current }
+    {
+        self.current
+    }
+
+    /// The items that the call was given, with their values.
+    pub fn reads(&self) -> &ItemMap
+        ensures { result.now ≡ self.now.reads }
+    {
+        &self.reads
+    }
+
+    /// The items that the call has written, with their values.
+    pub fn writes(&self) -> &ItemMap
+        ensures { result.now ≡ self.now.writes }
+    {
+        &self.writes
+    }
+
+    /// The value of an item, if it is known: what the call has written; else, of a key of the application that it makes,
+    /// that it is absent; else what it was given.
+    pub fn value(&self, item: &Item) -> Option<&ItemValue>
+        ensures { option_copied result ≡ known_to self.now item.now }
+    {
+        if let Some(value) = self.writes.get(item) {
+            return Some(value);
+        }
+        match self.new_key(item) {
+            Some(value) => Some(value),
+            None => self.reads.get(item),
+        }
+    }
+
+    /// That a key of the application that the call makes is absent.
+    fn new_key(&self, item: &Item) -> Option<&ItemValue>
+        ensures { option_copied result ≡ new_keys self.now.call self.now.current item.now }
+    {
+        match item {
+            Item::Key(id, _) if self.call.application == 0 && *id == self.current => Some(
+                &self.absent,
+            ),
+            _ => None,
+        }
+    }
+
+    /// Gives the call the value of an item.
+    pub fn read(&mut self, item: Item, value: ItemValue) -> Result<(), AllocError>
+        ensures ok { IfOk result (λ _. self.new ≡ record self.old { reads = with_item self.old.reads item value }) }
+        ensures memory { IfErr result (λ _. self.new ≡ self.old) }
+    {
+        self.reads.insert(item, value)
+    }
+
+    /// Writes an item.
+    pub fn write(&mut self, item: Item, value: ItemValue) -> Result<(), AllocError>
+        ensures ok { IfOk result (λ _. self.new ≡ record self.old { writes = with_item self.old.writes item value }) }
+        ensures memory { IfErr result (λ _. self.new ≡ self.old) }
+    {
+        self.writes.insert(item, value)
+    }
+
+    /// The items that the call was given and those that it has written.
+    pub fn into_items(self) -> (ItemMap, ItemMap)
+        ensures { result ≡ (self.reads, self.writes) }
+    {
+        (self.reads, self.writes)
+    }
+}

@@ -1,0 +1,104 @@
+//! Instructions as objects.
+
+ghost use Rattle.std.specs.Prelude.{◌≡◌};
+ghost use Rattle.teal_table.specs.declared.opcode.Opcode.{Opcode};
+ghost use Rattle.teal_table.specs.Table.{code_of};
+ghost use Rattle.avm_ops.specs.Objects.{IsReady, Does, IfStopped, context_of, known_effect};
+
+use avm_cpu::{Cpu, Flow};
+use avm_items::{Env, Item};
+use std::alloc::{AllocError, Global};
+use teal_code::Instr;
+use teal_value::{Failure, Fault};
+
+/// Why an instruction was not carried out.
+#[derive(Debug, Drop)]
+pub enum Stop {
+    /// It faults.
+    Fault(Fault),
+    /// It asks for an item that is not known.
+    Need(Item),
+    /// Memory was refused.
+    Memory,
+}
+
+impl From<Fault> for Stop {
+    ghost use Rattle.avm_ops.specs.declared.op.Stop.TheVariants as stop;
+
+    ghost from_gives = { λ fault s. s ≡ stop.Fault fault };
+
+    fn from(fault: Fault) -> Stop {
+        Stop::Fault(fault)
+    }
+}
+
+impl From<AllocError> for Stop {
+    ghost use Rattle.avm_ops.specs.declared.op.Stop.TheVariants as stop;
+
+    ghost from_gives = { λ _ s. s ≡ stop.Memory };
+
+    fn from(_: AllocError) -> Stop {
+        Stop::Memory
+    }
+}
+
+impl From<Failure<Fault>> for Stop {
+    ghost use Rattle.avm_ops.specs.Objects.{stop_of};
+
+    ghost from_gives = { λ failure s. s ≡ stop_of failure };
+
+    fn from(failure: Failure<Fault>) -> Stop {
+        match failure {
+            Failure::Memory => Stop::Memory,
+            Failure::Fault(fault) => Stop::Fault(fault),
+        }
+    }
+}
+
+/// An object that carries out the instructions of one opcode. Whoever runs programs knows instructions by this alone.
+pub trait Op: Send + Drop {
+    /// The opcode.
+    ghost opcode: { Self → Opcode };
+
+    /// The byte of the opcode.
+    fn code(&self) -> u8
+        ensures { result ≡ code_of (opcode self.now) };
+
+    /// Carries out an instruction of the opcode, over what the call knows.
+    ///
+    /// A branch has to lead to a place of at most 1024, the longest program. `Memory` is answered only where a growth
+    /// was refused; the machine and the call's writes may be changed then.
+    fn exec(&self, alloc: Global, instr: &Instr, cpu: &mut Cpu, env: &mut Env) -> Result<Flow, Stop>
+        requires opcode { instr.now.opcode ≡ opcode self.now }
+        requires ready { IsReady cpu.old.place (opcode self.now) instr.now.immediates }
+        // What the opcode table says: the flow, the machine and the writes; or the fault; or the first item that isn't known.
+        ensures row { Does result cpu.new env.new (known_effect cpu.old env.old (opcode self.now) instr.now.immediates) }
+        // Only writes change in what the call knows.
+        ensures writes { env.new ≡ record env.old { writes = env.new.writes } }
+        // At a fault, and at an item that isn't known, nothing changes.
+        ensures unchanged { IfStopped result ((cpu.new ≡ cpu.old) × (env.new ≡ env.old)) };
+}
+
+/// An object in a box.
+#[derive(Drop)]
+pub struct BoxedOp {
+    pub op: Box<dyn Op>,
+}
+
+impl Op for BoxedOp {
+    ghost opcode = { λ b. (Op-box b.op).opcode b.op.value };
+
+    fn code(&self) -> u8 {
+        self.op.code()
+    }
+
+    fn exec(
+        &self,
+        alloc: Global,
+        instr: &Instr,
+        cpu: &mut Cpu,
+        env: &mut Env,
+    ) -> Result<Flow, Stop> {
+        self.op.exec(alloc, instr, cpu, env)
+    }
+}

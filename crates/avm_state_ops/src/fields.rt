@@ -1,0 +1,126 @@
+//! The values of the fields of a call.
+
+ghost use Rattle.std.specs.Prelude.{◌≡◌, IfOk};
+ghost use Rattle.teal_value.specs.declared.value.Value.TheVariants.{Bytes};
+ghost use Rattle.teal_value.specs.Answer.{Gives};
+ghost use Rattle.teal_value.specs.declared.fault.Fault.TheVariants.{NoAccount};
+ghost use Rattle.avm_items.specs.CallFields.{account, completion_number};
+ghost use Rattle.avm_ops.specs.Fields.{array_field, scalar_field, txn_array_value, txn_value, zero_address};
+ghost use Rattle.avm_ops.specs.Frame.{there};
+
+use avm_items::{CallData, Completion};
+use std::alloc::{AllocError, Global};
+use teal_table::{TxnField, txn_field};
+use teal_value::{Address, ByteString, Failure, Fault, Value};
+
+/// The address of no account.
+pub(crate) const ZERO_ADDRESS: [u8; 32] = [0; 32];
+
+/// A byte string as a value of its own.
+pub(crate) fn bytes_value(alloc: Global, bytes: &[u8]) -> Result<Value, AllocError>
+    ensures { IfOk result (λ v. v ≡ Bytes bytes.now) }
+{
+    Ok(Value::Bytes(ByteString::from_slice(alloc, bytes)?))
+}
+
+/// The number of a completion.
+fn completion_number(completion: Completion) -> u64
+    ensures { result ≡ completion_number completion }
+{
+    match completion {
+        Completion::NoOp => 0,
+        Completion::OptIn => 1,
+        Completion::CloseOut => 2,
+        Completion::ClearState => 3,
+        Completion::UpdateApplication => 4,
+        Completion::DeleteApplication => 5,
+    }
+}
+
+/// The account of an index: the sender at 0, and the call's accounts from 1 on.
+pub(crate) fn account(call: &CallData, index: u64) -> Result<Address, Fault>
+    ensures { result ≡ there (account call.now index) NoAccount }
+{
+    if index == 0 {
+        return Ok(call.sender);
+    }
+    match call.accounts.as_slice().get((index - 1) as usize) {
+        Some(who) => Ok(*who),
+        None => Err(Fault::NoAccount),
+    }
+}
+
+/// The value of a field that is no array.
+fn txn_value(alloc: Global, call: &CallData, field: TxnField) -> Result<Value, Failure<Fault>>
+    ensures { Gives (λ v. v) result (txn_value call.now field) }
+{
+    match field {
+        TxnField::Sender => Ok(bytes_value(alloc, &call.sender.0)?),
+        TxnField::Fee => Ok(Value::Uint(call.fee)),
+        TxnField::FirstValid => Ok(Value::Uint(call.first_valid)),
+        TxnField::LastValid => Ok(Value::Uint(call.last_valid)),
+        TxnField::Note => Ok(bytes_value(alloc, call.note.as_slice())?),
+        TxnField::Lease => Ok(bytes_value(alloc, &call.lease)?),
+        TxnField::Receiver | TxnField::CloseRemainderTo => Ok(bytes_value(alloc, &ZERO_ADDRESS)?),
+        TxnField::Amount | TxnField::GroupIndex => Ok(Value::Uint(0)),
+        TxnField::Type => Ok(bytes_value(alloc, b"appl")?),
+        TxnField::TypeEnum => Ok(Value::Uint(6)),
+        TxnField::ApplicationId => Ok(Value::Uint(call.application)),
+        TxnField::OnCompletion => Ok(Value::Uint(completion_number(call.completion))),
+        TxnField::NumAppArgs => Ok(Value::Uint(call.arguments.as_slice().len() as u64)),
+        TxnField::NumAccounts => Ok(Value::Uint(call.accounts.as_slice().len() as u64)),
+        TxnField::ApprovalProgram => Ok(bytes_value(alloc, call.approval.as_slice())?),
+        TxnField::ClearStateProgram => Ok(bytes_value(alloc, call.clear.as_slice())?),
+        TxnField::RekeyTo => Ok(bytes_value(alloc, &call.rekey_to.0)?),
+        TxnField::FirstValidTime | TxnField::ApplicationArgs | TxnField::Accounts => {
+            Err(Failure::Fault(Fault::BadField))
+        }
+    }
+}
+
+/// The value of an array field at an index.
+fn txn_array_value(
+    alloc: Global,
+    call: &CallData,
+    field: TxnField,
+    index: u8,
+) -> Result<Value, Failure<Fault>>
+    ensures { Gives (λ v. v) result (txn_array_value call.now field index) }
+{
+    match field {
+        TxnField::ApplicationArgs => match call.arguments.as_slice().get(usize::from(index)) {
+            Some(argument) => Ok(bytes_value(alloc, argument.as_slice())?),
+            None => Err(Failure::Fault(Fault::NoArg)),
+        },
+        TxnField::Accounts => match account(call, u64::from(index)) {
+            Ok(who) => Ok(bytes_value(alloc, &who.0)?),
+            Err(fault) => Err(Failure::Fault(fault)),
+        },
+        _ => Err(Failure::Fault(Fault::BadField)),
+    }
+}
+
+/// The value of the field of a number.
+pub(crate) fn scalar_field(alloc: Global, call: &CallData, number: u8) -> Result<Value, Failure<Fault>>
+    ensures { Gives (λ v. v) result (scalar_field call.now number) }
+{
+    match txn_field(number) {
+        Some(field) => txn_value(alloc, call, field),
+        None => Err(Failure::Fault(Fault::BadField)),
+    }
+}
+
+/// The value of the array field of a number, at an index.
+pub(crate) fn array_field(
+    alloc: Global,
+    call: &CallData,
+    number: u8,
+    index: u8,
+) -> Result<Value, Failure<Fault>>
+    ensures { Gives (λ v. v) result (array_field call.now number index) }
+{
+    match txn_field(number) {
+        Some(field) => txn_array_value(alloc, call, field, index),
+        None => Err(Failure::Fault(Fault::BadField)),
+    }
+}
