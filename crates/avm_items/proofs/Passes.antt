@@ -1,7 +1,7 @@
 -- That items may be taken out last: setting what is not to be absent, and then taking out the rest, puts them all.
 use Rattle.std.proofs.Common.{◌≡◌, ℕ, Bool, true, false, List, [], ◌∷◌, Option, None, Some, refl, sym, ap, ◌∙◌, subst, cond}
 use Rattle.std.specs.Ordering.{is_eq, nat_cmp, ordering_then}
-use Rattle.std.specs.declared.cmp.Ordering.TheVariants.{Less, Equal}
+use Rattle.std.specs.declared.cmp.Ordering.TheVariants.{Less}
 use Rattle.std.specs.Cmp.{tied_itself}
 use Rattle.std.specs.FinMap.{nat_cmp-IsAntisymmetric}
 use Rattle.std.specs.List.{AllByRecursion}
@@ -13,14 +13,14 @@ use Rattle.teal_value.specs.declared.value.Value.{Value}
 use Rattle.avm_ledger.specs.declared.application.Application.{Application}
 use Rattle.avm_ledger.specs.declared.application.StoredApplication.{StoredApplication}
 use Rattle.avm_ledger.specs.Entries.{Entries, byte_cmp, with_entry, without_entry, IsInKeyOrder}
-use Rattle.avm_ledger.specs.Ledgers.{Ledger, account_cmp, application_at, with_application, without_application, with_local_state, with_row, with_state, IsInOrder}
+use Rattle.avm_ledger.specs.Ledgers.{Ledger, application_at, with_application, without_application, with_local_state, with_row, with_state, IsInOrder}
 use Rattle.avm_ledger.proofs.Changes.{account_same, account_total, byte_same, byte_total}
-use Rattle.avm_ledger.proofs.Maps.{lookup-inserted_other, lookup-removed, lookup-removed_other, is_Equal, insert-insert, remove-insert, remove-insert_same}
+use Rattle.avm_ledger.proofs.Maps.{lookup-removed, is_Equal, insert-insert, remove-insert, remove-insert_same}
 use Rattle.avm_items.specs.declared.item.Item.{Item}
 use Rattle.avm_items.specs.declared.item.Item.TheVariants as item
 use Rattle.avm_items.specs.declared.item_value.ItemValue.{ItemValue}
 use Rattle.avm_items.specs.declared.item_value.ItemValue.TheVariants as value
-use Rattle.avm_items.specs.Items.{ItemMap, IsInItemOrder, item_cmp, sort_key}
+use Rattle.avm_items.specs.Items.{ItemMap, IsInItemOrder, item_cmp}
 use Rattle.avm_items.specs.LedgerItems.{put_one, put}
 use Rattle.avm_items.specs.Putting.{is_absent, set_one, set_all, absent_items, without_all}
 use Rattle.avm_items.proofs.PutBack.{changed, changed_there, changed_gone, changed_twice}
