@@ -104,7 +104,10 @@ fn items_are_put_and_taken_out(rt: HostRuntime) -> Result<(), Fail> {
     let mut items = ItemMap::new(alloc);
     items.insert(Item::Key(1, key("a")?), ItemValue::Key(Value::Uint(1)))?;
     items.insert(Item::Key(1, key("n")?), ItemValue::Absent)?;
-    items.insert(Item::Local(ZERO_ADDRESS, 1), ItemValue::Local(State::new(alloc)))?;
+    items.insert(
+        Item::Local(ZERO_ADDRESS, 1),
+        ItemValue::Local(State::new(alloc)),
+    )?;
     items.insert(Item::NextApp, ItemValue::NextApp(5))?;
     put_items(alloc, &mut ledger, items)?;
     assert_eq!(rt; uint_at(&ledger, 1, &key("a")?), Some(1));

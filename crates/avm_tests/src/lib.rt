@@ -8,8 +8,6 @@ mod commands;
 #[cfg(test)]
 mod ledgers;
 #[cfg(test)]
-mod objects;
-#[cfg(test)]
 mod runs;
 #[cfg(test)]
 mod small_sources;
