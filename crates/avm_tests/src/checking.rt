@@ -29,6 +29,15 @@ fn accepted(rt: HostRuntime) -> Result<(), Fail> {
         ("02200101222243", 4, 4),
         ("0220010122420000", 3, 3),
         ("0220010142000320010022", 4, 4),
+        ("02200101", 1, 1),
+        ("0220010332052212", 4, 4),
+        ("03200305070122234c094424", 7, 7),
+        ("0320010722220944", 5, 5),
+        ("03800180810053", 3, 3),
+        ("038102810153", 3, 3),
+        ("038102814053", 3, 3),
+        ("03200104224b0012", 4, 4),
+        ("03200104224b01", 3, 3),
     ];
     for (digits, count, cost) in programs {
         assert_eq!(rt; size_of(&rt, digits)?, (count, cost));
@@ -46,8 +55,22 @@ fn refused(rt: HostRuntime) -> Result<(), Fail> {
         place: 1,
         fault: CodeFault::Truncated,
     };
+    let bad_version = CheckFault::Code {
+        place: 0,
+        fault: CodeFault::BadVaruint,
+    };
+    let bad_count = CheckFault::Code {
+        place: 1,
+        fault: CodeFault::BadVaruint,
+    };
     let programs = [
         ("", CheckFault::Length),
+        ("80808080808080808002", bad_version),
+        ("022080808080808080808002", bad_count),
+        ("0220", truncated),
+        ("022001", truncated),
+        ("0220ffffffffffffffffff01", truncated),
+        ("022601ffffffffffffffffff01", truncated),
         ("0122", CheckFault::Version),
         ("0422", CheckFault::Version),
         ("0202", CheckFault::OutOfProfile { place: 1 }),
