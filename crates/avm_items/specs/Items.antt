@@ -1,5 +1,5 @@
 -- Items in order, finite maps from items to values, and what their values say.
-use Rattle.std.specs.Prelude.{ℕ, List, [], ◌∷◌, ◌++◌, Option, Some, None}
+use Rattle.std.specs.Prelude.{ℕ, ◌==◌, Bool, false, List, [], ◌∷◌, ◌++◌, Option, Some, None}
 use Rattle.std.specs.declared.cmp.Ordering.{Ordering}
 use Rattle.std.specs.List.Sorted.{IsStrictlySortedBy}
 use Rattle.std.specs.Map.{lookup, keys_of}
@@ -62,6 +62,12 @@ or_else None other = other
 -- what is known where the writes come before what was read
 abbrev pub over : Known → Known → Known
 over writes reads x = or_else (writes x) (reads x)
+
+-- the counts and the keys of an application's global state
+abbrev pub is_global_of : ℕ → Item → Bool
+is_global_of id (item.Counts app) = app == id
+is_global_of id (item.Key app key) = app == id
+is_global_of id _ = false
 
 -- ---- what a value says of an item of its kind; any other says nothing
 

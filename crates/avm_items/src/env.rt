@@ -57,6 +57,26 @@ impl Env {
         }
     }
 
+    /// What a call knows that has read and written these items. It takes no memory.
+    pub fn from_items(
+        call: Arc<CallData>,
+        header: Header,
+        current: u64,
+        reads: ItemMap,
+        writes: ItemMap,
+    ) -> Env
+        ensures { result ≡ record { call = arc_value call; header = header; current = current; reads = reads; writes = writes } }
+    {
+        Env {
+            call,
+            header,
+            current,
+            reads,
+            writes,
+            absent: ItemValue::Absent,
+        }
+    }
+
     /// The fields of the call.
     pub fn call(&self) -> &CallData
         ensures { result.now ≡ self.now.call }

@@ -1,14 +1,18 @@
 //! Maps from items to their values.
 
-ghost use Rattle.std.specs.Prelude.{◌≡◌, [], IfErr, IfOk, length};
+ghost use Rattle.std.specs.Prelude.{◌≡◌, [], IfErr, IfOk, filter, length, not};
 ghost use Rattle.std.specs.Map.Iter.{GivesInOrder};
 ghost use Rattle.std.specs.Option.{option_copied};
 ghost use Rattle.avm_items.specs.declared.item.Item.{Item as ItemOf};
 ghost use Rattle.avm_items.specs.declared.item_value.ItemValue.{ItemValue as ValueOf};
-ghost use Rattle.avm_items.specs.Items.{IsInItemOrder, value_in, with_item};
+ghost use Rattle.avm_items.specs.Items.{IsInItemOrder, is_global_of, value_in, with_item};
+ghost use Rattle.avm_items.specs.LedgerItems.{at, pruned, value_before};
+ghost use Rattle.avm_items.specs.SameValues.{is_same_value};
 
 use crate::item::Item;
 use crate::item_value::ItemValue;
+use crate::ledger_items::is_value_in;
+use avm_ledger::Ledger;
 use std::alloc::{AllocError, Global};
 use std::collections::BTreeMap;
 use std::collections::btree_map::IntoIter;
@@ -59,6 +63,39 @@ impl ItemMap {
         ensures order { IsInItemOrder self }
     {
         self.values.into_iter()
+    }
+
+    /// Takes the items out whose values are those of before; what has no value in `before` was absent.
+    pub fn prune(&mut self, before: &ItemMap)
+        ensures { self.new ≡ pruned (value_before (value_in before.now)) self.old }
+    {
+        self.values
+            .retain(|item, value| !before.is_before(item, value));
+    }
+
+    /// Whether an item had this value; one without a value here was absent.
+    fn is_before(&self, item: &Item, value: &ItemValue) -> bool
+        ensures { result ≡ is_same_value (value_before (value_in self.now) item.now) value.now }
+    {
+        match self.get(item) {
+            Some(before) => before.is_same(value),
+            None => value.is_same(&ItemValue::Absent),
+        }
+    }
+
+    /// Takes the items out whose values are those of a ledger.
+    pub fn prune_by(&mut self, ledger: &Ledger)
+        ensures { self.new ≡ pruned (at ledger.now) self.old }
+    {
+        self.values
+            .retain(|item, value| !is_value_in(ledger, item, value));
+    }
+
+    /// Takes the counts and the keys of an application's global state out.
+    pub fn remove_global_state(&mut self, id: u64)
+        ensures { self.new ≡ filter (λ e. not (is_global_of id e.0)) self.old }
+    {
+        self.values.retain(|item, _value| !item.is_global_of(id));
     }
 
     /// Gives an item a value, in place of the one that it may have had.

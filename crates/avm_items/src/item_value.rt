@@ -20,14 +20,14 @@ pub enum ItemValue {
 }
 
 /// Whether two schemas are the same.
-fn is_same_schema(schema: Schema, other: Schema) -> bool
+pub(crate) fn is_same_schema(schema: Schema, other: Schema) -> bool
     ensures { result ≡ is_same_schema schema other }
 {
     schema.uints == other.uints && schema.bytes == other.bytes
 }
 
 /// Whether two applications are the same.
-fn is_same_application(app: &Application, other: &Application) -> bool
+pub(crate) fn is_same_application(app: &Application, other: &Application) -> bool
     ensures { result ≡ is_same_application app.now other.now }
 {
     app.creator.0 == other.creator.0

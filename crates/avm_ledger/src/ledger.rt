@@ -10,12 +10,13 @@ use crate::application::{Application, StoredApplication};
 use crate::ids_end::IdsEnd;
 use crate::schema::Schema;
 use crate::state::State;
+use crate::stored_program::StoredProgram;
 use std::alloc::{AllocError, Global};
 use std::collections::BTreeMap;
 use std::marker::Model;
 use std::mem;
 use teal_check::Program;
-use teal_value::{Address, ByteString, Failure, StateKey, Value};
+use teal_value::{Address, Failure, StateKey, Value};
 
 /// A ledger: applications with their global states, the local states of accounts, and the id of the next application.
 /// What it finds it finds in logarithmic time.
@@ -75,8 +76,8 @@ impl Ledger {
         }
         let row = Application {
             creator,
-            approval: ByteString::from_slice(alloc, approval.bytes())?,
-            clear: ByteString::from_slice(alloc, clear.bytes())?,
+            approval: StoredProgram::new(approval.clone()?),
+            clear: StoredProgram::new(clear.clone()?),
             global_schema,
             local_schema,
         };

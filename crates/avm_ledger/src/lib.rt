@@ -12,6 +12,7 @@ mod ledger_fault;
 pub mod reading_laws;
 mod schema;
 mod state;
+mod stored_program;
 
 pub use application::{Application, StoredApplication};
 pub use header::{Header, Profile};
@@ -20,3 +21,4 @@ pub use ledger::Ledger;
 pub use ledger_fault::{LedgerError, LedgerFault};
 pub use schema::Schema;
 pub use state::State;
+pub use stored_program::StoredProgram;
