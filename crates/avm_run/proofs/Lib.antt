@@ -1,0 +1,10 @@
+mod Follow
+mod Placings
+mod Blocks
+mod Stepping
+mod Halting
+mod Standings
+mod Beginnings
+mod Supplying
+mod Outcomes
+mod Alive
