@@ -8,3 +8,4 @@ mod Beginnings
 mod Supplying
 mod Outcomes
 mod Alive
+mod Leading

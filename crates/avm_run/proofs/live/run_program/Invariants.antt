@@ -4,7 +4,8 @@ use Rattle.avm_run.proofs.live.run_program.Given as goal
 
 abbrev pub invariant-loop-running : goal.invariant-loop-running
 invariant-loop-running g l = record {
-  begun : BeginsRun l.call l.header l.initial.running.value.env.reads l.running.value;
+  same_call : l.call ≡ l.initial.call;
+  begun : BeginsRun l.initial.call l.header l.initial.running.value.env.reads l.running.value;
 }
 
 abbrev pub decreases-loop-running : goal.decreases-loop-running
