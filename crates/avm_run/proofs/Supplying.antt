@@ -14,7 +14,7 @@ use Rattle.avm_items.specs.declared.item_value.ItemValue.{ItemValue}
 use Rattle.avm_items.specs.Items.{Known, Look, ItemMap, item_cmp, value_in, with_item}
 use Rattle.avm_items.specs.Asks.{answer_from, remaining_questions}
 use Rattle.avm_items.specs.Counting.{AsksAtMost, Any}
-use Rattle.avm_items.specs.Locality.{Extends}
+use Rattle.avm_items.specs.Locality.{Agrees, Extends}
 use Rattle.avm_items.proofs.Counting.{at_most-more, one_less, asks_some}
 use Rattle.avm_items.proofs.Puts.{item_total, item_same}
 use Rattle.avm_items.proofs.Questions.{question_with_more}
@@ -84,3 +84,13 @@ fewer call header reads x v comes few asks =
 
 pub longer_by_one : (call : CallData) (header : Header) (reads : ItemMap) (x : Item) (v : ItemValue) → answer_from (value_in reads) (call_result call header) ≡ Err x → length (with_item reads x v) ≡ length reads + 1
 longer_by_one call header reads x v asks = one_longer reads x v (not_supplied (value_in reads) call header x asks)
+
+-- ---- over a ledger
+
+pub agrees_after : (items : ItemMap) (x : Item) (v : ItemValue) (look : Look) → look x ≡ v → Agrees (value_in items) look → Agrees (value_in (with_item items x v)) look
+agrees_after items x v look is old = record {
+  at = λ y u e.
+      same_or_other x y
+      (λ same. let found : Some v ≡ Some u = sym (is_there items x v) ∙ ap (value_in (with_item items x v)) (sym same) ∙ e in let value : v ≡ u = cc in ap look same ∙ is ∙ value)
+      (λ other. old.at y u (sym (lookup-inserted_other item_total y x v items other) ∙ e));
+}

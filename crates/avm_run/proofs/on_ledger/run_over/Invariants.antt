@@ -7,10 +7,10 @@ use Rattle.avm_run.proofs.on_ledger.run_over.Given as goal
 
 abbrev pub invariant-loop-asking : goal.invariant-loop-asking
 invariant-loop-asking g l = record {
-  same_call : l.live.call ≡ l.call.now;
-  same_header : l.live.header ≡ l.header.now;
+  same_call : l.live.call ≡ l.call;
+  same_header : l.live.header ≡ l.header;
   alive : IsAlive l.live;
-  agrees : Agrees (value_in (reads_of l.live.phase)) (at l.ledger.now);
+  agrees : Agrees (value_in (reads_of l.live.phase)) (at l.ledger);
 }
 
 abbrev pub decreases-loop-asking : goal.decreases-loop-asking
