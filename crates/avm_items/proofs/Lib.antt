@@ -7,3 +7,4 @@ pub mod Passes
 pub mod CallBack
 pub mod CallSpelled
 pub mod RulesKept
+pub mod InPlace

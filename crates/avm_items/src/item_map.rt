@@ -1,11 +1,12 @@
 //! Maps from items to their values.
 
-ghost use Rattle.std.specs.Prelude.{◌≡◌, [], IfErr, IfOk, filter, length, not};
+ghost use Rattle.std.specs.Prelude.{◌≡◌, [], IfErr, IfOk, filter, is_some, length, not};
 ghost use Rattle.std.specs.Map.Iter.{GivesInOrder};
 ghost use Rattle.std.specs.Option.{option_copied};
 ghost use Rattle.avm_items.specs.declared.item.Item.{Item as ItemOf};
 ghost use Rattle.avm_items.specs.declared.item_value.ItemValue.{ItemValue as ValueOf};
-ghost use Rattle.avm_items.specs.Items.{IsInItemOrder, is_global_of, value_in, with_item};
+ghost use Rattle.avm_ledger.specs.Entries.{with_entry, without_entry};
+ghost use Rattle.avm_items.specs.Items.{IsInItemOrder, is_global_of, state_of, value_in, with_item, with_state_changed};
 ghost use Rattle.avm_items.specs.LedgerItems.{at, pruned, value_before};
 ghost use Rattle.avm_items.specs.SameValues.{is_same_value};
 
@@ -17,6 +18,7 @@ use std::alloc::{AllocError, Global};
 use std::collections::BTreeMap;
 use std::collections::btree_map::IntoIter;
 use std::marker::Model;
+use teal_value::{StateKey, Value};
 
 /// The values of some items, which contracts see as the list of them by rising item.
 #[derive(Drop)]
@@ -54,6 +56,13 @@ impl ItemMap {
         ensures { option_copied result ≡ value_in self.now item.now }
     {
         self.values.get(item)
+    }
+
+    /// Whether an item has a local state here.
+    pub fn has_state(&self, item: &Item) -> bool
+        ensures { result ≡ is_some (state_of (value_in self.now item.now)) }
+    {
+        matches!(self.values.get(item), Some(ItemValue::Local(_)))
     }
 
     /// The items with their values, by rising item, without a copy.
@@ -105,5 +114,27 @@ impl ItemMap {
     {
         self.values.insert(item, value)?;
         Ok(())
+    }
+
+    /// Gives a key of the local state that an item has here a value, in place. Where it has none, nothing changes. Only a
+    /// new key can be refused, as by [`avm_ledger::State::insert`].
+    pub fn put_entry(&mut self, item: &Item, key: StateKey, value: Value) -> Result<(), AllocError>
+        ensures ok { IfOk result (λ _. self.new ≡ with_state_changed (λ state. with_entry state key value) self.old item.now (value_in self.old item.now)) }
+        ensures memory { IfErr result (λ _. self.new ≡ self.old) }
+    {
+        let Some(found) = self.values.get_mut(item) else {
+            return Ok(());
+        };
+        found.put_entry(key, value)
+    }
+
+    /// Takes a key out of the local state that an item has here, in place. Where it has none, nothing changes.
+    pub fn remove_entry(&mut self, item: &Item, key: &StateKey)
+        ensures { self.new ≡ with_state_changed (λ state. without_entry state key.now) self.old item.now (value_in self.old item.now) }
+    {
+        let Some(found) = self.values.get_mut(item) else {
+            return;
+        };
+        found.remove_entry(key);
     }
 }
