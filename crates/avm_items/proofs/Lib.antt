@@ -7,3 +7,5 @@ pub mod Passes
 pub mod CallBack
 pub mod CallSpelled
 pub mod RulesKept
+pub mod CallRead
+pub mod Appending
