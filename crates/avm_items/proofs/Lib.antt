@@ -8,3 +8,5 @@ pub mod CallBack
 pub mod CallSpelled
 pub mod RulesKept
 pub mod InPlace
+pub mod CallRead
+pub mod Appending

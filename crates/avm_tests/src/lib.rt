@@ -6,6 +6,8 @@ mod checking;
 #[cfg(test)]
 mod commands;
 #[cfg(test)]
+mod ledger_bytes;
+#[cfg(test)]
 mod ledgers;
 #[cfg(test)]
 mod runs;
