@@ -1,5 +1,5 @@
 -- Questions over a ledger: what holds of each item that is asked for, and of the result.
-use Rattle.std.proofs.Common.{◌≡◌, List, [], ◌∷◌, Option, None, Some, refl, sym, ap, ◌∙◌, subst}
+use Rattle.std.proofs.Common.{◌≡◌, Option, None, Some, refl, subst}
 use Rattle.std.specs.Prelude.{unwrap_or, All}
 use Rattle.std.proofs.lemmas.List.Elements.{All-nil, All-cons}
 use Rattle.avm_items.specs.declared.item.Item.{Item}
@@ -44,3 +44,7 @@ along-remaining l m known Q S P has leads (Asks x k) h =
 pub along-both : {A : Type 0} (look : Look) (Q S : Item → Type 0) (P R : A → Type 0) (t : Ask A) → Along look Q P t → Along look S R t → Along look Q (λ a. P a × R a) t
 along-both look Q S P R (Gives a) h g = (h, g)
 along-both look Q S P R (Asks x k) h g = (h.0, along-both look Q S P R (k (look x)) h.1 g.1)
+
+pub along-any : {A : Type 0} (look : Look) (P : A → Type 0) → ((a : A) → P a) → (t : Ask A) → Along look (λ x. Unit {0}) P t
+along-any look P h (Gives a) = h a
+along-any look P h (Asks x k) = (tt, along-any look P h (k (look x)))

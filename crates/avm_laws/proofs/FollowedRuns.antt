@@ -1,22 +1,20 @@
 -- The writes of a run, step by step, with the ledger that has them.
-use Rattle.std.proofs.Common.{◌≡◌, ℕ, zero, suc, ◌+◌, Bool, true, false, List, [], ◌∷◌, length, if◌then◌else◌, Option, None, Some, Result, Ok, Err, refl, sym, ap, ◌∙◌, subst}
+use Rattle.std.proofs.Common.{◌≡◌, ℕ, zero, suc, ◌+◌, Bool, true, false, length, if◌then◌else◌, Option, None, Some, Result, Ok, Err, refl, sym, ◌∙◌, subst}
 use Rattle.std.specs.Prelude.{◌==◌, is_none, unwrap_or}
-use Rattle.teal_value.specs.declared.address.Address.{Address}
-use Rattle.teal_value.specs.declared.value.Value.{Value}
 use Rattle.teal_code.specs.declared.decode.CodeFault.{CodeFault}
 use Rattle.teal_code.specs.declared.instr.Instr.{Instr}
 use Rattle.avm_ledger.specs.declared.application.Application.{Application}
 use Rattle.avm_ledger.specs.declared.application.StoredApplication.{StoredApplication}
-use Rattle.avm_ledger.specs.Entries.{Entries, with_entry, without_entry}
+use Rattle.avm_ledger.specs.Entries.{with_entry, without_entry}
 use Rattle.avm_ledger.specs.Ledgers.{Ledger, application_at}
 use Rattle.avm_items.specs.declared.item.Item.{Item}
 use Rattle.avm_items.specs.declared.item.Item.TheVariants as item
 use Rattle.avm_items.specs.declared.item_value.ItemValue.{ItemValue}
 use Rattle.avm_items.specs.declared.item_value.ItemValue.TheVariants as value
 use Rattle.avm_items.specs.CallFields.{new_keys}
-use Rattle.avm_items.specs.Items.{ItemMap, Known, value_in, or_else, over, key_value}
-use Rattle.avm_items.specs.LedgerItems.{at, put_one, row_value, is_of_gone}
-use Rattle.avm_items.specs.Asks.{Ask, Gives, and_then, remaining_questions}
+use Rattle.avm_items.specs.Items.{ItemMap, Known, value_in, or_else, over}
+use Rattle.avm_items.specs.LedgerItems.{at, put_one, row_value}
+use Rattle.avm_items.specs.Asks.{Gives, remaining_questions}
 use Rattle.avm_items.proofs.Puts.{keeps_others}
 use Rattle.avm_ops.specs.Frame.{Context, After, Stepped}
 use Rattle.avm_ops.specs.Effect.{effect}

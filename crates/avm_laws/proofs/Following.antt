@@ -1,25 +1,18 @@
 -- A call's own writes over a ledger, and the ledger that has them: what each put does to both.
-use Rattle.std.proofs.Common.{◌≡◌, ℕ, ◌==◌, Bool, true, false, List, [], ◌∷◌, Option, None, Some, refl, sym, ap, ◌∙◌, subst, cond}
+use Rattle.std.proofs.Common.{◌≡◌, ℕ, ◌==◌, Bool, true, false, List, Option, None, Some, refl, sym, ap, ◌∙◌, subst, cond}
 use Rattle.std.specs.Prelude.{is_none, unwrap_or}
-use Rattle.std.specs.Ordering.{is_eq, nat_cmp}
-use Rattle.std.specs.declared.cmp.Ordering.TheVariants.{Equal}
-use Rattle.std.specs.declared.cmp.Ordering.{Ordering}
-use Rattle.std.specs.Cmp.{IsTotalOrder}
-use Rattle.std.specs.FinMap.{nat_cmp-IsAntisymmetric}
-use Rattle.std.specs.Map.{lookup}
-use Rattle.std.specs.BTreeMap.{is_at}
+use Rattle.std.specs.Ordering.{is_eq}
 use Rattle.std.proofs.lemmas.Bool.{eqb-true}
-use Rattle.std.proofs.lemmas.Cmp.{nat_cmp_total}
 use Rattle.teal_value.specs.declared.value.Value.{Value}
 use Rattle.avm_ledger.specs.declared.application.Application.{Application}
 use Rattle.avm_ledger.specs.declared.application.StoredApplication.{StoredApplication}
 use Rattle.avm_ledger.specs.declared.schema.Schema.{Schema}
 use Rattle.avm_ledger.specs.Entries.{Entries, value_of_key, with_entry, without_entry, IsInKeyOrder}
 use Rattle.avm_ledger.specs.Schemas.{counts_in, no_entries, keeps_kind, counts_after}
-use Rattle.avm_ledger.specs.Ledgers.{Ledger, application_at, with_application, with_row, with_state, IsInOrder}
-use Rattle.avm_ledger.proofs.Changes.{byte_same, set_application}
+use Rattle.avm_ledger.specs.Ledgers.{Ledger, application_at, with_row, with_state, IsInOrder}
+use Rattle.avm_ledger.proofs.Changes.{set_application}
 use Rattle.avm_ledger.proofs.Counts.{follow_puts, follow_deletes, stay_with_kind}
-use Rattle.avm_ledger.proofs.Maps.{is_Equal, lookup-inserted, lookup-inserted_other, sorted-inserted}
+use Rattle.avm_ledger.proofs.Maps.{lookup-inserted, lookup-inserted_other, sorted-inserted}
 use Rattle.avm_items.specs.declared.item.Item.{Item}
 use Rattle.avm_items.specs.declared.item.Item.TheVariants as item
 use Rattle.avm_items.specs.declared.item_value.ItemValue.{ItemValue}
@@ -27,7 +20,7 @@ use Rattle.avm_items.specs.declared.item_value.ItemValue.TheVariants as value
 use Rattle.avm_items.specs.Items.{ItemMap, Known, IsInItemOrder, item_cmp, sort_key, value_in, with_item, or_else, over, entry_in, key_value}
 use Rattle.avm_items.specs.Items as items
 use Rattle.avm_items.specs.LedgerItems.{at, put_one, row_value, counts_value, entry_value, is_of_gone}
-use Rattle.avm_items.specs.PutLaws.{MaySet, MayPut, changes_with, is_counts, deletes}
+use Rattle.avm_items.specs.PutLaws.{MaySet, MayPut, is_counts, deletes}
 use Rattle.avm_items.proofs.Puts.{stays_in_order, keeps_others}
 use Rattle.teal_value.specs.declared.address.Address.{Address}
 use Rattle.std.proofs.Common.{eq-eqb}
@@ -58,7 +51,7 @@ has_by true v u o = refl
 has_by false v u o = refl
 
 -- an item other than counts, after one is put of which no key goes
-has_put : (l m : Ledger) (w : ItemMap) (x : Item) (v : ItemValue) (y : Item) → IsInOrder m → MayPut m x v → is_counts y ≡ false → deletes x v y ≡ false → Has l w m y → Has l (with_item w x v) (put_one m x v) y
+pub has_put : (l m : Ledger) (w : ItemMap) (x : Item) (v : ItemValue) (y : Item) → IsInOrder m → MayPut m x v → is_counts y ≡ false → deletes x v y ≡ false → Has l w m y → Has l (with_item w x v) (put_one m x v) y
 has_put l m w x v y o may c d has =
     one_put m (x, v) y o may c d
     ∙ ap (unwrap_or (cond (is_eq (item_cmp y x)) (Some v) None)) has
@@ -66,7 +59,7 @@ has_put l m w x v y o may c d has =
     ∙ ap (λ f. unwrap_or f (at l y)) (sym (value_with w x v y))
 
 -- counts that a put leaves, of which it is none
-counts_put : (l m : Ledger) (w : ItemMap) (x : Item) (v : ItemValue) (id : ℕ) → is_counts x ≡ false → at (put_one m x v) (item.Counts id) ≡ at m (item.Counts id) → Has l w m (item.Counts id)
+pub counts_put : (l m : Ledger) (w : ItemMap) (x : Item) (v : ItemValue) (id : ℕ) → is_counts x ≡ false → at (put_one m x v) (item.Counts id) ≡ at m (item.Counts id) → Has l w m (item.Counts id)
     → Has l (with_item w x v) (put_one m x v) (item.Counts id)
 counts_put l m w x v id c same has =
     same ∙ has ∙ ap (λ f. unwrap_or f (at l (item.Counts id))) (sym (apart_value w x v (item.Counts id) (no_counts x c)))
@@ -149,7 +142,7 @@ same_none None (Some b) e = absurd cc
 same_none (Some a) None e = absurd cc
 same_none (Some a) (Some b) e = refl
 
-same_counts : (a b : Option StoredApplication) → counts_value a ≡ counts_value b → is_none a ≡ is_none b
+pub same_counts : (a b : Option StoredApplication) → counts_value a ≡ counts_value b → is_none a ≡ is_none b
 same_counts None None e = refl
 same_counts None (Some b) e = absurd cc
 same_counts (Some a) None e = absurd cc

@@ -3,3 +3,7 @@ pub mod Along
 pub mod WrittenItems
 pub mod Following
 pub mod FollowedRuns
+pub mod FollowedCalls
+pub mod Pruned
+pub mod KeptOrder
+pub mod CallChanges

@@ -23,12 +23,11 @@ use Rattle.avm_ledger.specs.Schemas.{no_entries, counts_in, is_within, keeps_kin
 use Rattle.avm_ledger.specs.Ledgers.{Ledger, application_at}
 use Rattle.avm_items.specs.declared.item.Item.{Item}
 use Rattle.avm_items.specs.declared.item.Item.TheVariants as item
-use Rattle.avm_items.specs.declared.item_value.ItemValue.{ItemValue}
 use Rattle.avm_items.specs.declared.item_value.ItemValue.TheVariants as value
 use Rattle.avm_items.specs.Items.{ItemMap, with_item, application_in, entry_in, local_state_in}
 use Rattle.avm_items.specs.Items as items
 use Rattle.avm_items.specs.LedgerItems.{at, row_value, is_of_gone}
-use Rattle.avm_items.specs.Asks.{Ask, Gives, and_then}
+use Rattle.avm_items.specs.Asks.{Gives, and_then}
 use Rattle.avm_items.specs.Acts.{Act, on_ok, found, test, reads, done}
 use Rattle.avm_items.specs.CallFields.{account}
 use Rattle.avm_cpu.specs.Operands.{bytes_and_value, uint_and_bytes, uint_bytes_and_value, one_bytes}
@@ -36,7 +35,7 @@ use Rattle.avm_ops.specs.Frame.{Context, After, Stepped, pushes, pushes_pair, ne
 use Rattle.avm_ops.specs.Immediates.{index_of, field_of, uint_of, bytes_of}
 use Rattle.avm_ops.specs.Stack.{target_of}
 use Rattle.avm_ops.specs.Fields.{global_at}
-use Rattle.avm_ops.specs.States.{value_length, foreign_of, foreign_application, global_entry, may_put, global_put_over, global_delete_of, schema_in, key_written, counts_written, leaves, local_limit, the_account, the_local_state, application, or_zero}
+use Rattle.avm_ops.specs.States.{value_length, foreign_of, global_entry, may_put, global_put_over, global_delete_of, schema_in, key_written, counts_written, leaves, local_limit, the_account, the_local_state, application, or_zero}
 use Rattle.avm_ops.specs.Effect.{effect}
 use Rattle.avm_laws.proofs.Along.{Along, along-each}
 

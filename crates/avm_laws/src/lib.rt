@@ -2,4 +2,5 @@
 //! that ledgers keep their rules. Each is the contract of a function without work, over the definitions of `avm_call`.
 #![tactic(auto)]
 
+pub mod call_laws;
 pub mod ledger_laws;
