@@ -48,3 +48,7 @@ along-both look Q S P R (Asks x k) h g = (h.0, along-both look Q S P R (k (look 
 pub along-any : {A : Type 0} (look : Look) (P : A → Type 0) → ((a : A) → P a) → (t : Ask A) → Along look (λ x. Unit {0}) P t
 along-any look P h (Gives a) = h a
 along-any look P h (Asks x k) = (tt, along-any look P h (k (look x)))
+
+pub along-free : {A : Type 0} (look : Look) (Q : Item → Type 0) (P R : A → Type 0) (t : Ask A) → ((a : A) → P a → R a) → Along look Q P t → Along look (λ x. Unit {0}) R t
+along-free look Q P R (Gives a) f h = f a h
+along-free look Q P R (Asks x k) f h = (tt, along-free look Q P R (k (look x)) f h.1)

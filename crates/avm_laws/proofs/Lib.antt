@@ -7,3 +7,9 @@ pub mod FollowedCalls
 pub mod Pruned
 pub mod KeptOrder
 pub mod CallChanges
+pub mod MachineValues
+pub mod Digests
+pub mod FittingRows
+pub mod ProgramValues
+pub mod SoundPuts
+pub mod KeptRules

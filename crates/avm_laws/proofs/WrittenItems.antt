@@ -91,7 +91,7 @@ then_ok : {A : Type 0} (R : After → Type 0) (r : Result A Fault) (f : A → St
 then_ok R (Ok a) f h = h a
 then_ok R (Err e) f h = tt
 
-either : (R : After → Type 0) (b : Bool) (x y : Stepped) → OnOk R x → OnOk R y → OnOk R (if b then x else y)
+pub either : (R : After → Type 0) (b : Bool) (x y : Stepped) → OnOk R x → OnOk R y → OnOk R (if b then x else y)
 either R true x y h g = h
 either R false x y h g = g
 
@@ -111,23 +111,23 @@ then_act : {A : Type 0} (m : Ledger) (R : After → Type 0) (r : Result A Fault)
 then_act m R (Ok a) f h = h a
 then_act m R (Err e) f h = tt
 
-then_act_is : {A : Type 0} (m : Ledger) (R : After → Type 0) (r : Result A Fault) (f : A → Act Fault After) → ((a : A) → r ≡ Ok a → Row m R (f a)) → Row m R (on_ok f r)
+pub then_act_is : {A : Type 0} (m : Ledger) (R : After → Type 0) (r : Result A Fault) (f : A → Act Fault After) → ((a : A) → r ≡ Ok a → Row m R (f a)) → Row m R (on_ok f r)
 then_act_is m R (Ok a) f h = h a refl
 then_act_is m R (Err e) f h = tt
 
-then_found : {A : Type 0} (m : Ledger) (R : After → Type 0) (o : Option A) (e : Fault) (f : A → Act Fault After) → ((a : A) → Row m R (f a)) → Row m R (and_then (found o e) (on_ok f))
+pub then_found : {A : Type 0} (m : Ledger) (R : After → Type 0) (o : Option A) (e : Fault) (f : A → Act Fault After) → ((a : A) → Row m R (f a)) → Row m R (and_then (found o e) (on_ok f))
 then_found m R None e f h = tt
 then_found m R (Some a) e f h = h a
 
-then_found_is : {A : Type 0} (m : Ledger) (R : After → Type 0) (o : Option A) (e : Fault) (f : A → Act Fault After) → ((a : A) → o ≡ Some a → Row m R (f a)) → Row m R (and_then (found o e) (on_ok f))
+pub then_found_is : {A : Type 0} (m : Ledger) (R : After → Type 0) (o : Option A) (e : Fault) (f : A → Act Fault After) → ((a : A) → o ≡ Some a → Row m R (f a)) → Row m R (and_then (found o e) (on_ok f))
 then_found_is m R None e f h = tt
 then_found_is m R (Some a) e f h = h a refl
 
-then_test : (m : Ledger) (R : After → Type 0) (b : Bool) (e : Fault) (f : Unit {0} → Act Fault After) → (b ≡ true → Row m R (f tt)) → Row m R (and_then (test b e) (on_ok f))
+pub then_test : (m : Ledger) (R : After → Type 0) (b : Bool) (e : Fault) (f : Unit {0} → Act Fault After) → (b ≡ true → Row m R (f tt)) → Row m R (and_then (test b e) (on_ok f))
 then_test m R true e f h = h refl
 then_test m R false e f h = tt
 
-entry_by : (m : Ledger) (R : After → Type 0) (id : ℕ) (key : List ℕ) (f : Option Value → Act Fault After) → is_none (application_at m id) ≡ false → (b : Bool) → (b ≡ true → Row m R (f (old_entry m id key))) → (b ≡ false → Row m R (f None))
+pub entry_by : (m : Ledger) (R : After → Type 0) (id : ℕ) (key : List ℕ) (f : Option Value → Act Fault After) → is_none (application_at m id) ≡ false → (b : Bool) → (b ≡ true → Row m R (f (old_entry m id key))) → (b ≡ false → Row m R (f None))
     → Row m R (and_then (if b then reads entry_in (item.Key id key) else Gives (Ok None)) (on_ok f))
 entry_by m R id key f stands true h g = (stands, h refl)
 entry_by m R id key f stands false h g = g refl
@@ -135,7 +135,7 @@ entry_by m R id key f stands false h g = g refl
 entry_read : (m : Ledger) (R : After → Type 0) (id : ℕ) (key : List ℕ) (f : Option Value → Act Fault After) → is_none (application_at m id) ≡ false → ((v : Option Value) → Row m R (f v)) → Row m R (and_then (global_entry id key) (on_ok f))
 entry_read m R id key f stands h = entry_by m R id key f stands (nat_le (length key) 64) (λ _. h (old_entry m id key)) (λ _. h None)
 
-stands_if_row : (m : Ledger) (id : ℕ) (a : Option StoredApplication) → is_some (application_in (row_value a)) ≡ true → is_none a ≡ false
+pub stands_if_row : (m : Ledger) (id : ℕ) (a : Option StoredApplication) → is_some (application_in (row_value a)) ≡ true → is_none a ≡ false
 stands_if_row m id None e = absurd cc
 stands_if_row m id (Some app) e = refl
 
@@ -152,7 +152,7 @@ global_reads m c (Some global.Round) = pushed c _
 global_reads m c (Some global.LatestTimestamp) = pushed c _
 global_reads m c (Some global.CurrentApplicationId) = pushed c _
 
-foreign_by : (m : Ledger) (R : After → Type 0) (f : ℕ → Act Fault After) → ((id : ℕ) → Row m R (f id)) → (r : Result ℕ Fault) → Row m R (on_ok f r)
+pub foreign_by : (m : Ledger) (R : After → Type 0) (f : ℕ → Act Fault After) → ((id : ℕ) → Row m R (f id)) → (r : Result ℕ Fault) → Row m R (on_ok f r)
 foreign_by m R f h (Ok id) = h id
 foreign_by m R f h (Err e) = tt
 
@@ -191,7 +191,7 @@ third_on_top (b ∷ Uint k ∷ []) a e = absurd cc
 third_on_top (b ∷ []) a e = absurd cc
 third_on_top [] a e = absurd cc
 
-may_put_by : (m : Ledger) (R : After → Type 0) (f : Unit {0} → Act Fault After) → (b d : Bool) → (b ≡ true → d ≡ true → Row m R (f tt))
+pub may_put_by : (m : Ledger) (R : After → Type 0) (f : Unit {0} → Act Fault After) → (b d : Bool) → (b ≡ true → d ≡ true → Row m R (f tt))
     → Row m R (and_then (and_then (test b fault.KeyLength) (on_ok (λ _. test d fault.TooLong))) (on_ok f))
 may_put_by m R f true true h = h refl refl
 may_put_by m R f true false h = tt

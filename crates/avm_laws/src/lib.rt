@@ -4,3 +4,4 @@
 
 pub mod call_laws;
 pub mod ledger_laws;
+pub mod rule_laws;
