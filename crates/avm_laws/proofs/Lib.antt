@@ -13,3 +13,4 @@ pub mod FittingRows
 pub mod ProgramValues
 pub mod SoundPuts
 pub mod KeptRules
+pub mod AnyOrder
