@@ -26,7 +26,7 @@ use Rattle.avm_ops.specs.Frame.{Stepped}
 use Rattle.avm_ops.specs.Effect.{effect}
 use Rattle.avm_call.specs.Runs.{Execution, Position, context_at, position_after}
 use Rattle.avm_call.specs.Calls.{Target, created, updated, sender_item, admitted, program_of, execution}
-use Rattle.avm_call.specs.Replay.{ledger_after}
+use Rattle.avm_call.specs.Replay.{ledger_after, replayed}
 use Rattle.avm_laws.specs.Calls.{written_after}
 use Rattle.avm_laws.specs.Rules.{AreBytes, IsMachineValue, AreMachineValues, IsRowOfBytes, MayCall, IsSound}
 use Rattle.avm_laws.proofs.Along.{along-free}
@@ -200,3 +200,8 @@ pub writes_keep_the_rules : (l : Ledger) (call : CallData) (header : Header) (t 
 writes_keep_the_rules l call header t row steps s may is row_is =
     let o = written_over l call header t row steps IsSound SoundAt (sound_kept call header may) s.rules s is row_is in
     subst IsSound (sym (put_followed (new_keys call t.id) l (written_after l call header t row steps) o.ledger s.rules o.follows)) o.keeps.0
+
+pub replays_keep_the_rules : (l : Ledger) (header : Header) (calls : List CallData) → IsSound l → All (λ call. MayCall call header) calls → IsSound (replayed l header calls)
+replays_keep_the_rules l header [] s may = s
+replays_keep_the_rules l header (call ∷ calls) s may =
+    replays_keep_the_rules (ledger_after l call header) header calls (every_call_keeps_the_rules l call header s (All-head (λ c. MayCall c header) call calls may)) (All-tail (λ c. MayCall c header) call calls may)

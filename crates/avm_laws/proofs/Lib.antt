@@ -14,3 +14,4 @@ pub mod ProgramValues
 pub mod SoundPuts
 pub mod KeptRules
 pub mod AnyOrder
+pub mod SoundReading

@@ -21,11 +21,11 @@ use Rattle.avm_laws.specs.Rules.{AreBytes, IsMachineValue}
 use Rattle.avm_laws.proofs.MachineValues.{IsWord}
 use Rattle.avm_laws.proofs.FittingRows.{FitsImmediates}
 
-front_all : {A : Type 0} (P : A → Type 0) (xs ys : List A) → All P (xs ++ ys) → All P xs
+pub front_all : {A : Type 0} (P : A → Type 0) (xs ys : List A) → All P (xs ++ ys) → All P xs
 front_all P [] ys all = All-nil P
 front_all P (x ∷ xs) ys all = All-cons P x xs (All-head P x (xs ++ ys) all) (front_all P xs ys (All-tail P x (xs ++ ys) all))
 
-rest_all : {A : Type 0} (P : A → Type 0) (xs ys : List A) → All P (xs ++ ys) → All P ys
+pub rest_all : {A : Type 0} (P : A → Type 0) (xs ys : List A) → All P (xs ++ ys) → All P ys
 rest_all P [] ys all = all
 rest_all P (x ∷ xs) ys all = rest_all P xs ys (All-tail P x (xs ++ ys) all)
 

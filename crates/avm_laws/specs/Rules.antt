@@ -6,17 +6,19 @@ use Rattle.avm_ledger.specs.declared.application.Application.{Application}
 use Rattle.avm_ledger.specs.declared.application.StoredApplication.{StoredApplication}
 use Rattle.avm_ledger.specs.declared.header.Header.{Header}
 use Rattle.avm_ledger.specs.Entries.{Entries}
-use Rattle.avm_ledger.specs.Ledgers.{Ledger}
+use Rattle.avm_ledger.specs.Ledgers.{Ledger, empty_ledger}
+use Rattle.avm_ledger.specs.LedgerReader.{ledger_at}
 use Rattle.avm_ledger.specs.LedgerRules.{KeepsRules}
 use Rattle.avm_items.specs.declared.call_data.Completion.TheVariants as completion
 use Rattle.avm_items.specs.declared.call_data.CallData.{CallData}
 use Rattle.avm_items.specs.CallFields.{creates}
+use Rattle.avm_items.specs.CallReader.{call_front}
 use Rattle.avm_items.specs.CallReading.{HasFields}
 use Rattle.avm_items.specs.LedgerItems.{at, put}
 use Rattle.avm_items.specs.Asks.{result_over}
 use Rattle.avm_call.specs.Calls.{Target, admitted}
 use Rattle.avm_call.specs.Ends.{is_program}
-use Rattle.avm_call.specs.Replay.{ledger_after}
+use Rattle.avm_call.specs.Replay.{ledger_after, replayed}
 use Rattle.avm_laws.specs.Calls.{written_after}
 
 -- ---- the numbers that lists and values hold are those of their types
@@ -96,3 +98,21 @@ WritesKeepTheRules =
 -- Every call keeps the rules, whatever its outcome.
 abbrev pub EveryCallKeepsTheRules : Type 0
 EveryCallKeepsTheRules = (l : Ledger) (call : CallData) (header : Header) → IsSound l → MayCall call header → IsSound (ledger_after l call header)
+
+-- So does every list of calls, one after another.
+abbrev pub ReplaysKeepTheRules : Type 0
+ReplaysKeepTheRules = (l : Ledger) (header : Header) (calls : List CallData) → IsSound l → All (λ call. MayCall call header) calls → IsSound (replayed l header calls)
+
+-- ---- where calls and ledgers come from
+
+-- The ledger without applications keeps the rules,
+abbrev pub EmptyIsSound : Type 0
+EmptyIsSound = IsSound empty_ledger
+
+-- and so does every ledger that is read from bytes.
+abbrev pub ReadLedgersAreSound : Type 0
+ReadLedgersAreSound = (bytes : List ℕ) (l : Ledger) → AreBytes bytes → ledger_at bytes ≡ Ok l → IsSound l
+
+-- A call that is read from bytes is of bytes.
+abbrev pub ReadCallsAreOfBytes : Type 0
+ReadCallsAreOfBytes = (bytes : List ℕ) (c : CallData) (rest : List ℕ) → AreBytes bytes → call_front bytes ≡ Ok (c, rest) → IsCallOfBytes c
