@@ -11,11 +11,12 @@ use crate::ledger_fault::{LedgerError, LedgerFault};
 use crate::schema::Schema;
 use crate::state::State;
 use crate::state_reading::state_of;
+use crate::stored_program::StoredProgram;
 use std::alloc::Global;
 use std::cmp::Ordering;
 use std::collections::BTreeMap;
 use teal_check::check;
-use teal_value::{Address, ByteString, Failure};
+use teal_value::{Address, Failure};
 
 /// The most entries that a global schema may allow.
 const MAX_GLOBAL_ENTRIES: u16 = 64;

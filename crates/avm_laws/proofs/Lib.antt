@@ -1,0 +1,17 @@
+pub mod Given
+pub mod Along
+pub mod WrittenItems
+pub mod Following
+pub mod FollowedRuns
+pub mod FollowedCalls
+pub mod Pruned
+pub mod KeptOrder
+pub mod CallChanges
+pub mod MachineValues
+pub mod Digests
+pub mod FittingRows
+pub mod ProgramValues
+pub mod SoundPuts
+pub mod KeptRules
+pub mod AnyOrder
+pub mod SoundReading

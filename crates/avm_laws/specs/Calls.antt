@@ -1,0 +1,38 @@
+-- What calls write, ask for and change, over ledgers that keep the rules. The statements of the laws.
+use Rattle.std.specs.Prelude.{◌≡◌, ℕ, false, Some, Ok, All, unwrap_or}
+use Rattle.avm_ledger.specs.declared.application.Application.{Application}
+use Rattle.avm_ledger.specs.declared.header.Header.{Header}
+use Rattle.avm_ledger.specs.Ledgers.{Ledger}
+use Rattle.avm_ledger.specs.LedgerRules.{KeepsRules}
+use Rattle.avm_items.specs.declared.call_data.CallData.{CallData}
+use Rattle.avm_items.specs.declared.item.Item.{Item}
+use Rattle.avm_items.specs.Items.{ItemMap, value_in}
+use Rattle.avm_items.specs.LedgerItems.{at, put, is_of_gone, AreChanges}
+use Rattle.avm_items.specs.Asks.{result_over, items_asked}
+use Rattle.avm_call.specs.Runs.{path}
+use Rattle.avm_call.specs.Calls.{Target, admitted, prepared, execution, call_result}
+use Rattle.avm_call.specs.Replay.{changes_on, ledger_after}
+
+-- what a call has written after so many steps of its program, over a ledger
+abbrev pub written_after : Ledger → CallData → Header → Target → Application → ℕ → ItemMap
+written_after l call header t row steps = (result_over (at l) (path (execution call header t.id row) (prepared call t.id) steps)).0.writes
+
+-- The ledger with a run's own writes has the value of each item that was written, and of any other the value of before. The
+-- counts are among them, although a put sets keys alone: those that are written are the counts of the keys.
+abbrev pub HasWhatWasWritten : Type 0
+HasWhatWasWritten =
+    (l : Ledger) (call : CallData) (header : Header) (t : Target) (row : Application) (steps : ℕ) → KeepsRules l → result_over (at l) (admitted call) ≡ Ok t → t.row ≡ Some row
+    → let w = written_after l call header t row steps in (x : Item) → at (put l w) x ≡ unwrap_or (value_in w x) (at l x)
+
+-- A call asks for no key and no counts of an application that is gone.
+abbrev pub AsksForNoneGone : Type 0
+AsksForNoneGone = (l : Ledger) (call : CallData) (header : Header) → KeepsRules l → All (λ x. is_of_gone l x ≡ false) (items_asked (at l) (call_result call header))
+
+-- What a call hands on, its writes without those that change nothing, are the changes from the ledger before it to the
+-- ledger after it,
+abbrev pub HandsOnItsChanges : Type 0
+HandsOnItsChanges = (l : Ledger) (call : CallData) (header : Header) → KeepsRules l → AreChanges l (ledger_after l call header) (changes_on l call header)
+
+-- which is the ledger with all its writes.
+abbrev pub LosesNoWrite : Type 0
+LosesNoWrite = (l : Ledger) (call : CallData) (header : Header) → KeepsRules l → ledger_after l call header ≡ put l (result_over (at l) (call_result call header)).1

@@ -1,0 +1,19 @@
+//! What calls write, ask for and change.
+
+ghost use Rattle.avm_laws.specs.Calls.{HasWhatWasWritten, AsksForNoneGone, HandsOnItsChanges, LosesNoWrite};
+
+/// At each step of a call's program the ledger with its own writes has what was written, the counts with the keys.
+pub fn writes_are_items()
+    ensures { HasWhatWasWritten }
+{}
+
+/// No call asks for a key or the counts of an application that is gone.
+pub fn none_gone_is_asked_for()
+    ensures { AsksForNoneGone }
+{}
+
+/// A call hands on exactly what it changes.
+pub fn changes_are_handed_on()
+    ensures changes { HandsOnItsChanges }
+    ensures all { LosesNoWrite }
+{}

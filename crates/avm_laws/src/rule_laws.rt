@@ -1,0 +1,26 @@
+//! That calls keep the rules of ledgers.
+
+ghost use Rattle.avm_laws.specs.Rules.{EmptyIsSound, EveryCallKeepsTheRules, ReadCallsAreOfBytes, ReadLedgersAreSound, ReplaysKeepTheRules, WritesKeepTheRules};
+
+/// At each step of a call's program the ledger with its own writes keeps the rules: values are within 64 bits and 64 bytes,
+/// and states within their schemas.
+pub fn writes_keep_the_rules()
+    ensures { WritesKeepTheRules }
+{}
+
+/// Every call keeps the rules: a creation, an opt-in, a clearing of state, and any other, approved or not.
+pub fn every_call_keeps_the_rules()
+    ensures call { EveryCallKeepsTheRules }
+    ensures calls { ReplaysKeepTheRules }
+{}
+
+/// The first ledger keeps the rules, and so do ledgers that are read.
+pub fn ledgers_begin_sound()
+    ensures empty { EmptyIsSound }
+    ensures read { ReadLedgersAreSound }
+{}
+
+/// Calls that are read are of bytes.
+pub fn calls_are_of_bytes()
+    ensures { ReadCallsAreOfBytes }
+{}
