@@ -8,6 +8,8 @@ mod commands;
 #[cfg(test)]
 mod ledgers;
 #[cfg(test)]
+mod objects;
+#[cfg(test)]
 mod runs;
 #[cfg(test)]
 mod small_sources;
@@ -15,3 +17,5 @@ mod small_sources;
 mod sources;
 #[cfg(test)]
 mod streams;
+#[cfg(test)]
+mod texts;
