@@ -10,6 +10,8 @@ mod ledger_bytes;
 #[cfg(test)]
 mod ledgers;
 #[cfg(test)]
+mod objects;
+#[cfg(test)]
 mod runs;
 #[cfg(test)]
 mod small_sources;
@@ -17,3 +19,5 @@ mod small_sources;
 mod sources;
 #[cfg(test)]
 mod streams;
+#[cfg(test)]
+mod texts;
