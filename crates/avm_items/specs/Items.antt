@@ -63,13 +63,12 @@ or_else None other = other
 abbrev pub over : Known → Known → Known
 over writes reads x = or_else (writes x) (reads x)
 
-<<<<<<< HEAD
 -- the counts and the keys of an application's global state
 abbrev pub is_global_of : ℕ → Item → Bool
 is_global_of id (item.Counts app) = app == id
 is_global_of id (item.Key app key) = app == id
 is_global_of id _ = false
-=======
+
 -- a value whose local state is changed; any other stays
 abbrev pub with_state : (Entries → Entries) → ItemValue → ItemValue
 with_state change (value.Local state) = value.Local (change state)
@@ -79,7 +78,6 @@ with_state change v = v
 abbrev pub with_state_changed : (Entries → Entries) → ItemMap → Item → Option ItemValue → ItemMap
 with_state_changed change items x (Some v) = with_item items x (with_state change v)
 with_state_changed change items x None = items
->>>>>>> objects5
 
 -- ---- what a value says of an item of its kind; any other says nothing
 

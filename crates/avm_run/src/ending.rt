@@ -60,6 +60,16 @@ pub(crate) fn cleared(
     })
 }
 
+/// An outcome that changes nothing.
+fn without_writes(alloc: Global, outcome: Outcome) -> Ending
+    ensures { (result.outcome, result.writes) ≡ (outcome, []) }
+{
+    Ending {
+        outcome,
+        writes: ItemMap::new(alloc),
+    }
+}
+
 /// How a call ends whose program ended so, having written these items.
 pub(crate) fn end_call(
     alloc: Global,
@@ -77,23 +87,11 @@ pub(crate) fn end_call(
             outcome: Outcome::Approved,
             writes: completed(call, id, row, writes)?,
         }),
-        Ended::Rejected => {
-            if clears {
-                return cleared(alloc, call, id, Cause::Rejected);
-            }
-            Ok(Ending {
-                outcome: Outcome::Rejected,
-                writes: ItemMap::new(alloc),
-            })
+        Ended::Rejected if clears => cleared(alloc, call, id, Cause::Rejected),
+        Ended::Rejected => Ok(without_writes(alloc, Outcome::Rejected)),
+        Ended::Faulted(fault, place) if clears => {
+            cleared(alloc, call, id, Cause::Faulted(fault, place))
         }
-        Ended::Faulted(fault, place) => {
-            if clears {
-                return cleared(alloc, call, id, Cause::Faulted(fault, place));
-            }
-            Ok(Ending {
-                outcome: Outcome::Faulted(fault, place),
-                writes: ItemMap::new(alloc),
-            })
-        }
+        Ended::Faulted(fault, place) => Ok(without_writes(alloc, Outcome::Faulted(fault, place))),
     }
 }

@@ -2,6 +2,8 @@
 #![tactic(auto)]
 
 #[cfg(test)]
+mod calls;
+#[cfg(test)]
 mod checking;
 #[cfg(test)]
 mod commands;
@@ -11,8 +13,6 @@ mod ledger_bytes;
 mod ledgers;
 #[cfg(test)]
 mod objects;
-#[cfg(test)]
-mod runs;
 #[cfg(test)]
 mod small_sources;
 #[cfg(test)]

@@ -3,6 +3,7 @@
 ghost use Rattle.std.specs.Prelude.{◌≡◌, IfOk};
 ghost use Rattle.avm_ops.specs.Objects.{IsFull, IsReady};
 
+use crate::calls;
 use avm_arith::{Binary, Bits, Comparison, Equality, Joined, OfBytes, Unary, Wide};
 use avm_cpu::{Cpu, Flow};
 use avm_flow_ops::{Block, Branch, Bytec, Intc, Literal, Scratch, Stack, Stops};
@@ -411,5 +412,6 @@ fn instructions_run_through_a_full_set(rt: HostRuntime) -> Result<(), Fail> {
     assert!(rt; bits_and_bytes_run(alloc, &ops)?);
     assert!(rt; literals_and_depths_run(alloc, &ops)?);
     assert!(rt; limits_are_kept(alloc, &ops)?);
+    assert_eq!(rt; calls::first_wrong(alloc, &ops)?, None);
     Ok(())
 }
