@@ -116,7 +116,7 @@ rest_by e es x v below true same =
     ap (λ found. unwrap_or found e.1) (below_none item_total x es (above_tied item_total x e.0 (keys_of es) (is_Equal (item_cmp x e.0) same) below))
 rest_by e es x v below false apart = refl
 
-found_itself : (e : Item × ItemValue) (es : ItemMap) → value_in (e ∷ es) e.0 ≡ Some e.1
+pub found_itself : (e : Item × ItemValue) (es : ItemMap) → value_in (e ∷ es) e.0 ≡ Some e.1
 found_itself e es = ap (λ r. cond (is_eq r) (Some e.1) (value_in es e.0)) (tied_itself item_total e.0)
 
 -- ---- what remains to be put into a ledger, so that it becomes another

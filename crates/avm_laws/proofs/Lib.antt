@@ -15,3 +15,7 @@ pub mod SoundPuts
 pub mod KeptRules
 pub mod AnyOrder
 pub mod SoundReading
+pub mod QuietRows
+pub mod Accounted
+pub mod AccountedCalls
+pub mod ReadCalls
