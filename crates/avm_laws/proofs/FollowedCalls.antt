@@ -43,6 +43,7 @@ use Rattle.avm_laws.proofs.Along.{Along, along-then}
 use Rattle.avm_laws.proofs.WrittenItems.{IsThere}
 use Rattle.avm_laws.proofs.Following.{Has, Follows, same_counts, value_with, has_put, counts_put, follows_local, follows_next, follows_create, follows_row}
 use Rattle.avm_laws.proofs.FollowedRuns.{Over, StepsKeep, result_stands, row_stands}
+use Rattle.avm_laws.proofs.Tests.{not_true}
 
 -- ---- what a call leaves
 
@@ -287,10 +288,6 @@ OnTarget P (Err w) = Unit {0}
 then_test : {A : Type 0} (l : Ledger) (P : Result A Why → Type 0) (b : Bool) (w : Why) (f : Unit {0} → Act Why A) → (b ≡ true → Along (at l) (IsThere l) P (f tt)) → P (Err w) → Along (at l) (IsThere l) P (and_then (test b w) (on_ok f))
 then_test l P true w f h g = h refl
 then_test l P false w f h g = g
-
-pub not_true : (b : Bool) → not b ≡ true → b ≡ false
-not_true true e = absurd cc
-not_true false e = refl
 
 target_by : (l : Ledger) (call : CallData) (b : Bool) → Along (at l) (IsThere l) (OnTarget (IsTarget l call b)) (elim b [ true ↦ new_target call | false ↦ called_target call ])
 target_by l call true =

@@ -30,7 +30,7 @@ item_total = on_total sort_key nat_list_cmp_total
 
 -- ---- items that tie are the same
 
-heads : {x y : ℕ} {xs ys : List ℕ} → x ∷ xs ≡ y ∷ ys → (x ≡ y) × (xs ≡ ys)
+pub heads : {x y : ℕ} {xs ys : List ℕ} → x ∷ xs ≡ y ∷ ys → (x ≡ y) × (xs ≡ ys)
 heads e = (cc, cc)
 
 last_too : (xs ys : List ℕ) (a b : ℕ) → xs ++ a ∷ [] ≡ ys ++ b ∷ [] → (xs ≡ ys) × (a ≡ b)
@@ -170,7 +170,7 @@ may_first l m (item.Local who id) v es g =
     by_state None = tt
     by_state (Some state) = tt
 
-gone_row : (a : Option StoredApplication) → row_value a ≡ value.Absent → is_none a ≡ true
+pub gone_row : (a : Option StoredApplication) → row_value a ≡ value.Absent → is_none a ≡ true
 gone_row None e = refl
 gone_row (Some app) e = absurd cc
 

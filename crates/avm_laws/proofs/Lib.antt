@@ -1,3 +1,4 @@
+pub mod Tests
 pub mod Given
 pub mod Along
 pub mod WrittenItems
@@ -19,3 +20,4 @@ pub mod QuietRows
 pub mod Accounted
 pub mod AccountedCalls
 pub mod ReadCalls
+pub mod Apart
