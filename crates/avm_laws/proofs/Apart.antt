@@ -1,12 +1,20 @@
--- That no spelling of an outcome, or of a header, begins another.
-use Rattle.std.proofs.Common.{◌≡◌, ℕ, ◌^◌, ◌<◌, if◌then◌else◌, List, [], ◌∷◌, ◌++◌, length, refl, sym, ap, ◌∙◌, arith}
-use Rattle.std.specs.Prelude.{◌==◌}
+-- That no spelling of an outcome, a header, a value, a state or a schema begins another of its kind.
+use Rattle.std.proofs.Common.{◌≡◌, ℕ, ◌%◌, ◌^◌, ◌<◌, ◌≤◌, if◌then◌else◌, List, [], ◌∷◌, ◌++◌, length, refl, sym, ap, ◌∙◌, append_assoc, arith}
+use Rattle.std.specs.Prelude.{◌==◌, All}
+use Rattle.std.specs.List.{flat_map}
+use Rattle.std.proofs.Math.Nat.{mod-eq_of_lt}
+use Rattle.std.proofs.lemmas.List.Elements.{All-head, All-tail}
+use Rattle.teal_value.specs.declared.value.Value.{Value}
+use Rattle.teal_value.specs.declared.value.Value.TheVariants.{Uint, Bytes}
 use Rattle.std.specs.Int.{w16, w64, from_be_bytes}
 use Rattle.std.proofs.lemmas.Nat.{from_be_bytes-to_be_bytes_2, from_be_bytes-to_be_bytes_8}
 use Rattle.teal_value.specs.declared.fault.Fault.{Fault}
 use Rattle.teal_value.specs.declared.fault.Fault.TheVariants as fault
 use Rattle.avm_ledger.specs.declared.header.Header.{Header}
-use Rattle.avm_ledger.specs.Spellings.{u16_bytes, u64_bytes, header_bytes}
+use Rattle.avm_ledger.specs.declared.schema.Schema.{Schema}
+use Rattle.avm_ledger.specs.Entries.{Entries}
+use Rattle.avm_ledger.specs.LedgerRules.{IsStateValue, IsStateEntry}
+use Rattle.avm_ledger.specs.Spellings.{u16_bytes, u64_bytes, short_string_bytes, value_bytes, entry_bytes, state_bytes, schema_bytes, header_bytes}
 use Rattle.avm_call.specs.declared.outcome.Why.{Why}
 use Rattle.avm_call.specs.declared.outcome.Why.TheVariants as why
 use Rattle.avm_call.specs.declared.outcome.Cause.TheVariants as cause
@@ -14,7 +22,7 @@ use Rattle.avm_call.specs.declared.outcome.Outcome.{Outcome}
 use Rattle.avm_call.specs.declared.outcome.Outcome.TheVariants as outcome
 use Rattle.avm_call.specs.OutcomeSpelling.{fault_number, why_number, outcome_bytes}
 use Rattle.avm_laws.specs.Rules.{HasWords}
-use Rattle.avm_laws.specs.Spellings.{HasPlace}
+use Rattle.avm_laws.specs.Spellings.{HasPlace, HasSmallNumbers}
 use Rattle.avm_laws.proofs.Given.{heads}
 
 -- ---- parts of one length
@@ -185,3 +193,50 @@ headers_apart h k x y p q profile e =
     let min_balance = same_word h.min_balance k.min_balance p.min_balance q.min_balance balance.1 in
     let max_life = same_word h.max_life k.max_life p.max_life q.max_life life.1 in
     ((λ i. record { profile = profile i; round = round i; latest_timestamp = timestamp i; min_fee = min_fee i; min_balance = min_balance i; max_life = max_life i }), all.1)
+
+-- ---- values, states and schemas
+
+same_byte : (a b : ℕ) → a < 256 → b < 256 → a % 256 ≡ b % 256 → a ≡ b
+same_byte a b p q e = sym (mod-eq_of_lt p) ∙ e ∙ mod-eq_of_lt q
+
+strings_apart : (s t x y : List ℕ) → length s ≤ 64 → length t ≤ 64 → short_string_bytes s ++ x ≡ short_string_bytes t ++ y → (s ≡ t) × (x ≡ y)
+strings_apart s t x y p q e =
+    let parts = heads e in
+    fronts s t x y (same_byte (length s) (length t) (omega (arith, p)) (omega (arith, q)) parts.0) parts.1
+
+pub values_apart : (v w : Value) (x y : List ℕ) → IsStateValue v → IsStateValue w → value_bytes v ++ x ≡ value_bytes w ++ y → (v ≡ w) × (x ≡ y)
+values_apart (Uint n) (Uint m) x y p q e =
+    let parts = fronts (u64_bytes n) (u64_bytes m) x y refl (heads e).1 in (ap Uint (same_word n m p q parts.0), parts.1)
+values_apart (Bytes s) (Bytes t) x y p q e = let parts = strings_apart s t x y p q (heads e).1 in (ap Bytes parts.0, parts.1)
+values_apart (Uint n) (Bytes t) x y p q e = absurd (omega (arith, (heads e).0))
+values_apart (Bytes s) (Uint m) x y p q e = absurd (omega (arith, (heads e).0))
+
+entry_apart : (d e : List ℕ × Value) (x y : List ℕ) → IsStateEntry d → IsStateEntry e → entry_bytes d ++ x ≡ entry_bytes e ++ y → (d ≡ e) × (x ≡ y)
+entry_apart d e x y p q same =
+    let keys = strings_apart d.0 e.0 (value_bytes d.1 ++ x) (value_bytes e.1 ++ y) p.0 q.0
+    (sym (append_assoc (short_string_bytes d.0) (value_bytes d.1) x) ∙ same ∙ append_assoc (short_string_bytes e.0) (value_bytes e.1) y) in
+    let values = values_apart d.1 e.1 x y p.1 q.1 keys.1 in
+    ((λ i. (keys.0 i, values.0 i)), values.1)
+
+entries_apart : (s t : Entries) (x y : List ℕ) → All IsStateEntry s → All IsStateEntry t → length s ≡ length t → flat_map entry_bytes s ++ x ≡ flat_map entry_bytes t ++ y → (s ≡ t) × (x ≡ y)
+entries_apart [] [] x y p q long e = (refl, e)
+entries_apart [] (d ∷ t) x y p q long e = absurd (omega (arith, long))
+entries_apart (c ∷ s) [] x y p q long e = absurd (omega (arith, long))
+entries_apart (c ∷ s) (d ∷ t) x y p q long e =
+    let one = entry_apart c d (flat_map entry_bytes s ++ x) (flat_map entry_bytes t ++ y) (All-head IsStateEntry c s p) (All-head IsStateEntry d t q)
+    (sym (append_assoc (entry_bytes c) (flat_map entry_bytes s) x) ∙ e ∙ append_assoc (entry_bytes d) (flat_map entry_bytes t) y) in
+    let rest = entries_apart s t x y (All-tail IsStateEntry c s p) (All-tail IsStateEntry d t q) (omega (arith, long)) one.1 in
+    ((λ i. one.0 i ∷ rest.0 i), rest.1)
+
+pub states_apart : (s t : Entries) (x y : List ℕ) → All IsStateEntry s → All IsStateEntry t → length s < 256 → length t < 256 → state_bytes s ++ x ≡ state_bytes t ++ y → (s ≡ t) × (x ≡ y)
+states_apart s t x y p q few less e =
+    let parts = heads e in
+    entries_apart s t x y p q (same_byte (length s) (length t) few less parts.0) parts.1
+
+pub schemas_apart : (s t : Schema) (x y : List ℕ) → HasSmallNumbers s → HasSmallNumbers t → schema_bytes s ++ x ≡ schema_bytes t ++ y → (s ≡ t) × (x ≡ y)
+schemas_apart s t x y p q e =
+    let first = heads e in
+    let second = heads first.1 in
+    let uints = same_byte s.uints t.uints p.uints q.uints first.0 in
+    let bytes = same_byte s.bytes t.bytes p.bytes q.bytes second.0 in
+    ((λ i. record { uints = uints i; bytes = bytes i }), second.1)
