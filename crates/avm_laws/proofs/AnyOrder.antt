@@ -1,23 +1,23 @@
 -- That the order in which items are put does not matter.
-use Rattle.std.proofs.Common.{◌≡◌, ℕ, Bool, true, false, List, [], ◌∷◌, Option, None, Some, refl, sym, ap, ◌∙◌, cond}
+use Rattle.std.proofs.Common.{◌≡◌, ℕ, Bool, true, false, List, [], ◌∷◌, None, Some, refl, sym, ap, ◌∙◌, cond}
 use Rattle.std.specs.Prelude.{◌||◌, is_none, unwrap_or}
 use Rattle.std.specs.Ordering.{is_eq}
 use Rattle.std.specs.List.{AllByRecursion}
 use Rattle.std.specs.Map.{keys_of}
 use Rattle.std.specs.Cmp.{tied_itself}
 use Rattle.std.proofs.lemmas.Bool.{eqb-true}
-use Rattle.avm_ledger.specs.declared.application.StoredApplication.{StoredApplication}
 use Rattle.avm_ledger.specs.Ledgers.{Ledger, application_at, IsInOrder}
 use Rattle.avm_items.specs.declared.item.Item.{Item}
 use Rattle.avm_items.specs.declared.item.Item.TheVariants as item
 use Rattle.avm_items.specs.declared.item_value.ItemValue.{ItemValue}
 use Rattle.avm_items.specs.declared.item_value.ItemValue.TheVariants as value
 use Rattle.avm_items.specs.Items.{item_cmp, value_in}
-use Rattle.avm_items.specs.LedgerItems.{at, put_one, put, row_value, is_of_gone}
+use Rattle.avm_items.specs.LedgerItems.{at, put_one, put, is_of_gone}
 use Rattle.avm_items.specs.PutLaws.{is_counts, deletes, is_deleted_by, MayPutAll}
 use Rattle.avm_items.proofs.Puts.{stays_in_order}
 use Rattle.avm_laws.specs.Ledgers.{AreDistinct}
-use Rattle.avm_laws.proofs.Given.{has_all, item_same, item_total, one_put}
+use Rattle.avm_laws.proofs.Given.{gone_row, has_all, item_same, item_total, one_put}
+use Rattle.avm_laws.proofs.Tests.{either_false}
 
 -- ---- an item that stands once
 
@@ -34,10 +34,6 @@ rest_by : (e : Item × ItemValue) (es : List (Item × ItemValue)) (x : Item) (v 
     → unwrap_or (value_in es x) (unwrap_or (cond b (Some e.1) None) v) ≡ unwrap_or (cond b (Some e.1) (value_in es x)) v
 rest_by e es x v d true tied = ap (λ found. unwrap_or found e.1) (once e es x d tied)
 rest_by e es x v d false apart = refl
-
-either_false : (a b : Bool) → (a || b) ≡ false → (a ≡ false) × (b ≡ false)
-either_false true b e = absurd cc
-either_false false b e = (refl, e)
 
 -- an item that no put takes away
 put_value : (l : Ledger) (items : List (Item × ItemValue)) (x : Item) → IsInOrder l → AreDistinct items → MayPutAll l items → is_counts x ≡ false → is_deleted_by items x ≡ false
@@ -91,10 +87,6 @@ never_row (e ∷ es) id = ap (λ b. b || is_deleted_by es (item.App id)) (no e.0
     no : (x : Item) (v : ItemValue) → deletes x v (item.App id) ≡ false
     no (item.App other) value.Absent = refl
     no x v = refl
-
-gone_row : (a : Option StoredApplication) → row_value a ≡ value.Absent → is_none a ≡ true
-gone_row None e = refl
-gone_row (Some app) e = absurd cc
 
 not_key : (items : List (Item × ItemValue)) (x : Item) → ((id : ℕ) (key : List ℕ) → x ≡ item.Key id key → ⊥) → is_deleted_by items x ≡ false
 not_key [] x n = refl

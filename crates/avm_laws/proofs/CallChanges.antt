@@ -8,7 +8,7 @@ use Rattle.avm_ledger.specs.LedgerRules.{KeepsRules}
 use Rattle.avm_items.specs.declared.call_data.CallData.{CallData}
 use Rattle.avm_items.specs.declared.item.Item.{Item}
 use Rattle.avm_items.specs.CallFields.{creates, new_keys}
-use Rattle.avm_items.specs.Items.{ItemMap, Known, value_in}
+use Rattle.avm_items.specs.Items.{ItemMap, IsInItemOrder, Known, value_in}
 use Rattle.avm_items.specs.LedgerItems.{at, put, is_of_gone, AreChanges, pruned}
 use Rattle.avm_items.specs.Asks.{result_over, items_asked}
 use Rattle.avm_ops.specs.Frame.{After, Stepped}
@@ -56,6 +56,9 @@ leaves l call header K Kp kept keeps here =
 
 pub after_is : (l : Ledger) (call : CallData) (header : Header) (K : Ledger → Type 0) → KeepsRules l → (left : Leaves l K (result_over (at l) (call_result call header)).1) → ledger_after l call header ≡ left.ledger
 after_is l call header K keeps left = put_pruned l K (result_over (at l) (call_result call header)).1 (rules_in_order l keeps) left
+
+pub sorted_writes : (l : Ledger) (call : CallData) (header : Header) → KeepsRules l → IsInItemOrder (result_over (at l) (call_result call header)).1
+sorted_writes l call header keeps = (leaves l call header Any AnyAt (all_kept call header) keeps tt).sorted
 
 -- ---- the laws
 

@@ -55,6 +55,7 @@ use Rattle.avm_laws.proofs.MachineValues.{OkOf, IsWord, get_fits, there_fits, ze
 use Rattle.avm_laws.proofs.Digests.{sha256_fits, sha512_256_fits}
 use Rattle.avm_laws.proofs.WrittenItems.{Row, OnOk, old_entry, old_counts, limit_of, either, then_test, then_found, then_found_is, entry_by, stands_if_row, foreign_by, may_put_by}
 use Rattle.avm_laws.proofs.KeptOrder.{application_rules}
+use Rattle.avm_laws.proofs.Tests.{both}
 
 -- ---- what a row is given, and what it leaves
 
@@ -161,10 +162,6 @@ branched m c f offset false = dropped m c f 1
 chosen : (v w : Value) → IsMachineValue v → IsMachineValue w → (b : Bool) → IsMachineValue (if b then v else w)
 chosen v w h g true = h
 chosen v w h g false = g
-
-both : (a b : Bool) → (a && b) ≡ true → (a ≡ true) × (b ≡ true)
-both true b e = (refl, e)
-both false b e = absurd cc
 
 below_fits : (depth : ℕ) (stack : List Value) → All IsMachineValue stack → OkOf IsMachineValue (value_below depth stack)
 below_fits depth stack all = by (slice_get stack depth) (get_fits IsMachineValue stack depth all)

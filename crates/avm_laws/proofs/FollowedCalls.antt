@@ -43,6 +43,7 @@ use Rattle.avm_laws.proofs.Along.{Along, along-then}
 use Rattle.avm_laws.proofs.WrittenItems.{IsThere}
 use Rattle.avm_laws.proofs.Following.{Has, Follows, same_counts, value_with, has_put, counts_put, follows_local, follows_next, follows_create, follows_row}
 use Rattle.avm_laws.proofs.FollowedRuns.{Over, StepsKeep, result_stands, row_stands}
+use Rattle.avm_laws.proofs.Tests.{not_true}
 
 -- ---- what a call leaves
 
@@ -91,7 +92,7 @@ state_left l call id K o keeps =
     (follows_local nothing_new l [] l call.sender id value.Absent (follows_nothing nothing_new l o (λ x v e. absurd cc)) tt) keeps
 
 -- what is known of keys without a look is so
-old_fresh : (l : Ledger) (call : CallData) (id : ℕ) → creates call ≡ false → (x : Item) (v : ItemValue) → new_keys call id x ≡ Some v → at l x ≡ v
+pub old_fresh : (l : Ledger) (call : CallData) (id : ℕ) → creates call ≡ false → (x : Item) (v : ItemValue) → new_keys call id x ≡ Some v → at l x ≡ v
 old_fresh l call id old item.NextApp v e = absurd cc
 old_fresh l call id old (item.App other) v e = absurd cc
 old_fresh l call id old (item.Counts other) v e = absurd cc
@@ -99,7 +100,7 @@ old_fresh l call id old (item.Key other key) v e =
     let none : None ≡ Some v = sym (ap (λ b. cond (b && (other == id)) (Some value.Absent) None) old) ∙ e in absurd cc
 old_fresh l call id old (item.Local who other) v e = absurd cc
 
-new_fresh : (l : Ledger) (call : CallData) (id : ℕ) → creates call ≡ true → application_at l id ≡ None → (x : Item) (v : ItemValue) → new_keys call id x ≡ Some v → at l x ≡ v
+pub new_fresh : (l : Ledger) (call : CallData) (id : ℕ) → creates call ≡ true → application_at l id ≡ None → (x : Item) (v : ItemValue) → new_keys call id x ≡ Some v → at l x ≡ v
 new_fresh l call id new none item.NextApp v e = absurd cc
 new_fresh l call id new none (item.App other) v e = absurd cc
 new_fresh l call id new none (item.Counts other) v e = absurd cc
@@ -146,6 +147,11 @@ creation_over call header l K Kp kept o keeps new none few =
 
 -- ---- after the program
 
+abbrev pub is_global_of : ℕ → Item → Bool
+is_global_of id (item.Counts app) = app == id
+is_global_of id (item.Key app key) = app == id
+is_global_of id _ = false
+
 below_by : {X : Type 0} (P : Item → Type 0) (e : Item × X) (es fs : List (Item × X)) → P e.0 → AllByRecursion P (keys_of fs) → (b : Bool) → AllByRecursion P (keys_of (cond b (e ∷ fs) fs))
 below_by P e es fs h g true = (h, g)
 below_by P e es fs h g false = g
@@ -165,7 +171,7 @@ sorted_filter p [] s = tt
 sorted_filter p (e ∷ es) s = sorted_by e (filter p es) (below_filter (λ y. item_cmp e.0 y ≡ Less) p es s.0) (sorted_filter p es s.1) (p e)
 
 -- the items that aren't filtered out
-kept_value : (id : ℕ) (w : ItemMap) (x : Item) → value_in (filter (λ e. not (is_global_of id e.0)) w) x ≡ cond (not (is_global_of id x)) (value_in w x) None
+pub kept_value : (id : ℕ) (w : ItemMap) (x : Item) → value_in (filter (λ e. not (is_global_of id e.0)) w) x ≡ cond (not (is_global_of id x)) (value_in w x) None
 kept_value id w x =
     lookup-filter-keys (is_at (item_cmp x)) (λ k. not (is_global_of id k)) (not (is_global_of id x)) (λ k tied. ap (λ y. not (is_global_of id y)) (sym (item_same x k tied))) w
 
@@ -203,7 +209,7 @@ gone_has l w m id o (item.Key other key) own has =
 gone_has l w m id o (item.Local who other) own has =
     has_put l m (filter (λ e. not (is_global_of id e.0)) w) (item.App id) value.Absent (item.Local who other) o tt refl refl (kept_has l w m id (item.Local who other) own has)
 
-kept_only : {A : Type 0} (b : Bool) (o : Option A) (v : A) → cond (not b) o None ≡ Some v → (b ≡ false) × (o ≡ Some v)
+pub kept_only : {A : Type 0} (b : Bool) (o : Option A) (v : A) → cond (not b) o None ≡ Some v → (b ≡ false) × (o ≡ Some v)
 kept_only true o v e = absurd cc
 kept_only false o v e = (refl, e)
 
@@ -282,10 +288,6 @@ OnTarget P (Err w) = Unit {0}
 then_test : {A : Type 0} (l : Ledger) (P : Result A Why → Type 0) (b : Bool) (w : Why) (f : Unit {0} → Act Why A) → (b ≡ true → Along (at l) (IsThere l) P (f tt)) → P (Err w) → Along (at l) (IsThere l) P (and_then (test b w) (on_ok f))
 then_test l P true w f h g = h refl
 then_test l P false w f h g = g
-
-not_true : (b : Bool) → not b ≡ true → b ≡ false
-not_true true e = absurd cc
-not_true false e = refl
 
 target_by : (l : Ledger) (call : CallData) (b : Bool) → Along (at l) (IsThere l) (OnTarget (IsTarget l call b)) (elim b [ true ↦ new_target call | false ↦ called_target call ])
 target_by l call true =

@@ -30,7 +30,7 @@ item_total = on_total sort_key nat_list_cmp_total
 
 -- ---- items that tie are the same
 
-heads : {x y : ℕ} {xs ys : List ℕ} → x ∷ xs ≡ y ∷ ys → (x ≡ y) × (xs ≡ ys)
+pub heads : {x y : ℕ} {xs ys : List ℕ} → x ∷ xs ≡ y ∷ ys → (x ≡ y) × (xs ≡ ys)
 heads e = (cc, cc)
 
 last_too : (xs ys : List ℕ) (a b : ℕ) → xs ++ a ∷ [] ≡ ys ++ b ∷ [] → (xs ≡ ys) × (a ≡ b)
@@ -116,7 +116,7 @@ rest_by e es x v below true same =
     ap (λ found. unwrap_or found e.1) (below_none item_total x es (above_tied item_total x e.0 (keys_of es) (is_Equal (item_cmp x e.0) same) below))
 rest_by e es x v below false apart = refl
 
-found_itself : (e : Item × ItemValue) (es : ItemMap) → value_in (e ∷ es) e.0 ≡ Some e.1
+pub found_itself : (e : Item × ItemValue) (es : ItemMap) → value_in (e ∷ es) e.0 ≡ Some e.1
 found_itself e es = ap (λ r. cond (is_eq r) (Some e.1) (value_in es e.0)) (tied_itself item_total e.0)
 
 -- ---- what remains to be put into a ledger, so that it becomes another
@@ -170,7 +170,7 @@ may_first l m (item.Local who id) v es g =
     by_state None = tt
     by_state (Some state) = tt
 
-gone_row : (a : Option StoredApplication) → row_value a ≡ value.Absent → is_none a ≡ true
+pub gone_row : (a : Option StoredApplication) → row_value a ≡ value.Absent → is_none a ≡ true
 gone_row None e = refl
 gone_row (Some app) e = absurd cc
 

@@ -1,3 +1,4 @@
+pub mod Tests
 pub mod Given
 pub mod Along
 pub mod WrittenItems
@@ -15,3 +16,8 @@ pub mod SoundPuts
 pub mod KeptRules
 pub mod AnyOrder
 pub mod SoundReading
+pub mod QuietRows
+pub mod Accounted
+pub mod AccountedCalls
+pub mod ReadCalls
+pub mod Apart

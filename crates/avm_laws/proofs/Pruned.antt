@@ -26,12 +26,9 @@ use Rattle.avm_items.specs.SameValues.{is_same_schema, is_same_application, is_s
 use Rattle.avm_items.specs.LedgerItems.{at, put, AreChanges, pruned}
 use Rattle.avm_laws.proofs.Given.{item_same, item_total, put_gives, puts_changes}
 use Rattle.avm_laws.proofs.FollowedCalls.{Leaves, sorted_filter}
+use Rattle.avm_laws.proofs.Tests.{both}
 
 -- ---- the test of two values answers true exactly where they are equal
-
-both : (a b : Bool) → (a && b) ≡ true → (a ≡ true) × (b ≡ true)
-both true b e = (refl, e)
-both false b e = absurd cc
 
 same_schema : (s t : Schema) → is_same_schema s t ≡ true → s ≡ t
 same_schema s t e =

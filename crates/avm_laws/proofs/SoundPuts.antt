@@ -41,6 +41,7 @@ use Rattle.avm_laws.proofs.Following.{the_application, entry_there, counts_there
 use Rattle.avm_laws.proofs.FollowedRuns.{led}
 use Rattle.avm_laws.proofs.FittingRows.{Fits, stored_fits, local_fits}
 use Rattle.avm_laws.proofs.KeptOrder.{application_rules}
+use Rattle.avm_laws.proofs.Tests.{both}
 
 -- ---- all entries, after an insertion and a removal
 
@@ -109,10 +110,6 @@ length_counts : (es : Entries) → length es ≡ (counts_in es).uints + (counts_
 length_counts [] = refl
 length_counts ((k, Uint n) ∷ es) = omega (arith, length_counts es)
 length_counts ((k, Bytes s) ∷ es) = omega (arith, length_counts es)
-
-both : (a b : Bool) → (a && b) ≡ true → (a ≡ true) × (b ≡ true)
-both true b e = (refl, e)
-both false b e = absurd cc
 
 state_within : (limit : Schema) (state : Entries) → IsStrictlySortedBy byte_cmp (keys_of state) → All IsStateEntry state → is_within (counts_in state) limit ≡ true → IsStateIn (room_of_schema limit) state
 state_within limit state rising entries room =

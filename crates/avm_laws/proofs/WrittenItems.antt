@@ -82,12 +82,12 @@ IsThere m x = is_of_gone m x ≡ false
 abbrev pub Row : Ledger → (After → Type 0) → Act Fault After → Type 0
 Row m R t = Along (at m) (IsThere m) (OnOk R) t
 
-abbrev Same : Context → After → Type 0
+abbrev pub Same : Context → After → Type 0
 Same c after = after.writes ≡ c.writes
 
 -- ---- rows without questions
 
-then_ok : {A : Type 0} (R : After → Type 0) (r : Result A Fault) (f : A → Stepped) → ((a : A) → OnOk R (f a)) → OnOk R (r >>= f)
+pub then_ok : {A : Type 0} (R : After → Type 0) (r : Result A Fault) (f : A → Stepped) → ((a : A) → OnOk R (f a)) → OnOk R (r >>= f)
 then_ok R (Ok a) f h = h a
 then_ok R (Err e) f h = tt
 
@@ -95,13 +95,13 @@ pub either : (R : After → Type 0) (b : Bool) (x y : Stepped) → OnOk R x → 
 either R true x y h g = h
 either R false x y h g = g
 
-pushed : (c : Context) (v : Value) → OnOk (Same c) (pushes c v)
+pub pushed : (c : Context) (v : Value) → OnOk (Same c) (pushes c v)
 pushed c v = either (Same c) (nat_lt (length c.machine.stack) 1000) _ _ refl tt
 
-pushed_pair : (c : Context) (v top : Value) → OnOk (Same c) (pushes_pair c v top)
+pub pushed_pair : (c : Context) (v top : Value) → OnOk (Same c) (pushes_pair c v top)
 pushed_pair c v top = either (Same c) (nat_le (length c.machine.stack + 2) 1000) _ _ refl tt
 
-branch_if : (c : Context) (offset : ℕ) (b : Bool) → OnOk (Same c) (Ok (if b then record (next_with_stack c (drop 1 c.machine.stack)) { flow = target_of c offset } else next_with_stack c (drop 1 c.machine.stack)))
+pub branch_if : (c : Context) (offset : ℕ) (b : Bool) → OnOk (Same c) (Ok (if b then record (next_with_stack c (drop 1 c.machine.stack)) { flow = target_of c offset } else next_with_stack c (drop 1 c.machine.stack)))
 branch_if c offset true = refl
 branch_if c offset false = refl
 

@@ -1,16 +1,18 @@
 -- What calls write, ask for and change, over ledgers that keep the rules. The statements of the laws.
 use Rattle.std.specs.Prelude.{◌≡◌, ℕ, false, Some, Ok, All, unwrap_or}
+use Rattle.std.specs.List.{Contains}
 use Rattle.avm_ledger.specs.declared.application.Application.{Application}
 use Rattle.avm_ledger.specs.declared.header.Header.{Header}
 use Rattle.avm_ledger.specs.Ledgers.{Ledger}
 use Rattle.avm_ledger.specs.LedgerRules.{KeepsRules}
 use Rattle.avm_items.specs.declared.call_data.CallData.{CallData}
 use Rattle.avm_items.specs.declared.item.Item.{Item}
+use Rattle.avm_items.specs.declared.item_value.ItemValue.{ItemValue}
 use Rattle.avm_items.specs.Items.{ItemMap, value_in}
-use Rattle.avm_items.specs.LedgerItems.{at, put, is_of_gone, AreChanges}
-use Rattle.avm_items.specs.Asks.{result_over, items_asked}
+use Rattle.avm_items.specs.LedgerItems.{at, put, is_of_gone, AgreesWithReads, AreChanges, pruned, value_before}
+use Rattle.avm_items.specs.Asks.{result_over, items_asked, answer_from}
 use Rattle.avm_call.specs.Runs.{path}
-use Rattle.avm_call.specs.Calls.{Target, admitted, prepared, execution, call_result}
+use Rattle.avm_call.specs.Calls.{CallResult, Target, admitted, prepared, execution, call_result}
 use Rattle.avm_call.specs.Replay.{changes_on, ledger_after}
 
 -- what a call has written after so many steps of its program, over a ledger
@@ -36,3 +38,22 @@ HandsOnItsChanges = (l : Ledger) (call : CallData) (header : Header) → KeepsRu
 -- which is the ledger with all its writes.
 abbrev pub LosesNoWrite : Type 0
 LosesNoWrite = (l : Ledger) (call : CallData) (header : Header) → KeepsRules l → ledger_after l call header ≡ put l (result_over (at l) (call_result call header)).1
+
+-- ---- over what was read
+
+-- the call asks for each of these items, over a ledger that has them
+abbrev pub AreAskedFor : ItemMap → CallData → Header → Type 0
+AreAskedFor reads call header = (x : Item) (v : ItemValue) → value_in reads x ≡ Some v → Contains (items_asked (value_before (value_in reads)) (call_result call header)) x
+
+-- A call that has ended over what it read ends so over each ledger that has what was read, where the keys and the counts of
+-- an application that is gone may have been read as anything,
+abbrev pub EndsAlike : Type 0
+EndsAlike =
+    (l : Ledger) (reads : ItemMap) (call : CallData) (header : Header) (r : CallResult) → KeepsRules l → AgreesWithReads l reads → answer_from (value_in reads) (call_result call header) ≡ Ok r
+    → result_over (at l) (call_result call header) ≡ r
+
+-- and its writes without those that leave what was read are the changes there.
+abbrev pub ChangesWhatItRead : Type 0
+ChangesWhatItRead =
+    (l : Ledger) (reads : ItemMap) (call : CallData) (header : Header) (r : CallResult) → KeepsRules l → AgreesWithReads l reads → AreAskedFor reads call header → answer_from (value_in reads) (call_result call header) ≡ Ok r
+    → pruned (value_before (value_in reads)) r.1 ≡ changes_on l call header

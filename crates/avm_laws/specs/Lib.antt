@@ -1,3 +1,4 @@
 pub mod Ledgers
 pub mod Calls
 pub mod Rules
+pub mod Spellings

@@ -1,6 +1,6 @@
 //! What calls write, ask for and change.
 
-ghost use Rattle.avm_laws.specs.Calls.{HasWhatWasWritten, AsksForNoneGone, HandsOnItsChanges, LosesNoWrite};
+ghost use Rattle.avm_laws.specs.Calls.{AsksForNoneGone, ChangesWhatItRead, EndsAlike, HandsOnItsChanges, HasWhatWasWritten, LosesNoWrite};
 
 /// At each step of a call's program the ledger with its own writes has what was written, the counts with the keys.
 pub fn writes_are_items()
@@ -16,4 +16,10 @@ pub fn none_gone_is_asked_for()
 pub fn changes_are_handed_on()
     ensures changes { HandsOnItsChanges }
     ensures all { LosesNoWrite }
+{}
+
+/// A call that has ended over what it read ends so on every ledger that has what was read, with these changes.
+pub fn reads_decide()
+    ensures result { EndsAlike }
+    ensures changes { ChangesWhatItRead }
 {}

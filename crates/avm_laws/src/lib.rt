@@ -5,3 +5,4 @@
 pub mod call_laws;
 pub mod ledger_laws;
 pub mod rule_laws;
+pub mod spelling_laws;
