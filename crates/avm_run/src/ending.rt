@@ -57,7 +57,8 @@ pub(crate) fn cleared(
 
 /// An outcome that changes nothing.
 fn without_writes(alloc: Global, outcome: Outcome) -> Ending
-    ensures { (result.outcome, result.writes) ≡ (outcome, []) }
+    ensures same { result.outcome ≡ outcome }
+    ensures none { result.writes ≡ [] }
 {
     Ending {
         outcome,
