@@ -22,6 +22,10 @@ use Rattle.avm_arith.specs.declared.wide.Wide.{Wide}
 use Rattle.avm_arith.specs.declared.wide.Wide.TheVariants as wide
 use Rattle.avm_arith.specs.declared.unary.Unary.{Unary}
 use Rattle.avm_arith.specs.declared.unary.Unary.TheVariants as unary
+use Rattle.avm_arith.specs.declared.joined.Joined.{Joined}
+use Rattle.avm_arith.specs.declared.joined.Joined.TheVariants as joined
+use Rattle.avm_arith.specs.declared.bits.Bits.{Bits}
+use Rattle.avm_arith.specs.declared.bits.Bits.TheVariants as bits
 
 abbrev pub binary_opcode : Binary → Opcode
 binary_opcode binary.Add = op.Add
@@ -98,3 +102,13 @@ of_bytes_value of_bytes.Sha512_256 i = digest_by sha512_256
 of_bytes_value of_bytes.Len i = length_of
 of_bytes_value of_bytes.Btoi i = number_of_bytes
 of_bytes_value of_bytes.Substring i = λ s. range_of s (start_of i) (end_of i)
+
+abbrev pub joined_opcode : Joined → Opcode
+joined_opcode joined.Concat = op.Concat
+joined_opcode joined.Substring3 = op.Substring3
+
+abbrev pub bits_opcode : Bits → Opcode
+bits_opcode bits.Getbit = op.Getbit
+bits_opcode bits.Setbit = op.Setbit
+bits_opcode bits.Getbyte = op.Getbyte
+bits_opcode bits.Setbyte = op.Setbyte

@@ -1,8 +1,9 @@
 //! Instructions on the bytes and bits of values.
 
-ghost use Rattle.std.specs.Prelude.{◌≡◌, ◌<◌, ◌^◌, ◌≤◌, length, IfOk, nat_lt, slice_set};
-ghost use Rattle.teal_table.specs.declared.opcode.Opcode.TheVariants as op;
+ghost use Rattle.std.specs.Prelude.{◌≡◌, ◌<◌, ◌^◌, length, IfOk, IfSome, Some, nat_lt, slice_set};
+ghost use Rattle.teal_table.specs.Table.{code_of};
 ghost use Rattle.avm_ops.specs.ByteStrings.{bit_count, bit_of, bit_of_value, value_with_bit, with_bit};
+ghost use Rattle.avm_arith.specs.Families.{bits_opcode};
 
 use avm_cpu::{Cpu, Flow};
 use avm_items::Env;
@@ -12,21 +13,43 @@ use teal_code::Instr;
 use teal_table::Opcode;
 use teal_value::{ByteString, Fault, Value};
 
-/// A byte of a byte string.
+/// An instruction on a byte of a byte string, or on a bit of a value: of a number, the least at 0, or of a byte string, the
+/// highest of the first byte at 0.
 #[derive(Clone, Copy, Debug, PartialEq, Eq)]
-pub struct Getbyte;
+pub enum Bits {
+    Getbit,
+    Setbit,
+    Getbyte,
+    Setbyte,
+}
 
-/// A byte string with another byte at a place.
-#[derive(Clone, Copy, Debug, PartialEq, Eq)]
-pub struct Setbyte;
+impl Bits {
+    /// The instruction of a code.
+    #[tactic(auto, unfolding(teal_table::specs::Table::row_of))]
+    pub fn of(code: u8) -> Option<Bits>
+        ensures some { IfSome result (λ row. code_of (bits_opcode row) ≡ code) }
+        ensures all { (row : _) → code_of (bits_opcode row) ≡ code → result ≡ Some row }
+    {
+        match code {
+            0x53 => Some(Bits::Getbit),
+            0x54 => Some(Bits::Setbit),
+            0x55 => Some(Bits::Getbyte),
+            0x56 => Some(Bits::Setbyte),
+            _ => None,
+        }
+    }
 
-/// A bit of a number, the least at 0, or of a byte string, the highest of the first byte at 0.
-#[derive(Clone, Copy, Debug, PartialEq, Eq)]
-pub struct Getbit;
-
-/// A number or a byte string with another bit at a place.
-#[derive(Clone, Copy, Debug, PartialEq, Eq)]
-pub struct Setbit;
+    fn opcode(self) -> Opcode
+        ensures { result ≡ bits_opcode self }
+    {
+        match self {
+            Bits::Getbit => Opcode::Getbit,
+            Bits::Setbit => Opcode::Setbit,
+            Bits::Getbyte => Opcode::Getbyte,
+            Bits::Setbyte => Opcode::Setbyte,
+        }
+    }
+}
 
 /// A copy of the bytes with another at a place.
 fn with_byte(alloc: Global, bytes: &[u8], place: usize, byte: u8) -> Result<ByteString, AllocError>
@@ -113,36 +136,11 @@ fn value_with_bit(alloc: Global, value: &Value, place: u64, bit: u64) -> Result<
     }
 }
 
-impl Op for Getbyte {
-    ghost opcode = { λ _. op.Getbyte };
+impl Op for Bits {
+    ghost opcode = { bits_opcode };
 
     fn code(&self) -> u8 {
-        Opcode::Getbyte.code()
-    }
-
-    #[tactic(auto, unfolding(avm_ops::specs::Effect::effect))]
-    fn exec(
-        &self,
-        _alloc: Global,
-        _instr: &Instr,
-        cpu: &mut Cpu,
-        _env: &mut Env,
-    ) -> Result<Flow, Stop> {
-        let (bytes, place) = cpu.bytes_and_uint()?;
-        if place >= bytes.len() as u64 {
-            return Err(Stop::Fault(Fault::Range));
-        }
-        let byte = bytes[place as usize];
-        cpu.replace(2, Value::Uint(u64::from(byte)));
-        Ok(Flow::Next)
-    }
-}
-
-impl Op for Setbyte {
-    ghost opcode = { λ _. op.Setbyte };
-
-    fn code(&self) -> u8 {
-        Opcode::Setbyte.code()
+        self.opcode().code()
     }
 
     #[tactic(auto, unfolding(avm_ops::specs::Effect::effect))]
@@ -153,62 +151,40 @@ impl Op for Setbyte {
         cpu: &mut Cpu,
         _env: &mut Env,
     ) -> Result<Flow, Stop> {
-        let (bytes, place, byte) = cpu.bytes_and_two_uints()?;
-        if place >= bytes.len() as u64 || byte > 255 {
-            return Err(Stop::Fault(Fault::Range));
+        match self {
+            Bits::Getbit => {
+                let (value, place) = cpu.value_and_uint()?;
+                if !has_bit(value, place) {
+                    return Err(Stop::Fault(Fault::Range));
+                }
+                let bit = bit_of_value(value, place);
+                cpu.replace(2, Value::Uint(bit));
+            }
+            Bits::Setbit => {
+                let (value, place, bit) = cpu.value_and_two_uints()?;
+                if !has_bit(value, place) || bit > 1 {
+                    return Err(Stop::Fault(Fault::Range));
+                }
+                let copy = value_with_bit(alloc, value, place, bit)?;
+                cpu.replace(3, copy);
+            }
+            Bits::Getbyte => {
+                let (bytes, place) = cpu.bytes_and_uint()?;
+                if place >= bytes.len() as u64 {
+                    return Err(Stop::Fault(Fault::Range));
+                }
+                let byte = bytes[place as usize];
+                cpu.replace(2, Value::Uint(u64::from(byte)));
+            }
+            Bits::Setbyte => {
+                let (bytes, place, byte) = cpu.bytes_and_two_uints()?;
+                if place >= bytes.len() as u64 || byte > 255 {
+                    return Err(Stop::Fault(Fault::Range));
+                }
+                let copy = with_byte(alloc, bytes, place as usize, byte as u8)?;
+                cpu.replace(3, Value::Bytes(copy));
+            }
         }
-        let copy = with_byte(alloc, bytes, place as usize, byte as u8)?;
-        cpu.replace(3, Value::Bytes(copy));
-        Ok(Flow::Next)
-    }
-}
-
-impl Op for Getbit {
-    ghost opcode = { λ _. op.Getbit };
-
-    fn code(&self) -> u8 {
-        Opcode::Getbit.code()
-    }
-
-    #[tactic(auto, unfolding(avm_ops::specs::Effect::effect))]
-    fn exec(
-        &self,
-        _alloc: Global,
-        _instr: &Instr,
-        cpu: &mut Cpu,
-        _env: &mut Env,
-    ) -> Result<Flow, Stop> {
-        let (value, place) = cpu.value_and_uint()?;
-        if !has_bit(value, place) {
-            return Err(Stop::Fault(Fault::Range));
-        }
-        let bit = bit_of_value(value, place);
-        cpu.replace(2, Value::Uint(bit));
-        Ok(Flow::Next)
-    }
-}
-
-impl Op for Setbit {
-    ghost opcode = { λ _. op.Setbit };
-
-    fn code(&self) -> u8 {
-        Opcode::Setbit.code()
-    }
-
-    #[tactic(auto, unfolding(avm_ops::specs::Effect::effect))]
-    fn exec(
-        &self,
-        alloc: Global,
-        _instr: &Instr,
-        cpu: &mut Cpu,
-        _env: &mut Env,
-    ) -> Result<Flow, Stop> {
-        let (value, place, bit) = cpu.value_and_two_uints()?;
-        if !has_bit(value, place) || bit > 1 {
-            return Err(Stop::Fault(Fault::Range));
-        }
-        let copy = value_with_bit(alloc, value, place, bit)?;
-        cpu.replace(3, copy);
         Ok(Flow::Next)
     }
 }

@@ -1,7 +1,8 @@
 //! Instructions that join byte strings and take parts of them.
 
-ghost use Rattle.std.specs.Prelude.{◌≡◌, ◌++◌, IfOk};
-ghost use Rattle.teal_table.specs.declared.opcode.Opcode.TheVariants as op;
+ghost use Rattle.std.specs.Prelude.{◌≡◌, ◌++◌, IfOk, IfSome, Some};
+ghost use Rattle.teal_table.specs.Table.{code_of};
+ghost use Rattle.avm_arith.specs.Families.{joined_opcode};
 
 use crate::of_bytes::range_of;
 use avm_cpu::{Cpu, Flow};
@@ -12,16 +13,17 @@ use teal_code::Instr;
 use teal_table::Opcode;
 use teal_value::{ByteString, Fault, Value};
 
-/// Two byte strings as one.
+/// An instruction that makes a byte string of the operands' bytes.
 #[derive(Clone, Copy, Debug, PartialEq, Eq)]
-pub struct Concat;
-
-/// The part of a byte string between two operands.
-#[derive(Clone, Copy, Debug, PartialEq, Eq)]
-pub struct Substring3;
+pub enum Joined {
+    /// Two byte strings as one.
+    Concat,
+    /// The part of a byte string between two operands.
+    Substring3,
+}
 
 /// The first bytes, and then the second.
-fn joined(alloc: Global, first: &[u8], second: &[u8]) -> Result<ByteString, AllocError>
+fn concatenated(alloc: Global, first: &[u8], second: &[u8]) -> Result<ByteString, AllocError>
     ensures { IfOk result (λ bytes. bytes ≡ first.now ++ second.now) }
 {
     let mut bytes = Vec::from_slice(alloc, first)?;
@@ -29,36 +31,35 @@ fn joined(alloc: Global, first: &[u8], second: &[u8]) -> Result<ByteString, Allo
     Ok(ByteString::from_vec(bytes))
 }
 
-impl Op for Concat {
-    ghost opcode = { λ _. op.Concat };
-
-    fn code(&self) -> u8 {
-        Opcode::Concat.code()
+impl Joined {
+    /// The instruction of a code.
+    #[tactic(auto, unfolding(teal_table::specs::Table::row_of))]
+    pub fn of(code: u8) -> Option<Joined>
+        ensures some { IfSome result (λ row. code_of (joined_opcode row) ≡ code) }
+        ensures all { (row : _) → code_of (joined_opcode row) ≡ code → result ≡ Some row }
+    {
+        match code {
+            0x50 => Some(Joined::Concat),
+            0x52 => Some(Joined::Substring3),
+            _ => None,
+        }
     }
 
-    #[tactic(auto, unfolding(avm_ops::specs::Effect::effect))]
-    fn exec(
-        &self,
-        alloc: Global,
-        _instr: &Instr,
-        cpu: &mut Cpu,
-        _env: &mut Env,
-    ) -> Result<Flow, Stop> {
-        let (first, second) = cpu.two_bytes()?;
-        if first.len() > 4096 || second.len() > 4096 - first.len() {
-            return Err(Stop::Fault(Fault::TooLong));
+    fn opcode(self) -> Opcode
+        ensures { result ≡ joined_opcode self }
+    {
+        match self {
+            Joined::Concat => Opcode::Concat,
+            Joined::Substring3 => Opcode::Substring3,
         }
-        let bytes = joined(alloc, first, second)?;
-        cpu.replace(2, Value::Bytes(bytes));
-        Ok(Flow::Next)
     }
 }
 
-impl Op for Substring3 {
-    ghost opcode = { λ _. op.Substring3 };
+impl Op for Joined {
+    ghost opcode = { joined_opcode };
 
     fn code(&self) -> u8 {
-        Opcode::Substring3.code()
+        self.opcode().code()
     }
 
     #[tactic(auto, unfolding(avm_ops::specs::Effect::effect))]
@@ -69,9 +70,21 @@ impl Op for Substring3 {
         cpu: &mut Cpu,
         _env: &mut Env,
     ) -> Result<Flow, Stop> {
-        let (bytes, start, end) = cpu.bytes_and_two_uints()?;
-        let part = range_of(alloc, bytes, start, end)?;
-        cpu.replace(3, part);
+        match self {
+            Joined::Concat => {
+                let (first, second) = cpu.two_bytes()?;
+                if first.len() > 4096 || second.len() > 4096 - first.len() {
+                    return Err(Stop::Fault(Fault::TooLong));
+                }
+                let bytes = concatenated(alloc, first, second)?;
+                cpu.replace(2, Value::Bytes(bytes));
+            }
+            Joined::Substring3 => {
+                let (bytes, start, end) = cpu.bytes_and_two_uints()?;
+                let part = range_of(alloc, bytes, start, end)?;
+                cpu.replace(3, part);
+            }
+        }
         Ok(Flow::Next)
     }
 }

@@ -13,9 +13,9 @@ mod unary;
 mod wide;
 
 pub use binary::Binary;
-pub use bits::{Getbit, Getbyte, Setbit, Setbyte};
+pub use bits::Bits;
 pub use comparison::{Comparison, Equality};
-pub use joined::{Concat, Substring3};
+pub use joined::Joined;
 pub use of_bytes::OfBytes;
 pub use unary::Unary;
 pub use wide::Wide;

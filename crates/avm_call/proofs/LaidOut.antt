@@ -153,10 +153,10 @@ nexts (suc n) version bytes place ps low high e x i next there read =
 
 -- ---- a branch has three bytes, and its target is another instruction or the end
 
-record IsOffset (x : ℕ) (i : Instr) (next : ℕ) : Type 0 where
-  offset : ℕ
-  is_offset : i.immediates ≡ is.Offset offset
-  behind : next ≡ x + 3
+pub record IsOffset (x : ℕ) (i : Instr) (next : ℕ) : Type 0 where
+  pub offset : ℕ
+  pub is_offset : i.immediates ≡ is.Offset offset
+  pub behind : next ≡ x + 3
 
 index_is_start : (x : ℕ) (ss : List ℕ) (k : ℕ) → index_of x ss ≡ Some k → is_start ss x ≡ true
 index_is_start x [] k e = absurd cc
@@ -215,7 +215,7 @@ instr_offset version (code ∷ bytes) y e s =
     let (n, one, two) = opcode_offset (opcode_in version code) bytes y e s in
     (n, one, omega arith)
 
-read_offset : (version : Version) (bytes : List ℕ) (x : ℕ) (i : Instr) (next : ℕ) → read_at version bytes x ≡ Ok (i, next) → (row_of i.opcode).immediates ≡ shape.Offset → IsOffset x i next
+pub read_offset : (version : Version) (bytes : List ℕ) (x : ℕ) (i : Instr) (next : ℕ) → read_at version bytes x ≡ Ok (i, next) → (row_of i.opcode).immediates ≡ shape.Offset → IsOffset x i next
 read_offset version bytes x i next e s =
     let (y, first, last) = bind_ok (instr_at version (drop x bytes)) _ _ e in
     let same = same_next last in
@@ -224,7 +224,7 @@ read_offset version bytes x i next e s =
     let behind = same.1 in
     record { offset = n; is_offset = sym (ap (λ (j : Instr). j.immediates) same.0) ∙ one; behind = omega arith }
 
-is_branch : (x : ℕ) (o : Opcode) (m : Immediates) (target : ℕ) → branch_target x o m ≡ Some target → ((row_of o).immediates ≡ shape.Offset) × (x + 3 + offset_of m ≡ target)
+pub is_branch : (x : ℕ) (o : Opcode) (m : Immediates) (target : ℕ) → branch_target x o m ≡ Some target → ((row_of o).immediates ≡ shape.Offset) × (x + 3 + offset_of m ≡ target)
 unfolding row_of
 is_branch x op.Bnz m target e = (refl, cc)
 is_branch x op.Bz m target e = (refl, cc)

@@ -12,11 +12,11 @@ use Rattle.avm_cpu.specs.declared.flow.Flow.{Flow}
 use Rattle.avm_cpu.specs.declared.flow.Flow.TheVariants as flow
 use Rattle.avm_ops.specs.Frame.{Stepped}
 use Rattle.avm_ops.specs.Effect.{effect}
-use Rattle.avm_ops.specs.Steps.{branch_target, IsFlowTo, GoesOn}
+use Rattle.avm_ops.specs.Steps.{branch_target, IsFlowTo}
 use Rattle.avm_call.specs.declared.outcome.Ended.{Ended}
 use Rattle.avm_call.specs.Runs.{Execution, Position, version_at, instruction_at, context_at, place_after, known_itself, result_at_end, stepped, executed, start, run_from, path, whole_path}
 use Rattle.avm_call.specs.Ends.{HasEnded, is_start, is_start_or_end, IsLaidOut}
-use Rattle.avm_call.proofs.Paths.{read_on, behind_by, executed_asks, goes_on}
+use Rattle.avm_call.proofs.Paths.{Goes, read_on, behind_by, executed_asks, goes_on}
 
 -- ---- how many instructions stand at a place or behind it
 
@@ -93,17 +93,17 @@ flow_laid e starts laid p i next here is inside on (flow.Jump target) h = (behin
 flow_laid e starts laid p i next here is inside on flow.End h = (inside, the_end starts (length e.program))
 
 stepped_laid : (e : Execution) (starts : List ℕ) → IsLaidOut e.program starts → (p : Position) (i : Instr) (next : ℕ) → is_start starts p.place ≡ true → instruction_at e.program p.place ≡ Ok (i, next)
-    → (r : Stepped) → GoesOn (branch_target p.place i.opcode i.immediates) r → LaidOn starts e p (stepped e p next r)
+    → (r : Stepped) → Goes e p i r → LaidOn starts e p (stepped e p next r)
 stepped_laid e starts laid p i next here is (Ok after) h =
     let on = read_on (version_at e.program).0 e.program p.place i next is in
-    flow_laid e starts laid p i next here is on.0 on.1 after.flow h
+    flow_laid e starts laid p i next here is on.0 on.1 after.flow h.0
 stepped_laid e starts laid p i next here is (Err f) h = tt
 
 executed_laid : (e : Execution) (starts : List ℕ) → IsLaidOut e.program starts → (p : Position) → is_start starts p.place ≡ true
     → (r : Result (Instr × ℕ) CodeFault) → instruction_at e.program p.place ≡ r → AsksAtMost Any 3 (LaidOn starts e p) (executed e p r)
 executed_laid e starts laid p here (Err f) is = tt
 executed_laid e starts laid p here (Ok (i, next)) is =
-    at_most-then Any 3 0 (GoesOn (branch_target p.place i.opcode i.immediates)) (LaidOn starts e p) (remaining_questions (known_itself e p.writes) (effect (context_at e p) i.opcode i.immediates)) (λ r. Gives (stepped e p next r))
+    at_most-then Any 3 0 (Goes e p i) (LaidOn starts e p) (remaining_questions (known_itself e p.writes) (effect (context_at e p) i.opcode i.immediates)) (λ r. Gives (stepped e p next r))
     (executed_asks e p i) (λ r h. stepped_laid e starts laid p i next here is r h)
 
 -- ---- the path

@@ -11,7 +11,7 @@ use Rattle.avm_items.specs.declared.item.Item.{Item}
 use Rattle.avm_items.specs.declared.item.Item.TheVariants as item
 use Rattle.avm_items.specs.declared.item_value.ItemValue.TheVariants as value
 use Rattle.avm_items.specs.CallFields.{creates, clears}
-use Rattle.avm_items.specs.Items.{ItemMap, with_item, next_id_in, application_in, local_state_in}
+use Rattle.avm_items.specs.Items.{ItemMap, is_global_of, with_item, next_id_in, application_in, local_state_in}
 use Rattle.avm_items.specs.Asks.{Ask, Gives, and_then}
 use Rattle.avm_items.specs.Acts.{Act, done, reads, test, ◌>>=◌}
 use Rattle.avm_call.specs.declared.outcome.Ended.{Ended}
@@ -112,11 +112,6 @@ abbrev pub execution : CallData → Header → ℕ → Application → Execution
 execution call header id row = record { program = program_of call.completion row; call = call; header = header; current = id }
 
 -- ---- after the program
-
-abbrev is_global_of : ℕ → Item → Bool
-is_global_of id (item.Counts app) = app == id
-is_global_of id (item.Key app key) = app == id
-is_global_of id _ = false
 
 -- An application that goes takes its global state with it.
 abbrev pub deleted : ℕ → ItemMap → ItemMap

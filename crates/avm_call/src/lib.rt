@@ -2,9 +2,13 @@
 //! tests before it, what is prepared for it, and what comes after.
 #![tactic(auto)]
 
+mod call;
+mod call_fault;
 pub mod laws;
 mod outcome;
 pub mod rule_laws;
 pub mod worked;
 
+pub use call::Call;
+pub use call_fault::{CallError, CallFault};
 pub use outcome::{Cause, Ended, Outcome, Why};

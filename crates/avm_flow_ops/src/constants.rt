@@ -1,26 +1,17 @@
-//! Constant blocks, and the instructions that push their constants.
+//! The instructions that push a constant of the block in force.
 
 ghost use Rattle.std.specs.Prelude.{◌≡◌, IfSome, Some};
-ghost use Rattle.teal_table.specs.declared.opcode.Opcode.TheVariants as op;
 ghost use Rattle.teal_table.specs.Table.{code_of};
 ghost use Rattle.avm_flow_ops.specs.Families.{intc_opcode, intc_index, bytec_opcode, bytec_index};
 
 use avm_cpu::{Cpu, Flow};
 use avm_items::Env;
-use avm_ops::immediates::{byte_strings_of, index_of, uints_of};
+use avm_ops::immediates::index_of;
 use avm_ops::{Op, Stop};
 use std::alloc::Global;
 use teal_code::{Immediates, Instr};
 use teal_table::Opcode;
 use teal_value::{ByteString, Fault, Value};
-
-/// Puts a block of numbers in force.
-#[derive(Clone, Copy, Debug, PartialEq, Eq)]
-pub struct Intcblock;
-
-/// Puts a block of byte strings in force.
-#[derive(Clone, Copy, Debug, PartialEq, Eq)]
-pub struct Bytecblock;
 
 /// Pushes a number of the block in force.
 #[derive(Clone, Copy, Debug, PartialEq, Eq)]
@@ -42,46 +33,6 @@ pub enum Bytec {
     One,
     Two,
     Three,
-}
-
-impl Op for Intcblock {
-    ghost opcode = { λ _. op.Intcblock };
-
-    fn code(&self) -> u8 {
-        Opcode::Intcblock.code()
-    }
-
-    #[tactic(auto, unfolding(avm_ops::specs::Effect::effect))]
-    fn exec(
-        &self,
-        alloc: Global,
-        instr: &Instr,
-        cpu: &mut Cpu,
-        _env: &mut Env,
-    ) -> Result<Flow, Stop> {
-        cpu.set_uint_constants(alloc, uints_of(&instr.immediates))?;
-        Ok(Flow::Next)
-    }
-}
-
-impl Op for Bytecblock {
-    ghost opcode = { λ _. op.Bytecblock };
-
-    fn code(&self) -> u8 {
-        Opcode::Bytecblock.code()
-    }
-
-    #[tactic(auto, unfolding(avm_ops::specs::Effect::effect))]
-    fn exec(
-        &self,
-        alloc: Global,
-        instr: &Instr,
-        cpu: &mut Cpu,
-        _env: &mut Env,
-    ) -> Result<Flow, Stop> {
-        cpu.set_byte_constants(alloc, byte_strings_of(&instr.immediates))?;
-        Ok(Flow::Next)
-    }
 }
 
 impl Intc {

@@ -1,10 +1,10 @@
-//! The instructions on the stack, the constants, the scratch space, and where a run goes on, as objects: one type an
-//! opcode or a family of opcodes; a family's type has `of`, which gives its object of a code, so that a set is filled by
-//! a loop over the codes.
+//! The instructions on the stack, the constants, the scratch space, and where a run goes on, as objects: one type a family
+//! of opcodes, each with `of`, which gives the family's object of a code, so that a set is filled by a loop over the codes.
 //!
 //! What an instruction does stands in `avm_ops`, `specs/Stack.antt`.
 #![tactic(auto)]
 
+mod block;
 mod branch;
 mod constants;
 mod literal;
@@ -12,9 +12,10 @@ mod scratch;
 mod stack;
 mod stops;
 
+pub use block::Block;
 pub use branch::Branch;
-pub use constants::{Bytec, Bytecblock, Intc, Intcblock};
-pub use literal::{Pushbytes, Pushint};
-pub use scratch::{Load, Store};
-pub use stack::{Dig, Dup, Dup2, Pop, Select, Swap};
-pub use stops::{Assert, Fail, Return};
+pub use constants::{Bytec, Intc};
+pub use literal::Literal;
+pub use scratch::Scratch;
+pub use stack::Stack;
+pub use stops::Stops;

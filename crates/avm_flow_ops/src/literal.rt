@@ -1,6 +1,8 @@
 //! Instructions that push what they hold.
 
-ghost use Rattle.teal_table.specs.declared.opcode.Opcode.TheVariants as op;
+ghost use Rattle.std.specs.Prelude.{◌≡◌, IfSome, Some};
+ghost use Rattle.teal_table.specs.Table.{code_of};
+ghost use Rattle.avm_flow_ops.specs.Families.{literal_opcode};
 
 use avm_cpu::{Cpu, Flow};
 use avm_items::Env;
@@ -11,39 +13,42 @@ use teal_code::Instr;
 use teal_table::Opcode;
 use teal_value::{ByteString, Value};
 
-/// Pushes its number.
+/// Pushes its own number or byte string.
 #[derive(Clone, Copy, Debug, PartialEq, Eq)]
-pub struct Pushint;
+pub enum Literal {
+    Pushbytes,
+    Pushint,
+}
 
-/// Pushes its byte string.
-#[derive(Clone, Copy, Debug, PartialEq, Eq)]
-pub struct Pushbytes;
-
-impl Op for Pushint {
-    ghost opcode = { λ _. op.Pushint };
-
-    fn code(&self) -> u8 {
-        Opcode::Pushint.code()
+impl Literal {
+    /// The instruction of a code.
+    #[tactic(auto, unfolding(teal_table::specs::Table::row_of))]
+    pub fn of(code: u8) -> Option<Literal>
+        ensures some { IfSome result (λ row. code_of (literal_opcode row) ≡ code) }
+        ensures all { (row : _) → code_of (literal_opcode row) ≡ code → result ≡ Some row }
+    {
+        match code {
+            0x80 => Some(Literal::Pushbytes),
+            0x81 => Some(Literal::Pushint),
+            _ => None,
+        }
     }
 
-    #[tactic(auto, unfolding(avm_ops::specs::Effect::effect))]
-    fn exec(
-        &self,
-        _alloc: Global,
-        instr: &Instr,
-        cpu: &mut Cpu,
-        _env: &mut Env,
-    ) -> Result<Flow, Stop> {
-        cpu.push(Value::Uint(uint_of(&instr.immediates)))?;
-        Ok(Flow::Next)
+    fn opcode(self) -> Opcode
+        ensures { result ≡ literal_opcode self }
+    {
+        match self {
+            Literal::Pushbytes => Opcode::Pushbytes,
+            Literal::Pushint => Opcode::Pushint,
+        }
     }
 }
 
-impl Op for Pushbytes {
-    ghost opcode = { λ _. op.Pushbytes };
+impl Op for Literal {
+    ghost opcode = { literal_opcode };
 
     fn code(&self) -> u8 {
-        Opcode::Pushbytes.code()
+        self.opcode().code()
     }
 
     #[tactic(auto, unfolding(avm_ops::specs::Effect::effect))]
@@ -54,8 +59,13 @@ impl Op for Pushbytes {
         cpu: &mut Cpu,
         _env: &mut Env,
     ) -> Result<Flow, Stop> {
-        let copy = ByteString::from_slice(alloc, bytes_of(&instr.immediates))?;
-        cpu.push(Value::Bytes(copy))?;
+        match self {
+            Literal::Pushbytes => {
+                let copy = ByteString::from_slice(alloc, bytes_of(&instr.immediates))?;
+                cpu.push(Value::Bytes(copy))?;
+            }
+            Literal::Pushint => cpu.push(Value::Uint(uint_of(&instr.immediates)))?,
+        }
         Ok(Flow::Next)
     }
 }

@@ -1,6 +1,8 @@
 //! The scratch space.
 
-ghost use Rattle.teal_table.specs.declared.opcode.Opcode.TheVariants as op;
+ghost use Rattle.std.specs.Prelude.{◌≡◌, IfSome, Some};
+ghost use Rattle.teal_table.specs.Table.{code_of};
+ghost use Rattle.avm_flow_ops.specs.Families.{scratch_opcode};
 
 use avm_cpu::{Cpu, Flow};
 use avm_items::Env;
@@ -10,40 +12,44 @@ use std::alloc::Global;
 use teal_code::Instr;
 use teal_table::Opcode;
 
-/// Pushes the value of a scratch place.
+/// An instruction on the scratch space.
 #[derive(Clone, Copy, Debug, PartialEq, Eq)]
-pub struct Load;
+pub enum Scratch {
+    /// Pushes the value of a scratch place.
+    Load,
+    /// Moves the value on top to a scratch place.
+    Store,
+}
 
-/// Moves the value on top to a scratch place.
-#[derive(Clone, Copy, Debug, PartialEq, Eq)]
-pub struct Store;
-
-impl Op for Load {
-    ghost opcode = { λ _. op.Load };
-
-    fn code(&self) -> u8 {
-        Opcode::Load.code()
+impl Scratch {
+    /// The instruction of a code.
+    #[tactic(auto, unfolding(teal_table::specs::Table::row_of))]
+    pub fn of(code: u8) -> Option<Scratch>
+        ensures some { IfSome result (λ row. code_of (scratch_opcode row) ≡ code) }
+        ensures all { (row : _) → code_of (scratch_opcode row) ≡ code → result ≡ Some row }
+    {
+        match code {
+            0x34 => Some(Scratch::Load),
+            0x35 => Some(Scratch::Store),
+            _ => None,
+        }
     }
 
-    #[tactic(auto, unfolding(avm_ops::specs::Effect::effect))]
-    fn exec(
-        &self,
-        _alloc: Global,
-        instr: &Instr,
-        cpu: &mut Cpu,
-        _env: &mut Env,
-    ) -> Result<Flow, Stop> {
-        let copy = cpu.scratch(index_of(&instr.immediates)).clone()?;
-        cpu.push(copy)?;
-        Ok(Flow::Next)
+    fn opcode(self) -> Opcode
+        ensures { result ≡ scratch_opcode self }
+    {
+        match self {
+            Scratch::Load => Opcode::Load,
+            Scratch::Store => Opcode::Store,
+        }
     }
 }
 
-impl Op for Store {
-    ghost opcode = { λ _. op.Store };
+impl Op for Scratch {
+    ghost opcode = { scratch_opcode };
 
     fn code(&self) -> u8 {
-        Opcode::Store.code()
+        self.opcode().code()
     }
 
     #[tactic(auto, unfolding(avm_ops::specs::Effect::effect))]
@@ -54,8 +60,17 @@ impl Op for Store {
         cpu: &mut Cpu,
         _env: &mut Env,
     ) -> Result<Flow, Stop> {
-        let _value = cpu.one_value()?;
-        cpu.store(index_of(&instr.immediates));
+        let index = index_of(&instr.immediates);
+        match self {
+            Scratch::Load => {
+                let copy = cpu.scratch(index).clone()?;
+                cpu.push(copy)?;
+            }
+            Scratch::Store => {
+                let _value = cpu.one_value()?;
+                cpu.store(index);
+            }
+        }
         Ok(Flow::Next)
     }
 }

@@ -1,6 +1,8 @@
 //! Instructions that move the values of the stack.
 
-ghost use Rattle.teal_table.specs.declared.opcode.Opcode.TheVariants as op;
+ghost use Rattle.std.specs.Prelude.{◌≡◌, IfSome, Some};
+ghost use Rattle.teal_table.specs.Table.{code_of};
+ghost use Rattle.avm_flow_ops.specs.Families.{stack_opcode};
 
 use avm_cpu::{Cpu, Flow};
 use avm_items::Env;
@@ -10,100 +12,60 @@ use std::alloc::Global;
 use teal_code::Instr;
 use teal_table::Opcode;
 
-/// Drops the value on top.
+/// An instruction that moves the values of the stack.
 #[derive(Clone, Copy, Debug, PartialEq, Eq)]
-pub struct Pop;
+pub enum Stack {
+    /// Drops the value on top.
+    Pop,
+    /// Pushes the value on top once more.
+    Dup,
+    /// Pushes the two values on top once more, in their order.
+    Dup2,
+    /// Pushes the value so many below the top.
+    Dig,
+    /// Changes the places of the two values on top.
+    Swap,
+    /// Keeps one of two values, by the number on top.
+    Select,
+}
 
-/// Pushes the value on top once more.
-#[derive(Clone, Copy, Debug, PartialEq, Eq)]
-pub struct Dup;
-
-/// Pushes the two values on top once more, in their order.
-#[derive(Clone, Copy, Debug, PartialEq, Eq)]
-pub struct Dup2;
-
-/// Pushes the value so many below the top.
-#[derive(Clone, Copy, Debug, PartialEq, Eq)]
-pub struct Dig;
-
-/// Changes the places of the two values on top.
-#[derive(Clone, Copy, Debug, PartialEq, Eq)]
-pub struct Swap;
-
-/// Keeps one of two values, by the number on top.
-#[derive(Clone, Copy, Debug, PartialEq, Eq)]
-pub struct Select;
-
-impl Op for Pop {
-    ghost opcode = { λ _. op.Pop };
-
-    fn code(&self) -> u8 {
-        Opcode::Pop.code()
+impl Stack {
+    /// The instruction of a code.
+    #[tactic(auto, unfolding(teal_table::specs::Table::row_of))]
+    pub fn of(code: u8) -> Option<Stack>
+        ensures some { IfSome result (λ row. code_of (stack_opcode row) ≡ code) }
+        ensures all { (row : _) → code_of (stack_opcode row) ≡ code → result ≡ Some row }
+    {
+        match code {
+            0x48 => Some(Stack::Pop),
+            0x49 => Some(Stack::Dup),
+            0x4a => Some(Stack::Dup2),
+            0x4b => Some(Stack::Dig),
+            0x4c => Some(Stack::Swap),
+            0x4d => Some(Stack::Select),
+            _ => None,
+        }
     }
 
-    #[tactic(auto, unfolding(avm_ops::specs::Effect::effect))]
-    fn exec(
-        &self,
-        _alloc: Global,
-        _instr: &Instr,
-        cpu: &mut Cpu,
-        _env: &mut Env,
-    ) -> Result<Flow, Stop> {
-        let _value = cpu.one_value()?;
-        cpu.drop_top(1);
-        Ok(Flow::Next)
+    fn opcode(self) -> Opcode
+        ensures { result ≡ stack_opcode self }
+    {
+        match self {
+            Stack::Pop => Opcode::Pop,
+            Stack::Dup => Opcode::Dup,
+            Stack::Dup2 => Opcode::Dup2,
+            Stack::Dig => Opcode::Dig,
+            Stack::Swap => Opcode::Swap,
+            Stack::Select => Opcode::Select,
+        }
     }
 }
 
-impl Op for Dup {
-    ghost opcode = { λ _. op.Dup };
+impl Op for Stack {
+    ghost opcode = { stack_opcode };
 
     fn code(&self) -> u8 {
-        Opcode::Dup.code()
-    }
-
-    #[tactic(auto, unfolding(avm_ops::specs::Effect::effect))]
-    fn exec(
-        &self,
-        _alloc: Global,
-        _instr: &Instr,
-        cpu: &mut Cpu,
-        _env: &mut Env,
-    ) -> Result<Flow, Stop> {
-        let copy = cpu.one_value()?.clone()?;
-        cpu.push(copy)?;
-        Ok(Flow::Next)
-    }
-}
-
-impl Op for Dup2 {
-    ghost opcode = { λ _. op.Dup2 };
-
-    fn code(&self) -> u8 {
-        Opcode::Dup2.code()
-    }
-
-    #[tactic(auto, unfolding(avm_ops::specs::Effect::effect))]
-    fn exec(
-        &self,
-        _alloc: Global,
-        _instr: &Instr,
-        cpu: &mut Cpu,
-        _env: &mut Env,
-    ) -> Result<Flow, Stop> {
-        let (below, top) = cpu.two_values()?;
-        let below_copy = below.clone()?;
-        let top_copy = top.clone()?;
-        cpu.push_pair(below_copy, top_copy)?;
-        Ok(Flow::Next)
-    }
-}
-
-impl Op for Dig {
-    ghost opcode = { λ _. op.Dig };
-
-    fn code(&self) -> u8 {
-        Opcode::Dig.code()
+        self.opcode().code()
     }
 
     #[tactic(auto, unfolding(avm_ops::specs::Effect::effect))]
@@ -114,54 +76,38 @@ impl Op for Dig {
         cpu: &mut Cpu,
         _env: &mut Env,
     ) -> Result<Flow, Stop> {
-        let copy = cpu.value_below(index_of(&instr.immediates))?.clone()?;
-        cpu.push(copy)?;
-        Ok(Flow::Next)
-    }
-}
-
-impl Op for Swap {
-    ghost opcode = { λ _. op.Swap };
-
-    fn code(&self) -> u8 {
-        Opcode::Swap.code()
-    }
-
-    #[tactic(auto, unfolding(avm_ops::specs::Effect::effect))]
-    fn exec(
-        &self,
-        _alloc: Global,
-        _instr: &Instr,
-        cpu: &mut Cpu,
-        _env: &mut Env,
-    ) -> Result<Flow, Stop> {
-        let _values = cpu.two_values()?;
-        cpu.swap();
-        Ok(Flow::Next)
-    }
-}
-
-impl Op for Select {
-    ghost opcode = { λ _. op.Select };
-
-    fn code(&self) -> u8 {
-        Opcode::Select.code()
-    }
-
-    #[tactic(auto, unfolding(avm_ops::specs::Effect::effect))]
-    fn exec(
-        &self,
-        _alloc: Global,
-        _instr: &Instr,
-        cpu: &mut Cpu,
-        _env: &mut Env,
-    ) -> Result<Flow, Stop> {
-        let (_first, _second, choice) = cpu.two_values_and_uint()?;
-        cpu.drop_top(1);
-        if choice == 0 {
-            cpu.drop_top(1);
-        } else {
-            cpu.drop_second();
+        match self {
+            Stack::Pop => {
+                let _value = cpu.one_value()?;
+                cpu.drop_top(1);
+            }
+            Stack::Dup => {
+                let copy = cpu.one_value()?.clone()?;
+                cpu.push(copy)?;
+            }
+            Stack::Dup2 => {
+                let (below, top) = cpu.two_values()?;
+                let below_copy = below.clone()?;
+                let top_copy = top.clone()?;
+                cpu.push_pair(below_copy, top_copy)?;
+            }
+            Stack::Dig => {
+                let copy = cpu.value_below(index_of(&instr.immediates))?.clone()?;
+                cpu.push(copy)?;
+            }
+            Stack::Swap => {
+                let _values = cpu.two_values()?;
+                cpu.swap();
+            }
+            Stack::Select => {
+                let (_first, _second, choice) = cpu.two_values_and_uint()?;
+                cpu.drop_top(1);
+                if choice == 0 {
+                    cpu.drop_top(1);
+                } else {
+                    cpu.drop_second();
+                }
+            }
         }
         Ok(Flow::Next)
     }

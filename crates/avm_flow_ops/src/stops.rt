@@ -1,6 +1,8 @@
-//! Instructions that end a program.
+//! Instructions that end a program, or may.
 
-ghost use Rattle.teal_table.specs.declared.opcode.Opcode.TheVariants as op;
+ghost use Rattle.std.specs.Prelude.{◌≡◌, IfSome, Some};
+ghost use Rattle.teal_table.specs.Table.{code_of};
+ghost use Rattle.avm_flow_ops.specs.Families.{stops_opcode};
 
 use avm_cpu::{Cpu, Flow};
 use avm_items::Env;
@@ -10,77 +12,72 @@ use teal_code::Instr;
 use teal_table::Opcode;
 use teal_value::{Fault, Value};
 
-/// `err`, which always faults.
+/// An instruction that ends a program, or may.
 #[derive(Clone, Copy, Debug, PartialEq, Eq)]
-pub struct Fail;
-
-/// `return`, which ends the program with the number on top alone.
-#[derive(Clone, Copy, Debug, PartialEq, Eq)]
-pub struct Return;
-
-/// `assert`, which faults where the number on top is 0.
-#[derive(Clone, Copy, Debug, PartialEq, Eq)]
-pub struct Assert;
-
-impl Op for Fail {
-    ghost opcode = { λ _. op.Err };
-
-    fn code(&self) -> u8 {
-        Opcode::Err.code()
-    }
-
-    #[tactic(auto, unfolding(avm_ops::specs::Effect::effect))]
-    fn exec(
-        &self,
-        _alloc: Global,
-        _instr: &Instr,
-        _cpu: &mut Cpu,
-        _env: &mut Env,
-    ) -> Result<Flow, Stop> {
-        Err(Stop::Fault(Fault::Err))
-    }
+pub enum Stops {
+    /// `err`, which always faults.
+    Err,
+    /// `return`, which ends the program with the number on top alone.
+    Return,
+    /// `assert`, which faults where the number on top is 0.
+    Assert,
 }
 
-impl Op for Return {
-    ghost opcode = { λ _. op.Return };
-
-    fn code(&self) -> u8 {
-        Opcode::Return.code()
-    }
-
-    #[tactic(auto, unfolding(avm_ops::specs::Effect::effect))]
-    fn exec(
-        &self,
-        _alloc: Global,
-        _instr: &Instr,
-        cpu: &mut Cpu,
-        _env: &mut Env,
-    ) -> Result<Flow, Stop> {
-        let result = cpu.one_uint()?;
-        cpu.set_only(Value::Uint(result));
-        Ok(Flow::End)
-    }
-}
-
-impl Op for Assert {
-    ghost opcode = { λ _. op.Assert };
-
-    fn code(&self) -> u8 {
-        Opcode::Assert.code()
-    }
-
-    #[tactic(auto, unfolding(avm_ops::specs::Effect::effect))]
-    fn exec(
-        &self,
-        _alloc: Global,
-        _instr: &Instr,
-        cpu: &mut Cpu,
-        _env: &mut Env,
-    ) -> Result<Flow, Stop> {
-        if cpu.one_uint()? == 0 {
-            return Err(Stop::Fault(Fault::Assert));
+impl Stops {
+    /// The instruction of a code.
+    #[tactic(auto, unfolding(teal_table::specs::Table::row_of))]
+    pub fn of(code: u8) -> Option<Stops>
+        ensures some { IfSome result (λ row. code_of (stops_opcode row) ≡ code) }
+        ensures all { (row : _) → code_of (stops_opcode row) ≡ code → result ≡ Some row }
+    {
+        match code {
+            0x00 => Some(Stops::Err),
+            0x43 => Some(Stops::Return),
+            0x44 => Some(Stops::Assert),
+            _ => None,
         }
-        cpu.drop_top(1);
-        Ok(Flow::Next)
+    }
+
+    fn opcode(self) -> Opcode
+        ensures { result ≡ stops_opcode self }
+    {
+        match self {
+            Stops::Err => Opcode::Err,
+            Stops::Return => Opcode::Return,
+            Stops::Assert => Opcode::Assert,
+        }
+    }
+}
+
+impl Op for Stops {
+    ghost opcode = { stops_opcode };
+
+    fn code(&self) -> u8 {
+        self.opcode().code()
+    }
+
+    #[tactic(auto, unfolding(avm_ops::specs::Effect::effect))]
+    fn exec(
+        &self,
+        _alloc: Global,
+        _instr: &Instr,
+        cpu: &mut Cpu,
+        _env: &mut Env,
+    ) -> Result<Flow, Stop> {
+        match self {
+            Stops::Err => Err(Stop::Fault(Fault::Err)),
+            Stops::Return => {
+                let result = cpu.one_uint()?;
+                cpu.set_only(Value::Uint(result));
+                Ok(Flow::End)
+            }
+            Stops::Assert => {
+                if cpu.one_uint()? == 0 {
+                    return Err(Stop::Fault(Fault::Assert));
+                }
+                cpu.drop_top(1);
+                Ok(Flow::Next)
+            }
+        }
     }
 }

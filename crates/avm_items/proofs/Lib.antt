@@ -7,3 +7,6 @@ pub mod Passes
 pub mod CallBack
 pub mod CallSpelled
 pub mod RulesKept
+pub mod InPlace
+pub mod CallRead
+pub mod Appending

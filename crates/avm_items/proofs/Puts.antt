@@ -124,7 +124,7 @@ is_its_items l m o p same =
 
 -- ---- the other items
 
-item_total : IsTotalOrder item_cmp
+pub item_total : IsTotalOrder item_cmp
 item_total = on_total sort_key nat_list_cmp_total
 
 pub differ : (x y : Item) → is_eq (item_cmp y x) ≡ false → y ≡ x → ⊥
@@ -251,7 +251,7 @@ keys_same (item.Local who a) (item.Local other b) e =
     λ i. item.Local (account i) (both.1 i)
 keys_same x y e = absurd (omega (arith, (heads e).0))
 
-item_same : (x y : Item) → item_cmp x y ≡ Equal → x ≡ y
+pub item_same : (x y : Item) → item_cmp x y ≡ Equal → x ≡ y
 item_same x y e = keys_same x y (byte_same (sort_key x) (sort_key y) e)
 
 -- a new row keeps the keys of its application

@@ -1,5 +1,5 @@
 -- Items in order, finite maps from items to values, and what their values say.
-use Rattle.std.specs.Prelude.{ℕ, List, [], ◌∷◌, ◌++◌, Option, Some, None}
+use Rattle.std.specs.Prelude.{ℕ, ◌==◌, Bool, false, List, [], ◌∷◌, ◌++◌, Option, Some, None}
 use Rattle.std.specs.declared.cmp.Ordering.{Ordering}
 use Rattle.std.specs.List.Sorted.{IsStrictlySortedBy}
 use Rattle.std.specs.Map.{lookup, keys_of}
@@ -63,6 +63,22 @@ or_else None other = other
 abbrev pub over : Known → Known → Known
 over writes reads x = or_else (writes x) (reads x)
 
+-- the counts and the keys of an application's global state
+abbrev pub is_global_of : ℕ → Item → Bool
+is_global_of id (item.Counts app) = app == id
+is_global_of id (item.Key app key) = app == id
+is_global_of id _ = false
+
+-- a value whose local state is changed; any other stays
+abbrev pub with_state : (Entries → Entries) → ItemValue → ItemValue
+with_state change (value.Local state) = value.Local (change state)
+with_state change v = v
+
+-- items where the local state that an item has is changed
+abbrev pub with_state_changed : (Entries → Entries) → ItemMap → Item → Option ItemValue → ItemMap
+with_state_changed change items x (Some v) = with_item items x (with_state change v)
+with_state_changed change items x None = items
+
 -- ---- what a value says of an item of its kind; any other says nothing
 
 abbrev pub next_id_in : ItemValue → ℕ
@@ -84,6 +100,11 @@ entry_in _ = None
 abbrev pub local_state_in : ItemValue → Option Entries
 local_state_in (value.Local state) = Some state
 local_state_in _ = None
+
+-- the local state that an item has, if it is known
+abbrev pub state_of : Option ItemValue → Option Entries
+state_of (Some v) = local_state_in v
+state_of None = None
 
 -- the value of a key's item
 abbrev pub key_value : Option Value → ItemValue

@@ -4,17 +4,20 @@ ghost use Rattle.std.specs.Prelude.{◌≡◌, [], IfErr, IfOk};
 ghost use Rattle.std.specs.Arc.{arc_value};
 ghost use Rattle.std.specs.Option.{option_copied};
 ghost use Rattle.avm_items.specs.CallFields.{new_keys};
-ghost use Rattle.avm_items.specs.Environments.{known_to};
-ghost use Rattle.avm_items.specs.Items.{with_item};
+ghost use Rattle.avm_ledger.specs.Entries.{with_entry, without_entry};
+ghost use Rattle.avm_items.specs.Environments.{known_to, with_state_written};
+ghost use Rattle.avm_items.specs.Items.{state_of, with_item};
+ghost use Rattle.avm_items.specs.declared.item.Item.TheVariants.{Local};
 
 use crate::call_data::CallData;
 use crate::item::Item;
 use crate::item_map::ItemMap;
 use crate::item_value::ItemValue;
-use avm_ledger::Header;
+use avm_ledger::{Header, State};
 use std::alloc::{AllocError, Global};
 use std::marker::Model;
 use std::sync::Arc;
+use teal_value::{Address, StateKey, Value};
 
 /// What a call knows while its program runs: its fields, the block's header, the application that runs, the items that
 /// it was given, and those that it has written.
@@ -53,6 +56,26 @@ impl Env {
             current,
             reads: ItemMap::new(alloc),
             writes: ItemMap::new(alloc),
+            absent: ItemValue::Absent,
+        }
+    }
+
+    /// What a call knows that has read and written these items. It takes no memory.
+    pub fn from_items(
+        call: Arc<CallData>,
+        header: Header,
+        current: u64,
+        reads: ItemMap,
+        writes: ItemMap,
+    ) -> Env
+        ensures { result ≡ record { call = arc_value call; header = header; current = current; reads = reads; writes = writes } }
+    {
+        Env {
+            call,
+            header,
+            current,
+            reads,
+            writes,
             absent: ItemValue::Absent,
         }
     }
@@ -131,6 +154,57 @@ impl Env {
         ensures memory { IfErr result (λ _. self.new ≡ self.old) }
     {
         self.writes.insert(item, value)
+    }
+
+    /// A copy of the local state that an item has, if it is known.
+    fn copy_of_state(&self, item: &Item) -> Result<Option<State>, AllocError>
+        ensures { IfOk result (λ copy. copy ≡ state_of (known_to self.now item.now)) }
+    {
+        match self.value(item) {
+            Some(ItemValue::Local(state)) => Ok(Some(state.clone()?)),
+            _ => Ok(None),
+        }
+    }
+
+    /// Puts an entry into an account's local state of an application, if the state is known: into the one that the call has
+    /// written, in place; else into a copy, which it writes.
+    pub fn put_entry(
+        &mut self,
+        who: Address,
+        id: u64,
+        key: StateKey,
+        value: Value,
+    ) -> Result<(), AllocError>
+        ensures ok { IfOk result (λ _. self.new ≡ with_state_written (λ state. with_entry state key value) self.old (Local who id) (known_to self.old (Local who id))) }
+        ensures memory { IfErr result (λ _. self.new ≡ self.old) }
+    {
+        let item = Item::Local(who, id);
+        if self.writes.has_state(&item) {
+            return self.writes.put_entry(&item, key, value);
+        }
+        let Some(mut copy) = self.copy_of_state(&item)? else {
+            return Ok(());
+        };
+        copy.insert(key, value)?;
+        self.writes.insert(item, ItemValue::Local(copy))
+    }
+
+    /// Takes a key out of an account's local state of an application, if the state is known: out of the one that the call
+    /// has written, in place; else out of a copy, which it writes.
+    pub fn remove_entry(&mut self, who: Address, id: u64, key: &StateKey) -> Result<(), AllocError>
+        ensures ok { IfOk result (λ _. self.new ≡ with_state_written (λ state. without_entry state key.now) self.old (Local who id) (known_to self.old (Local who id))) }
+        ensures memory { IfErr result (λ _. self.new ≡ self.old) }
+    {
+        let item = Item::Local(who, id);
+        if self.writes.has_state(&item) {
+            self.writes.remove_entry(&item, key);
+            return Ok(());
+        }
+        let Some(mut copy) = self.copy_of_state(&item)? else {
+            return Ok(());
+        };
+        let _ = copy.remove(key);
+        self.writes.insert(item, ItemValue::Local(copy))
     }
 
     /// The items that the call was given and those that it has written.

@@ -6,7 +6,7 @@ ghost use Rattle.std.specs.Cmp.{partial_order_from_own_ties};
 ghost use Rattle.std.specs.Cmp.Lexicographic.{slice_cmp, pointwise};
 ghost use Rattle.std.specs.Cmp.Rules.{comparing};
 ghost use Rattle.std.specs.Ordering.{nat_cmp, on, as_partial_cmp};
-ghost use Rattle.avm_items.specs.Items.{kind_of, sort_key};
+ghost use Rattle.avm_items.specs.Items.{is_global_of, kind_of, sort_key};
 
 use std::cmp::Ordering;
 use teal_value::{Address, StateKey};
@@ -37,6 +37,16 @@ impl Item {
             Item::Counts(id) => Item::Counts(*id),
             Item::Key(id, key) => Item::Key(*id, key.copied()),
             Item::Local(who, id) => Item::Local(*who, *id),
+        }
+    }
+
+    /// Whether it is the counts or a key of an application's global state.
+    pub fn is_global_of(&self, id: u64) -> bool
+        ensures { result ≡ is_global_of id self.now }
+    {
+        match self {
+            Item::Counts(other) | Item::Key(other, _) => *other == id,
+            _ => false,
         }
     }
 

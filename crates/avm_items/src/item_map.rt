@@ -1,18 +1,24 @@
 //! Maps from items to their values.
 
-ghost use Rattle.std.specs.Prelude.{◌≡◌, [], IfErr, IfOk, length};
+ghost use Rattle.std.specs.Prelude.{◌≡◌, [], IfErr, IfOk, filter, is_some, length, not};
 ghost use Rattle.std.specs.Map.Iter.{GivesInOrder};
 ghost use Rattle.std.specs.Option.{option_copied};
 ghost use Rattle.avm_items.specs.declared.item.Item.{Item as ItemOf};
 ghost use Rattle.avm_items.specs.declared.item_value.ItemValue.{ItemValue as ValueOf};
-ghost use Rattle.avm_items.specs.Items.{IsInItemOrder, value_in, with_item};
+ghost use Rattle.avm_ledger.specs.Entries.{with_entry, without_entry};
+ghost use Rattle.avm_items.specs.Items.{IsInItemOrder, is_global_of, state_of, value_in, with_item, with_state_changed};
+ghost use Rattle.avm_items.specs.LedgerItems.{at, pruned, value_before};
+ghost use Rattle.avm_items.specs.SameValues.{is_same_value};
 
 use crate::item::Item;
 use crate::item_value::ItemValue;
+use crate::ledger_items::is_value_in;
+use avm_ledger::Ledger;
 use std::alloc::{AllocError, Global};
 use std::collections::BTreeMap;
 use std::collections::btree_map::IntoIter;
 use std::marker::Model;
+use teal_value::{StateKey, Value};
 
 /// The values of some items, which contracts see as the list of them by rising item.
 #[derive(Drop)]
@@ -52,6 +58,13 @@ impl ItemMap {
         self.values.get(item)
     }
 
+    /// Whether an item has a local state here.
+    pub fn has_state(&self, item: &Item) -> bool
+        ensures { result ≡ is_some (state_of (value_in self.now item.now)) }
+    {
+        matches!(self.values.get(item), Some(ItemValue::Local(_)))
+    }
+
     /// The items with their values, by rising item, without a copy.
     pub fn into_entries(self) -> IntoIter<Item, ItemValue>
         ensures rest { result ≡ self }
@@ -61,6 +74,39 @@ impl ItemMap {
         self.values.into_iter()
     }
 
+    /// Takes the items out whose values are those of before; what has no value in `before` was absent.
+    pub fn prune(&mut self, before: &ItemMap)
+        ensures { self.new ≡ pruned (value_before (value_in before.now)) self.old }
+    {
+        self.values
+            .retain(|item, value| !before.is_before(item, value));
+    }
+
+    /// Whether an item had this value; one without a value here was absent.
+    fn is_before(&self, item: &Item, value: &ItemValue) -> bool
+        ensures { result ≡ is_same_value (value_before (value_in self.now) item.now) value.now }
+    {
+        match self.get(item) {
+            Some(before) => before.is_same(value),
+            None => value.is_same(&ItemValue::Absent),
+        }
+    }
+
+    /// Takes the items out whose values are those of a ledger.
+    pub fn prune_by(&mut self, ledger: &Ledger)
+        ensures { self.new ≡ pruned (at ledger.now) self.old }
+    {
+        self.values
+            .retain(|item, value| !is_value_in(ledger, item, value));
+    }
+
+    /// Takes the counts and the keys of an application's global state out.
+    pub fn remove_global_state(&mut self, id: u64)
+        ensures { self.new ≡ filter (λ e. not (is_global_of id e.0)) self.old }
+    {
+        self.values.retain(|item, _value| !item.is_global_of(id));
+    }
+
     /// Gives an item a value, in place of the one that it may have had.
     pub fn insert(&mut self, item: Item, value: ItemValue) -> Result<(), AllocError>
         ensures ok { IfOk result (λ _. self.new ≡ with_item self.old item value) }
@@ -68,5 +114,27 @@ impl ItemMap {
     {
         self.values.insert(item, value)?;
         Ok(())
+    }
+
+    /// Gives a key of the local state that an item has here a value, in place. Where it has none, nothing changes. Only a
+    /// new key can be refused, as by [`avm_ledger::State::insert`].
+    pub fn put_entry(&mut self, item: &Item, key: StateKey, value: Value) -> Result<(), AllocError>
+        ensures ok { IfOk result (λ _. self.new ≡ with_state_changed (λ state. with_entry state key value) self.old item.now (value_in self.old item.now)) }
+        ensures memory { IfErr result (λ _. self.new ≡ self.old) }
+    {
+        let Some(found) = self.values.get_mut(item) else {
+            return Ok(());
+        };
+        found.put_entry(key, value)
+    }
+
+    /// Takes a key out of the local state that an item has here, in place. Where it has none, nothing changes.
+    pub fn remove_entry(&mut self, item: &Item, key: &StateKey)
+        ensures { self.new ≡ with_state_changed (λ state. without_entry state key.now) self.old item.now (value_in self.old item.now) }
+    {
+        let Some(found) = self.values.get_mut(item) else {
+            return;
+        };
+        found.remove_entry(key);
     }
 }

@@ -1,11 +1,13 @@
 //! Values of items.
 
-ghost use Rattle.std.specs.Prelude.{◌≡◌, ◌↔◌, IfOk, IsTrue};
+ghost use Rattle.std.specs.Prelude.{◌≡◌, ◌↔◌, IfErr, IfOk, IsTrue};
+ghost use Rattle.avm_ledger.specs.Entries.{with_entry, without_entry};
+ghost use Rattle.avm_items.specs.Items.{with_state};
 ghost use Rattle.avm_items.specs.SameValues.{is_same_application, is_same_schema, is_same_value};
 
 use avm_ledger::{Application, Schema, State};
 use std::alloc::AllocError;
-use teal_value::Value;
+use teal_value::{StateKey, Value};
 
 /// The value of an item. A value of another kind than its item's says as little as `Absent`.
 #[derive(Debug, Drop)]
@@ -20,14 +22,14 @@ pub enum ItemValue {
 }
 
 /// Whether two schemas are the same.
-fn is_same_schema(schema: Schema, other: Schema) -> bool
+pub(crate) fn is_same_schema(schema: Schema, other: Schema) -> bool
     ensures { result ≡ is_same_schema schema other }
 {
     schema.uints == other.uints && schema.bytes == other.bytes
 }
 
 /// Whether two applications are the same.
-fn is_same_application(app: &Application, other: &Application) -> bool
+pub(crate) fn is_same_application(app: &Application, other: &Application) -> bool
     ensures { result ≡ is_same_application app.now other.now }
 {
     app.creator.0 == other.creator.0
@@ -67,6 +69,27 @@ impl ItemValue {
             (ItemValue::Key(value), ItemValue::Key(other)) => value == other,
             (ItemValue::Local(state), ItemValue::Local(other)) => state == other,
             _ => false,
+        }
+    }
+
+    /// Puts an entry into a local state, in place. Any other value stays. Only a new key can be refused, as by
+    /// [`State::insert`].
+    pub(crate) fn put_entry(&mut self, key: StateKey, value: Value) -> Result<(), AllocError>
+        ensures ok { IfOk result (λ _. self.new ≡ with_state (λ state. with_entry state key value) self.old) }
+        ensures memory { IfErr result (λ _. self.new ≡ self.old) }
+    {
+        if let ItemValue::Local(state) = self {
+            state.insert(key, value)?;
+        }
+        Ok(())
+    }
+
+    /// Takes a key out of a local state, in place. Any other value stays.
+    pub(crate) fn remove_entry(&mut self, key: &StateKey)
+        ensures { self.new ≡ with_state (λ state. without_entry state key.now) self.old }
+    {
+        if let ItemValue::Local(state) = self {
+            let _ = state.remove(key);
         }
     }
 }

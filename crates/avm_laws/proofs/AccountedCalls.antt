@@ -13,7 +13,7 @@ use Rattle.avm_items.specs.declared.item.Item.TheVariants as item
 use Rattle.avm_items.specs.declared.item_value.ItemValue.{ItemValue}
 use Rattle.avm_items.specs.declared.item_value.ItemValue.TheVariants as value
 use Rattle.avm_items.specs.CallFields.{creates, clears, new_keys}
-use Rattle.avm_items.specs.Items.{ItemMap, value_in, with_item, application_in, local_state_in}
+use Rattle.avm_items.specs.Items.{ItemMap, value_in, with_item, application_in, local_state_in, is_global_of}
 use Rattle.avm_items.specs.LedgerItems.{at, row_value, counts_value}
 use Rattle.avm_items.specs.Asks.{Gives, and_then}
 use Rattle.avm_items.specs.Acts.{Act, done, on_ok, test, ◌>>=◌}
@@ -27,7 +27,7 @@ use Rattle.avm_call.specs.declared.outcome.Outcome.{Outcome}
 use Rattle.avm_call.specs.declared.outcome.Outcome.TheVariants as outcome
 use Rattle.avm_call.specs.Runs.{program_result}
 use Rattle.avm_call.specs.Calls.{CallResult, Target, created, new_target, called_target, target, sender_item, is_opted_in, opt_in_test, admitted, creation, prepared, execution, deleted, updated, cleared, ending, runs_on, goes_on, call_result}
-use Rattle.avm_laws.proofs.FollowedCalls.{OnTarget, is_global_of, kept_value, kept_only, old_fresh, new_fresh}
+use Rattle.avm_laws.proofs.FollowedCalls.{OnTarget, kept_value, kept_only, old_fresh, new_fresh}
 use Rattle.avm_laws.proofs.Accounted.{If, if-then, Accounted, accounted_with, none_accounted, result_accounted}
 
 -- ---- before the program

@@ -23,7 +23,7 @@ use Rattle.avm_items.specs.declared.item.Item.TheVariants as item
 use Rattle.avm_items.specs.declared.item_value.ItemValue.{ItemValue}
 use Rattle.avm_items.specs.declared.item_value.ItemValue.TheVariants as value
 use Rattle.avm_items.specs.CallFields.{creates, clears, new_keys}
-use Rattle.avm_items.specs.Items.{ItemMap, Known, IsInItemOrder, item_cmp, value_in, with_item, application_in, local_state_in}
+use Rattle.avm_items.specs.Items.{ItemMap, Known, IsInItemOrder, is_global_of, item_cmp, value_in, with_item, application_in, local_state_in}
 use Rattle.avm_items.specs.LedgerItems.{at, put_one, row_value, entry_value, is_of_gone}
 use Rattle.avm_items.specs.Asks.{Gives, and_then}
 use Rattle.avm_items.specs.Acts.{Act, done, on_ok, test, ◌>>=◌}

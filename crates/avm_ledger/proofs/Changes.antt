@@ -47,7 +47,7 @@ account_same x y e =
 pub set_application : (l : Ledger) (id : ℕ) (app : StoredApplication) → application_at (with_application l id app) id ≡ Some app
 set_application l id app = lookup-inserted nat_cmp_total id app l.applications
 
-found_is : {A : Type 0} {a b : A} → Some a ≡ Some b → a ≡ b
+pub found_is : {A : Type 0} {a b : A} → Some a ≡ Some b → a ≡ b
 found_is e = cc
 
 state_in_order : (l : Ledger) (id : ℕ) (app : StoredApplication) → IsInOrder l → IsInKeyOrder app.state
@@ -66,7 +66,7 @@ with_application_in_order l id app o s = record {
   local_states = o.local_states;
 }
 
-no_application : {A : Type 0} {a : A} {P : Type 0} → None ≡ Some a → P
+pub no_application : {A : Type 0} {a : A} {P : Type 0} → None ≡ Some a → P
 no_application e = absurd cc
 
 state_without : (l : Ledger) (id : ℕ) → IsInOrder l

@@ -32,18 +32,18 @@ use Rattle.avm_ledger.proofs.FieldsFit.{u32_fits, u64_fits, address_fits}
 use Rattle.avm_ledger.proofs.LedgerSpelled.{key_spelled, value_spelled, entries_spelled, state_spelled, limited_schema_spelled, program_spelled, stored_spelled, id_spelled, applications_spelled, account_spelled, local_id_spelled, local_states_spelled, next_id_spelled, and_first, if_kept, at_end}
 
 -- a field that keeps its rule
-rule_kept : {A : Type 0} (rule : A × List ℕ → Bool) (x y : A × List ℕ) → tested (rule x) x ≡ Ok y → (rule y ≡ true) × (x ≡ y)
+pub rule_kept : {A : Type 0} (rule : A × List ℕ → Bool) (x y : A × List ℕ) → tested (rule x) x ≡ Ok y → (rule y ≡ true) × (x ≡ y)
 rule_kept rule x y e = at_test (rule x) refl e
   where
     at_test : (b : Bool) → rule x ≡ b → tested b x ≡ Ok y → (rule y ≡ true) × (x ≡ y)
     at_test true test e = let same : x ≡ y = same_value _ _ e in (subst (λ z. rule z ≡ true) same test, same)
     at_test false test e = absurd cc
 
-and_second : (a b : Bool) → (a && b) ≡ true → b ≡ true
+pub and_second : (a b : Bool) → (a && b) ≡ true → b ≡ true
 and_second true b e = e
 and_second false b e = absurd cc
 
-less : (o : Ordering) → is_lt o ≡ true → o ≡ Less
+pub less : (o : Ordering) → is_lt o ≡ true → o ≡ Less
 less Less e = refl
 less Equal e = absurd cc
 less Greater e = absurd cc
@@ -151,7 +151,7 @@ schema_kept most bytes x e =
 program_kept : (bytes : List ℕ) (x : List ℕ × List ℕ) → program_at bytes ≡ Ok x → is_ok (checked x.0) ≡ true
 program_kept bytes x e = from (string_at Truncated bytes) _ x e (λ p ep e1. (rule_kept (λ z. is_ok (checked z.0)) p x e1).0)
 
-id_kept : (before next : ℕ) (bytes : List ℕ) (x : ℕ × List ℕ) → id_between before next bytes ≡ Ok x → (before < x.0) × (x.0 < next)
+pub id_kept : (before next : ℕ) (bytes : List ℕ) (x : ℕ × List ℕ) → id_between before next bytes ≡ Ok x → (before < x.0) × (x.0 < next)
 id_kept before next bytes x e =
     from (number_at Truncated w64 bytes) _ x e (λ i ei e1.
     let rule = (rule_kept (λ z. ltb before z.0 && ltb z.0 next) i x e1).0 in
@@ -189,7 +189,7 @@ record AreApplications (before next : ℕ) (apps : List (ℕ × StoredApplicatio
   rising : IsStrictlySortedBy nat_cmp (keys_of apps)
   each : All (IsApplicationBelow next) apps
 
-nat_lower : (a b : ℕ) → a < b → nat_cmp a b ≡ Less
+pub nat_lower : (a b : ℕ) → a < b → nat_cmp a b ≡ Less
 nat_lower a b lt = let test : ltb a b ≡ true = lt-ltb a b lt in rw test refl
 
 applications_kept : (n before next : ℕ) (bytes : List ℕ) (x : List (ℕ × StoredApplication) × List ℕ) → AllBytes bytes → applications_at n before next bytes ≡ Ok x → AreApplications before next x.0

@@ -8,3 +8,9 @@ pub mod FieldsFit
 pub mod LedgerBack
 pub mod LedgerSpelled
 pub mod LedgerKept
+pub mod RisingReading
+pub mod EntriesReading
+pub mod ApplicationsReading
+pub mod LocalStatesReading
+pub mod LedgerRead
+pub mod ManyReading

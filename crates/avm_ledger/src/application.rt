@@ -4,8 +4,9 @@ ghost use Rattle.std.specs.Prelude.{◌≡◌, IfOk};
 
 use crate::schema::Schema;
 use crate::state::State;
+use crate::stored_program::StoredProgram;
 use std::alloc::AllocError;
-use teal_value::{Address, ByteString};
+use teal_value::Address;
 
 /// An application, without its global state.
 #[derive(Debug, Drop)]
@@ -13,9 +14,9 @@ pub struct Application {
     /// The account that created it.
     pub creator: Address,
     /// The program of every call but one that clears.
-    pub approval: ByteString,
+    pub approval: StoredProgram,
     /// The clear state program.
-    pub clear: ByteString,
+    pub clear: StoredProgram,
     /// The limit on its global state.
     pub global_schema: Schema,
     /// The limit on each of its local states.
@@ -23,7 +24,7 @@ pub struct Application {
 }
 
 impl Application {
-    /// A copy of the application, in memory of its own.
+    /// The same application. It shares the programs.
     pub fn clone(&self) -> Result<Application, AllocError>
         ensures { IfOk result (λ copy. copy ≡ self.now) }
     {

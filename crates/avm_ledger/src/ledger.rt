@@ -1,21 +1,27 @@
 //! Ledgers.
 
-ghost use Rattle.std.specs.Prelude.{◌≡◌, None, IfErr, IfOk, IsSome};
+ghost use Rattle.std.specs.Prelude.{◌≡◌, ℕ, length, None, IfErr, IfOk, IsSome};
+ghost use Rattle.std.specs.Map.Iter.{ShowsInOrder, deref_pair};
 ghost use Rattle.std.specs.Option.{option_copied, option_map};
 ghost use Rattle.teal_value.specs.Answer.{Gives};
-ghost use Rattle.avm_ledger.specs.Entries.{with_entry, without_entry};
+ghost use Rattle.teal_value.specs.declared.address.Address.{Address};
+ghost use Rattle.avm_ledger.specs.declared.application.StoredApplication.{StoredApplication};
+ghost use Rattle.avm_ledger.specs.Entries.{Entries, with_entry, without_entry};
 ghost use Rattle.avm_ledger.specs.Ledgers.{IsInOrder, application_at, creation, empty_ledger, global_value, local_state_at, with_application, with_local_state, with_row, with_state, without_application, without_local_state};
 
 use crate::application::{Application, StoredApplication};
 use crate::ids_end::IdsEnd;
+use crate::ledger_reading::Parts;
 use crate::schema::Schema;
 use crate::state::State;
+use crate::stored_program::StoredProgram;
 use std::alloc::{AllocError, Global};
 use std::collections::BTreeMap;
+use std::collections::btree_map::Iter;
 use std::marker::Model;
 use std::mem;
 use teal_check::Program;
-use teal_value::{Address, ByteString, Failure, StateKey, Value};
+use teal_value::{Address, Failure, StateKey, Value};
 
 /// A ledger: applications with their global states, the local states of accounts, and the id of the next application.
 /// What it finds it finds in logarithmic time.
@@ -48,6 +54,18 @@ impl Ledger {
         }
     }
 
+    // The ledger of these parts.
+    pub(crate) fn from_parts(parts: Parts) -> Ledger
+        requires { IsInOrder (record { next_id = parts.next_id; applications = parts.applications.entries; local_states = parts.local_states.entries }) }
+        ensures { result ≡ record { next_id = parts.next_id; applications = parts.applications.entries; local_states = parts.local_states.entries } }
+    {
+        Ledger {
+            next_id: parts.next_id,
+            applications: parts.applications,
+            local_states: parts.local_states,
+        }
+    }
+
     /// Adds an application with an empty global state, and answers its id, which is the next one.
     ///
     /// Refused is a creation where the next id is 2^64 - 1.
@@ -75,8 +93,8 @@ impl Ledger {
         }
         let row = Application {
             creator,
-            approval: ByteString::from_slice(alloc, approval.bytes())?,
-            clear: ByteString::from_slice(alloc, clear.bytes())?,
+            approval: StoredProgram::new(approval.clone()?),
+            clear: StoredProgram::new(clear.clone()?),
             global_schema,
             local_schema,
         };
@@ -93,6 +111,36 @@ impl Ledger {
         ensures order { IsInOrder self.now }
     {
         self.next_id
+    }
+
+    /// How many applications there are.
+    pub fn application_count(&self) -> usize
+        ensures { result ≡ length self.now.applications }
+    {
+        self.applications.len()
+    }
+
+    /// The applications with their global states, by rising id.
+    pub fn applications(&self) -> Iter<'_, u64, StoredApplication>
+        ensures rest { result ≡ self.now.applications }
+        ensures runs { ShowsInOrder (deref_pair {K = ℕ} {X = StoredApplication}) }
+    {
+        self.applications.iter()
+    }
+
+    /// How many local states there are.
+    pub fn local_state_count(&self) -> usize
+        ensures { result ≡ length self.now.local_states }
+    {
+        self.local_states.len()
+    }
+
+    /// The local states by rising account and application.
+    pub fn local_states(&self) -> Iter<'_, (Address, u64), State>
+        ensures rest { result ≡ self.now.local_states }
+        ensures runs { ShowsInOrder (deref_pair {K = Address × ℕ} {X = Entries}) }
+    {
+        self.local_states.iter()
     }
 
     /// An application, without its global state.

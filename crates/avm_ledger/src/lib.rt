@@ -4,19 +4,27 @@
 #![tactic(auto)]
 
 mod application;
+mod codec;
+mod fields;
 mod header;
 mod ids_end;
 pub mod laws;
 mod ledger;
 mod ledger_fault;
+mod ledger_reading;
 pub mod reading_laws;
 mod schema;
+pub mod spelling;
 mod state;
+mod stored_program;
+mod state_reading;
 
 pub use application::{Application, StoredApplication};
+pub use fields::Fields;
 pub use header::{Header, Profile};
 pub use ids_end::IdsEnd;
 pub use ledger::Ledger;
 pub use ledger_fault::{LedgerError, LedgerFault};
 pub use schema::Schema;
 pub use state::State;
+pub use stored_program::StoredProgram;

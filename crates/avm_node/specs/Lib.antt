@@ -6,5 +6,3 @@ pub mod Refusals
 pub mod Programs
 pub mod Answers
 pub mod Shown
-pub mod Plain
-pub mod PlainRows

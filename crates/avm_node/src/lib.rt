@@ -1,8 +1,7 @@
 //! What the program `avm` answers: a command's text and exit status, from the words of its command line and its input.
 //!
-//! `specs/Answers.antt` says what each command answers, `specs/CommandLine.antt` which words are which command, and
-//! `specs/Plain.antt` which programs ask nothing of a ledger. Inputs of lines of digits are read as
-//! `specs/DigitLines.antt` says.
+//! `specs/Answers.antt` says what each command answers, and `specs/CommandLine.antt` which words are which command. Inputs
+//! of lines of digits are read as `specs/DigitLines.antt` says.
 #![tactic(auto)]
 
 mod asm;
@@ -11,10 +10,8 @@ mod commands;
 mod digit_lines;
 mod input;
 mod output;
-mod plain;
 mod programs;
 mod refusal;
 
 pub use command_line::{NodeCommand, words_of_commands};
 pub use commands::answer;
-pub use plain::plain_run;

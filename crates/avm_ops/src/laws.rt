@@ -3,7 +3,7 @@
 ghost use Rattle.avm_ops.specs.Steps.{AsksLittle};
 ghost use Rattle.avm_ops.specs.TakenOperands.{Underflows, TestsTypes};
 
-/// An instruction asks for at most three items, and a run goes on behind it.
+/// An instruction asks for at most three items, and a run goes on behind it; constants change at a block alone.
 pub fn asks_little()
     ensures { AsksLittle }
 {}

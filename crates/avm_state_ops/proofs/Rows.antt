@@ -1,5 +1,5 @@
 -- Rows in parts: what an instruction answers once its operands and the items that it asks for first are known.
-use Rattle.std.proofs.Common.{◌≡◌, ◌∙◌, ◌||◌, drop, ℕ, Bool, true, false, nat_le, List, length, Option, Some, None, Result, Ok, Err, sym, ap, subst}
+use Rattle.std.proofs.Common.{◌≡◌, ◌∙◌, ◌||◌, drop, ℕ, Bool, true, false, nat_le, List, length, Option, Some, None, Result, Ok, Err, refl, sym, ap, subst}
 use Rattle.std.specs.Result.{IsErrAnd}
 use Rattle.teal_value.specs.declared.address.Address.{Address}
 use Rattle.teal_value.specs.declared.value.Value.{Value}
@@ -16,11 +16,11 @@ use Rattle.avm_items.specs.declared.item.Item.TheVariants as item
 use Rattle.avm_items.specs.declared.item_value.ItemValue.{ItemValue}
 use Rattle.avm_items.specs.declared.item_value.ItemValue.TheVariants as value
 use Rattle.avm_items.specs.CallFields.{account}
-use Rattle.avm_items.specs.Asks.{Answer, and_then, answer_at, answer_from}
+use Rattle.avm_items.specs.Asks.{Answer, Gives, and_then, answer_at, answer_from}
 use Rattle.avm_items.specs.Acts.{Act, on_ok, test, done, found, reads}
-use Rattle.avm_items.specs.Items.{Known, application_in, with_item}
+use Rattle.avm_items.specs.Items.{Known, application_in, local_state_in, with_item}
 use Rattle.avm_items.specs.Locality.{then}
-use Rattle.avm_items.specs.Environments.{Environment, known_to}
+use Rattle.avm_items.specs.Environments.{Environment, known_to, with_state_written}
 use Rattle.avm_items.proofs.Questions.{answer_from-and_then}
 use Rattle.avm_cpu.specs.declared.flow.Flow.{Flow}
 use Rattle.avm_cpu.specs.declared.flow.Flow.TheVariants as flow
@@ -28,11 +28,11 @@ use Rattle.avm_cpu.specs.Machine.{Machine, with_stack}
 use Rattle.avm_cpu.specs.Operands.{one_bytes, bytes_and_value, uint_bytes_and_value}
 use Rattle.avm_ops.specs.declared.op.Stop.{Stop}
 use Rattle.avm_ops.specs.declared.op.Stop.TheVariants as stop
-use Rattle.avm_ops.specs.Frame.{After, Stepped, there}
+use Rattle.avm_ops.specs.Frame.{After, Stepped, must, there}
 use Rattle.avm_ops.specs.Effect.{effect}
 use Rattle.avm_ops.specs.Objects.{Does, context_of, known_effect}
 use Rattle.avm_ops.specs.States.{application, counts_written, global_counts, global_delete_of, global_entry, global_limit, global_put_over, key_written, leaves, local_limit, local_state, may_put, schema_in, the_local_state, value_length}
-use Rattle.avm_state_ops.specs.Parts.{Answers}
+use Rattle.avm_state_ops.specs.Parts.{Answers, schema_test}
 
 -- what follows a part whose value is known
 pub then_answer : {A B : Type 0} (k : Known) (t : Act Fault A) (f : A → Act Fault B) (a : A) → answer_from k t ≡ Ok (Ok a) → answer_from k (and_then t (on_ok f)) ≡ answer_from k (f a)
@@ -98,14 +98,18 @@ put_over_schema m e key v old n row app differs counts current there_row out =
     ∙ then_answer k (global_limit c) (tested n) (schema_in (λ a. a.global_schema) row) limit_is
     ∙ ap (λ b. answer_from k (and_then (test b fault.Schema) (on_ok (λ _. put (counts_after old (Some v) n))))) out
 
+test_is : (b : Bool) (f : Fault) → test b f ≡ Gives (must b f)
+test_is true f = refl
+test_is false f = refl
+
 -- a put into a local state, up to the test of the schema
 pub local_put_row : (m : Machine) (e : Environment) (i : Immediates) (index : ℕ) (key : List ℕ) (v : Value) (who : Address) (state : Entries) (row : Option Application) (app : ℕ)
     → uint_bytes_and_value m.stack ≡ Ok (index, key, v) → there (account e.call index) fault.NoAccount ≡ Ok who → app ≡ e.current
     → answer_from (known_to e) (local_state who app) ≡ Ok (Ok (Some state)) → nat_le (length key) 64 ≡ true → nat_le (value_length v) 64 ≡ true
     → answer_from (known_to e) (application app) ≡ Ok (Ok row)
-    → known_effect m e op.AppLocalPut i ≡ answer_from (known_to e) (and_then
-    (test (keeps_kind (value_of_key state key) (Some v) || is_within (counts_in (with_entry state key v)) (schema_in (λ a. a.local_schema) row)) fault.Schema)
-    (on_ok (λ _. done (leaves (context_of m e) 3 (with_item e.writes (item.Local who e.current) (value.Local (with_entry state key v)))))))
+    → known_effect m e op.AppLocalPut i ≡ answer_from (known_to e) (on_ok
+    (λ _. done (leaves (context_of m e) 3 (with_item e.writes (item.Local who e.current) (value.Local (with_entry state key v)))))
+    (schema_test state key v (schema_in (λ a. a.local_schema) row)))
 unfolding effect
 local_put_row m e i index key v who state row app operands account_is current state_is short small row_is =
     let c = context_of m e in
@@ -123,22 +127,27 @@ local_put_row m e i index key v who state row app operands account_is current st
     ∙ then_answer k (the_local_state who e.current) (from_state who key v) state opted
     ∙ ap (λ t. answer_from k (and_then t (on_ok (λ _. and_then (local_limit c) (on_ok (put who key v state)))))) (may_put_passes key v short small)
     ∙ then_answer k (local_limit c) (put who key v state) (schema_in (λ a. a.local_schema) row) limit_is
+    ∙ ap (λ t. answer_from k (and_then t (on_ok (λ _. done (leaves c 3 (with_item e.writes (item.Local who e.current) (value.Local (with_entry state key v))))))))
+    (test_is (keeps_kind (value_of_key state key) (Some v) || is_within (counts_in (with_entry state key v)) (schema_in (λ a. a.local_schema) row)) fault.Schema)
 
--- the test of a put into a local state, by the parts that the code computes
-pub schema_test : (state new : Entries) (key k : List ℕ) (v : Value) (old : Option Value) (n limit limit' : Schema) (b : Bool) → old ≡ value_of_key state key → new ≡ with_entry state k v → k ≡ key
-    → n ≡ counts_in new → limit ≡ limit' → (keeps_kind old (Some v) || is_within n limit) ≡ b
-    → (keeps_kind (value_of_key state key) (Some v) || is_within (counts_in (with_entry state key v)) limit') ≡ b
-schema_test state new key k v old n limit limit' b old_is new_is key_is n_is limit_is out =
-    ap (λ o. keeps_kind o (Some v) || is_within (counts_in (with_entry state key v)) limit') (sym old_is)
-    ∙ ap (λ m. keeps_kind old (Some v) || is_within m limit') (sym (n_is ∙ ap counts_in (new_is ∙ ap (λ x. with_entry state x v) key_is)))
-    ∙ ap (λ l. keeps_kind old (Some v) || is_within n l) (sym limit_is) ∙ out
+-- the local state that is known
+pub known_state : (k : Known) (x : Item) (state : Entries) → answer_from {A = Result (Option Entries) Fault} k (reads local_state_in x) ≡ Ok (Ok (Some state)) → k x ≡ Some (value.Local state)
+known_state k x state e = at_value (k x) e
+  where
+    at_value : (o : Option ItemValue) → ◌≡◌ {A = Answer (Result (Option Entries) Fault)} (answer_at x (λ v. Ok (Ok (local_state_in v))) o) (Ok (Ok (Some state))) → o ≡ Some (value.Local state)
+    at_value (Some (value.Local s)) is = let same : s ≡ state = cc in ap (λ t. Some (value.Local t)) same
+    at_value (Some _) is = absurd cc
+    at_value None is = absurd cc
 
 -- what a put into a local state leaves, by the parts that the code computes
-pub local_put_left : (m m' : Machine) (e e' : Environment) (key k : List ℕ) (v : Value) (who : Address) (state new : Entries) (app : ℕ) → app ≡ e.current → new ≡ with_entry state k v → k ≡ key
-    → m' ≡ with_stack m (drop 3 m.stack) → e' ≡ record e { writes = with_item e.writes (item.Local who app) (value.Local new) }
+pub local_put_left : (m m' : Machine) (e e' : Environment) (key k : List ℕ) (v w : Value) (who : Address) (state : Entries) (app : ℕ) → app ≡ e.current → k ≡ key → w ≡ v
+    → answer_from (known_to e) (local_state who app) ≡ Ok (Ok (Some state)) → m' ≡ with_stack m (drop 3 m.stack)
+    → e' ≡ with_state_written (λ s. with_entry s k w) e (item.Local who app) (known_to e (item.Local who app))
     → leaves (context_of m e) 3 (with_item e.writes (item.Local who e.current) (value.Local (with_entry state key v))) ≡ record { flow = flow.Next; machine = m'; writes = e'.writes }
-local_put_left m m' e e' key k v who state new app current new_is key_is machine_is env_is =
+local_put_left m m' e e' key k v w who state app current key_is value_is state_is machine_is env_is =
+    let known = known_state (known_to e) (item.Local who app) state state_is in
     ap (λ a. leaves (context_of m e) 3 (with_item e.writes (item.Local who a) (value.Local (with_entry state key v)))) (sym current)
-    ∙ ap (λ s. leaves (context_of m e) 3 (with_item e.writes (item.Local who app) (value.Local s))) (sym (new_is ∙ ap (λ x. with_entry state x v) key_is))
-    ∙ ap (λ x. record { flow = flow.Next; machine = x; writes = with_item e.writes (item.Local who app) (value.Local new) }) (sym machine_is)
-    ∙ ap (λ (x : Environment). record { flow = flow.Next; machine = m'; writes = x.writes }) (sym env_is)
+    ∙ ap (λ x. leaves (context_of m e) 3 (with_item e.writes (item.Local who app) (value.Local (with_entry state x v)))) (sym key_is)
+    ∙ ap (λ x. leaves (context_of m e) 3 (with_item e.writes (item.Local who app) (value.Local (with_entry state k x)))) (sym value_is)
+    ∙ ap (λ x. record { flow = flow.Next; machine = x; writes = with_item e.writes (item.Local who app) (value.Local (with_entry state k w)) }) (sym machine_is)
+    ∙ ap (λ (x : Environment). record { flow = flow.Next; machine = m'; writes = x.writes }) (sym (env_is ∙ ap (with_state_written (λ s. with_entry s k w) e (item.Local who app)) known))

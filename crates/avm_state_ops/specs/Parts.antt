@@ -1,12 +1,15 @@
 -- What a part of an instruction answers: a value, a fault, or an item that isn't known.
-use Rattle.std.specs.Prelude.{◌≡◌, ℕ, List, Option, Some, None, Result, Ok, Err}
+use Rattle.std.specs.Prelude.{◌≡◌, ◌||◌, ℕ, List, Option, Some, None, Result, Ok, Err}
 use Rattle.teal_value.specs.declared.value.Value.{Value}
 use Rattle.teal_value.specs.declared.fault.Fault.{Fault}
+use Rattle.teal_value.specs.declared.fault.Fault.TheVariants as fault
 use Rattle.avm_items.specs.Asks.{Answer}
 use Rattle.avm_ops.specs.declared.op.Stop.{Stop}
 use Rattle.avm_ops.specs.declared.op.Stop.TheVariants as stop
 use Rattle.avm_ledger.specs.declared.schema.Schema.{Schema}
-use Rattle.avm_ops.specs.Frame.{Context, After}
+use Rattle.avm_ledger.specs.Entries.{Entries, value_of_key, with_entry}
+use Rattle.avm_ledger.specs.Schemas.{counts_in, is_within, keeps_kind}
+use Rattle.avm_ops.specs.Frame.{Context, After, must}
 use Rattle.avm_ops.specs.States.{leaves, key_written, counts_written}
 
 -- the part's answer is this one, where the value is seen so
@@ -25,3 +28,7 @@ after_put c key v (Some counts) = leaves c 2 (counts_written c counts (key_writt
 abbrev pub after_delete : Context → List ℕ → Option Schema → After
 after_delete c key None = leaves c 1 c.writes
 after_delete c key (Some counts) = leaves c 1 (counts_written c counts (key_written c key None c.writes))
+
+-- the last test of a put into a local state
+abbrev pub schema_test : Entries → List ℕ → Value → Schema → Result (Unit {0}) Fault
+schema_test state key v limit = must (keeps_kind (value_of_key state key) (Some v) || is_within (counts_in (with_entry state key v)) limit) fault.Schema

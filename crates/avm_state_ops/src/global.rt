@@ -1,7 +1,8 @@
 //! The instruction that pushes a field of the block, or of the application that runs.
 
-ghost use Rattle.std.specs.Prelude.{◌≡◌};
+ghost use Rattle.std.specs.Prelude.{◌≡◌, IfSome, IsSome};
 ghost use Rattle.teal_table.specs.declared.opcode.Opcode.TheVariants as op;
+ghost use Rattle.teal_table.specs.Table.{code_of};
 ghost use Rattle.avm_items.specs.Asks.{answer_from};
 ghost use Rattle.avm_items.specs.Environments.{known_to};
 ghost use Rattle.avm_cpu.specs.Machine.{Machine};
@@ -53,6 +54,20 @@ fn global_value(alloc: Global, env: &Env, field: GlobalField) -> Result<Value, S
             ItemValue::App(row) => Ok(bytes_value(alloc, &row.creator.0)?),
             _ => Ok(bytes_value(alloc, &ZERO_ADDRESS)?),
         },
+    }
+}
+
+impl GlobalOp {
+    /// The instruction, of its code.
+    #[tactic(auto, unfolding(teal_table::specs::Table::row_of))]
+    pub fn of(code: u8) -> Option<GlobalOp>
+        ensures some { IfSome result (λ _. code_of op.Global ≡ code) }
+        ensures all { code_of op.Global ≡ code → IsSome result }
+    {
+        match code {
+            0x32 => Some(GlobalOp),
+            _ => None,
+        }
     }
 }
 

@@ -1,9 +1,10 @@
 //! Instructions that read states.
 
-ghost use Rattle.std.specs.Prelude.{◌≡◌, ◌==◌, if◌then◌else◌, IfOk};
+ghost use Rattle.std.specs.Prelude.{◌≡◌, ◌==◌, if◌then◌else◌, IfOk, IfSome, IsSome};
 ghost use Rattle.std.specs.Option.{option_copied};
 ghost use Rattle.teal_value.specs.declared.fault.Fault.TheVariants.{NoForeign};
 ghost use Rattle.teal_table.specs.declared.opcode.Opcode.TheVariants as op;
+ghost use Rattle.teal_table.specs.Table.{code_of};
 ghost use Rattle.avm_items.specs.Asks.{answer_from};
 ghost use Rattle.avm_items.specs.Environments.{known_to};
 ghost use Rattle.avm_cpu.specs.Machine.{Machine};
@@ -88,6 +89,20 @@ fn foreign_application(env: &Env, offset: u64) -> Result<u64, Fault>
     }
 }
 
+impl AppOptedIn {
+    /// The instruction, of its code.
+    #[tactic(auto, unfolding(teal_table::specs::Table::row_of))]
+    pub fn of(code: u8) -> Option<AppOptedIn>
+        ensures some { IfSome result (λ _. code_of op.AppOptedIn ≡ code) }
+        ensures all { code_of op.AppOptedIn ≡ code → IsSome result }
+    {
+        match code {
+            0x61 => Some(AppOptedIn),
+            _ => None,
+        }
+    }
+}
+
 impl Op for AppOptedIn {
     ghost opcode = { λ _. op.AppOptedIn };
 
@@ -108,6 +123,20 @@ impl Op for AppOptedIn {
         let is_in = local_state(env, who, application_named(env, id))?.is_some();
         cpu.replace(2, flag(is_in));
         Ok(Flow::Next)
+    }
+}
+
+impl AppLocalGet {
+    /// The instruction, of its code.
+    #[tactic(auto, unfolding(teal_table::specs::Table::row_of))]
+    pub fn of(code: u8) -> Option<AppLocalGet>
+        ensures some { IfSome result (λ _. code_of op.AppLocalGet ≡ code) }
+        ensures all { code_of op.AppLocalGet ≡ code → IsSome result }
+    {
+        match code {
+            0x62 => Some(AppLocalGet),
+            _ => None,
+        }
     }
 }
 
@@ -134,6 +163,20 @@ impl Op for AppLocalGet {
         let value = or_zero(state.value_of(key))?;
         cpu.replace(2, value);
         Ok(Flow::Next)
+    }
+}
+
+impl AppLocalGetEx {
+    /// The instruction, of its code.
+    #[tactic(auto, unfolding(teal_table::specs::Table::row_of))]
+    pub fn of(code: u8) -> Option<AppLocalGetEx>
+        ensures some { IfSome result (λ _. code_of op.AppLocalGetEx ≡ code) }
+        ensures all { code_of op.AppLocalGetEx ≡ code → IsSome result }
+    {
+        match code {
+            0x63 => Some(AppLocalGetEx),
+            _ => None,
+        }
     }
 }
 
@@ -165,6 +208,20 @@ impl Op for AppLocalGetEx {
     }
 }
 
+impl AppGlobalGet {
+    /// The instruction, of its code.
+    #[tactic(auto, unfolding(teal_table::specs::Table::row_of))]
+    pub fn of(code: u8) -> Option<AppGlobalGet>
+        ensures some { IfSome result (λ _. code_of op.AppGlobalGet ≡ code) }
+        ensures all { code_of op.AppGlobalGet ≡ code → IsSome result }
+    {
+        match code {
+            0x64 => Some(AppGlobalGet),
+            _ => None,
+        }
+    }
+}
+
 impl Op for AppGlobalGet {
     ghost opcode = { λ _. op.AppGlobalGet };
 
@@ -184,6 +241,20 @@ impl Op for AppGlobalGet {
         let value = or_zero(global_entry(env, env.current(), key)?)?;
         cpu.replace(1, value);
         Ok(Flow::Next)
+    }
+}
+
+impl AppGlobalGetEx {
+    /// The instruction, of its code.
+    #[tactic(auto, unfolding(teal_table::specs::Table::row_of))]
+    pub fn of(code: u8) -> Option<AppGlobalGetEx>
+        ensures some { IfSome result (λ _. code_of op.AppGlobalGetEx ≡ code) }
+        ensures all { code_of op.AppGlobalGetEx ≡ code → IsSome result }
+    {
+        match code {
+            0x65 => Some(AppGlobalGetEx),
+            _ => None,
+        }
     }
 }
 

@@ -1,17 +1,16 @@
 //! Instructions that change states.
 
-ghost use Rattle.std.specs.Prelude.{◌≡◌, ◌||◌, ℕ, List, Some, false, true, IfOk, MatchOption, MatchResult};
+ghost use Rattle.std.specs.Prelude.{◌≡◌, ◌||◌, ℕ, List, Some, false, true, IfSome, IsSome, MatchOption, MatchResult};
 ghost use Rattle.std.specs.Option.{option_copied};
 ghost use Rattle.teal_table.specs.declared.opcode.Opcode.TheVariants as op;
-ghost use Rattle.avm_ledger.specs.Entries.{with_entry, without_entry};
+ghost use Rattle.teal_table.specs.Table.{code_of};
 ghost use Rattle.avm_ledger.specs.Schemas.{count_without, counts_after, is_within, keeps_kind};
-ghost use Rattle.teal_value.specs.declared.fault.Fault.TheVariants.{Schema as SchemaFault};
 ghost use Rattle.avm_items.specs.Asks.{answer_from};
 ghost use Rattle.avm_items.specs.Environments.{known_to};
 ghost use Rattle.avm_cpu.specs.Machine.{Machine};
 ghost use Rattle.avm_ops.specs.Objects.{context_of};
 ghost use Rattle.avm_ops.specs.States.{global_delete_of, global_put_over, schema_in, value_length};
-ghost use Rattle.avm_state_ops.specs.Parts.{Answers, after_delete, after_put};
+ghost use Rattle.avm_state_ops.specs.Parts.{Answers, after_delete, after_put, schema_test};
 
 use crate::fields::account;
 use crate::known::{application, global_counts, global_entry, local_state};
@@ -19,7 +18,7 @@ use avm_cpu::{Cpu, Flow};
 use avm_items::{Env, Item, ItemValue};
 use avm_ledger::{Application, Schema, State};
 use avm_ops::{Op, Stop};
-use std::alloc::{AllocError, Global};
+use std::alloc::Global;
 use teal_code::Instr;
 use teal_table::Opcode;
 use teal_value::{Fault, StateKey, Value};
@@ -120,13 +119,15 @@ fn counts_within(old: Option<&Value>, new: &Value, counts: Schema, limit: Schema
     }
 }
 
-/// Whether a put may leave such counts: they keep to the limit, or the value is of the old one's kind.
-fn test_schema(old: Option<&Value>, new: &Value, counts: Schema, limit: Schema) -> Result<(), Fault>
-    ensures { MatchResult result
-        (λ _. (keeps_kind (option_copied old.entry) (Some new.now) || is_within counts limit) ≡ true)
-        (λ fault. ((keeps_kind (option_copied old.entry) (Some new.now) || is_within counts limit) ≡ false) × (fault ≡ SchemaFault)) }
+/// Whether a value may be put under a key of a state: it is of the old one's kind, or the counts then keep to the limit.
+#[tactic(auto, using(avm_ledger::proofs::Counts::follow_puts))]
+fn test_schema(state: &State, key: &[u8], value: &Value, limit: Schema) -> Result<(), Fault>
+    ensures { result ≡ schema_test state.now key.now value.now limit }
 {
-    if keeps_kind(old, new) || (counts.uints <= limit.uints && counts.bytes <= limit.bytes) {
+    // A state is in order, as its length says.
+    let _count = state.len();
+    let old = state.value_of(key);
+    if keeps_kind(old, value) || counts_within(old, value, state.counts(), limit).is_some() {
         Ok(())
     } else {
         Err(Fault::Schema)
@@ -160,22 +161,18 @@ fn counts_of_delete(env: &Env, old: Option<&Value>) -> Result<Option<Schema>, St
     }
 }
 
-/// A copy of a state with a value at a key.
-fn with_entry(state: &State, key: StateKey, value: &Value) -> Result<State, AllocError>
-    ensures { IfOk result (λ copy. copy ≡ with_entry state.now key value.now) }
-{
-    let mut copy = state.clone()?;
-    copy.insert(key, value.clone()?)?;
-    Ok(copy)
-}
-
-/// A copy of a state without a key.
-fn without_entry(state: &State, key: StateKey) -> Result<State, AllocError>
-    ensures { IfOk result (λ copy. copy ≡ without_entry state.now key) }
-{
-    let mut copy = state.clone()?;
-    copy.remove(&key);
-    Ok(copy)
+impl AppLocalPut {
+    /// The instruction, of its code.
+    #[tactic(auto, unfolding(teal_table::specs::Table::row_of))]
+    pub fn of(code: u8) -> Option<AppLocalPut>
+        ensures some { IfSome result (λ _. code_of op.AppLocalPut ≡ code) }
+        ensures all { code_of op.AppLocalPut ≡ code → IsSome result }
+    {
+        match code {
+            0x66 => Some(AppLocalPut),
+            _ => None,
+        }
+    }
 }
 
 impl Op for AppLocalPut {
@@ -206,11 +203,25 @@ impl Op for AppLocalPut {
             return Err(Stop::Fault(Fault::TooLong));
         }
         let limit = local_limit(application(env, current)?);
-        let changed = with_entry(state, state_key, value)?;
-        test_schema(state.value_of(key), value, changed.counts(), limit)?;
-        env.write(Item::Local(who, current), ItemValue::Local(changed))?;
+        test_schema(state, key, value, limit)?;
+        let copy = value.clone()?;
+        env.put_entry(who, current, state_key, copy)?;
         cpu.drop_top(3);
         Ok(Flow::Next)
+    }
+}
+
+impl AppGlobalPut {
+    /// The instruction, of its code.
+    #[tactic(auto, unfolding(teal_table::specs::Table::row_of))]
+    pub fn of(code: u8) -> Option<AppGlobalPut>
+        ensures some { IfSome result (λ _. code_of op.AppGlobalPut ≡ code) }
+        ensures all { code_of op.AppGlobalPut ≡ code → IsSome result }
+    {
+        match code {
+            0x67 => Some(AppGlobalPut),
+            _ => None,
+        }
     }
 }
 
@@ -249,6 +260,20 @@ impl Op for AppGlobalPut {
     }
 }
 
+impl AppLocalDel {
+    /// The instruction, of its code.
+    #[tactic(auto, unfolding(teal_table::specs::Table::row_of))]
+    pub fn of(code: u8) -> Option<AppLocalDel>
+        ensures some { IfSome result (λ _. code_of op.AppLocalDel ≡ code) }
+        ensures all { code_of op.AppLocalDel ≡ code → IsSome result }
+    {
+        match code {
+            0x68 => Some(AppLocalDel),
+            _ => None,
+        }
+    }
+}
+
 impl Op for AppLocalDel {
     ghost opcode = { λ _. op.AppLocalDel };
 
@@ -272,12 +297,25 @@ impl Op for AppLocalDel {
         };
         if state.value_of(key).is_some() {
             if let Some(state_key) = StateKey::of(key) {
-                let changed = without_entry(state, state_key)?;
-                env.write(Item::Local(who, current), ItemValue::Local(changed))?;
+                env.remove_entry(who, current, &state_key)?;
             }
         }
         cpu.drop_top(2);
         Ok(Flow::Next)
+    }
+}
+
+impl AppGlobalDel {
+    /// The instruction, of its code.
+    #[tactic(auto, unfolding(teal_table::specs::Table::row_of))]
+    pub fn of(code: u8) -> Option<AppGlobalDel>
+        ensures some { IfSome result (λ _. code_of op.AppGlobalDel ≡ code) }
+        ensures all { code_of op.AppGlobalDel ≡ code → IsSome result }
+    {
+        match code {
+            0x69 => Some(AppGlobalDel),
+            _ => None,
+        }
     }
 }
 

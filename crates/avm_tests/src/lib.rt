@@ -2,16 +2,22 @@
 #![tactic(auto)]
 
 #[cfg(test)]
+mod calls;
+#[cfg(test)]
 mod checking;
 #[cfg(test)]
 mod commands;
 #[cfg(test)]
+mod ledger_bytes;
+#[cfg(test)]
 mod ledgers;
 #[cfg(test)]
-mod runs;
+mod objects;
 #[cfg(test)]
 mod small_sources;
 #[cfg(test)]
 mod sources;
 #[cfg(test)]
 mod streams;
+#[cfg(test)]
+mod texts;

@@ -1,9 +1,9 @@
-use Rattle.std.proofs.Common.{rules, ◌≡◌, true, false, nat_le, length, Ok, Err, sym, ap, subst, ◌∙◌}
+use Rattle.std.proofs.Common.{rules, ◌≡◌, true, nat_le, length, Ok, Err, sym, ap, subst, ◌∙◌}
 use Rattle.std.specs.Option.{option_copied}
 use Rattle.teal_value.specs.declared.fault.Fault.TheVariants as fault
 use Rattle.teal_table.specs.declared.opcode.Opcode.TheVariants as op
-use Rattle.avm_items.specs.Asks.{and_then, answer_from}
-use Rattle.avm_items.specs.Acts.{done, on_ok, test}
+use Rattle.avm_items.specs.Asks.{answer_from}
+use Rattle.avm_items.specs.Acts.{done, on_ok}
 use Rattle.avm_items.specs.CallFields.{account}
 use Rattle.avm_items.specs.declared.item.Item.TheVariants as item
 use Rattle.avm_items.specs.declared.item_value.ItemValue.TheVariants as value
@@ -14,7 +14,8 @@ use Rattle.avm_ops.specs.declared.op.Stop.TheVariants as stop
 use Rattle.avm_ops.specs.Frame.{there}
 use Rattle.avm_ops.specs.Objects.{context_of, known_effect}
 use Rattle.avm_ops.specs.States.{leaves, local_state, schema_in, value_length}
-use Rattle.avm_state_ops.proofs.Rows.{passed_on, local_put_left, local_put_row, schema_test}
+use Rattle.avm_state_ops.specs.Parts.{schema_test}
+use Rattle.avm_state_ops.proofs.Rows.{passed_on, local_put_left, local_put_row}
 use Rattle.avm_state_ops.proofs.writes.AppLocalPutOp.exec.Goals as goal
 
 -- The row up to its last test, and then the test.
@@ -33,12 +34,10 @@ returns-in_err-test_schema-clause-row c =
     let who_is : there (account e.call c.in_ok-index.index) fault.NoAccount ≡ Ok c.in_ok-who.who =
     subst (λ call. there (account call c.in_ok-index.index) fault.NoAccount ≡ Ok c.in_ok-who.who) c.call.ensures (sym c.in_ok-who.ensures) in
     let state_is = subst (λ o. answer_from (known_to e) (local_state c.in_ok-who.who app) ≡ Ok (Ok (option_copied o))) c.in-Some.is c.in_ok-state.ensures in
-    let out = schema_test state c.in_ok-changed.changed key c.in-Some-of.state_key v (option_copied c.value_of.result) c.counts.result c.local_limit-limit.result (schema_in (λ a. a.local_schema) row) false
-    c.value_of.ensures.value c.in_ok-changed.ensures c.in-Some-of.ensures.key c.counts.ensures c.local_limit-limit.ensures c.in_err-test_schema.ensures.0 in
+    let left = λ (u : Unit {0}). done (leaves (context_of m e) 3 (with_item e.writes (item.Local c.in_ok-who.who e.current) (value.Local (with_entry state key v)))) in
     passed_on c.from_residual-in_err-test_schema.result (stop.Fault c.in_err-test_schema.field-0.0) m e (known_effect m e op.AppLocalPut i) c.from_residual-in_err-test_schema.ensures.1
     (local_put_row m e i c.in_ok-index.index key v c.in_ok-who.who state row app c.in_ok-index.ensures who_is c.current-current.ensures state_is short small c.in_ok-application.ensures
-    ∙ ap (λ b. answer_from (known_to e) (and_then (test b fault.Schema) (on_ok (λ _. done (leaves (context_of m e) 3 (with_item e.writes (item.Local c.in_ok-who.who e.current) (value.Local (with_entry state key v)))))))) out
-    ∙ ap (λ f. Ok (Err f)) (sym c.in_err-test_schema.ensures.1))
+    ∙ ap (λ r. answer_from (known_to e) (on_ok left r)) (ap (schema_test state key v) (sym c.local_limit-limit.ensures) ∙ sym c.in_err-test_schema.ensures))
 
 pub returns-clause-row : goal.returns-clause-row
 returns-clause-row c =
@@ -55,8 +54,7 @@ returns-clause-row c =
     let who_is : there (account e.call c.in_ok-index.index) fault.NoAccount ≡ Ok c.in_ok-who.who =
     subst (λ call. there (account call c.in_ok-index.index) fault.NoAccount ≡ Ok c.in_ok-who.who) c.call.ensures (sym c.in_ok-who.ensures) in
     let state_is = subst (λ o. answer_from (known_to e) (local_state c.in_ok-who.who app) ≡ Ok (Ok (option_copied o))) c.in-Some.is c.in_ok-state.ensures in
-    let out = schema_test state c.in_ok-changed.changed key c.in-Some-of.state_key v (option_copied c.value_of.result) c.counts.result c.local_limit-limit.result (schema_in (λ a. a.local_schema) row) true
-    c.value_of.ensures.value c.in_ok-changed.ensures c.in-Some-of.ensures.key c.counts.ensures c.local_limit-limit.ensures c.in_ok-test_schema.ensures in
+    let left = λ (u : Unit {0}). done (leaves (context_of m e) 3 (with_item e.writes (item.Local c.in_ok-who.who e.current) (value.Local (with_entry state key v)))) in
     local_put_row m e i c.in_ok-index.index key v c.in_ok-who.who state row app c.in_ok-index.ensures who_is c.current-current.ensures state_is short small c.in_ok-application.ensures
-    ∙ ap (λ b. answer_from (known_to e) (and_then (test b fault.Schema) (on_ok (λ _. done (leaves (context_of m e) 3 (with_item e.writes (item.Local c.in_ok-who.who e.current) (value.Local (with_entry state key v)))))))) out
-    ∙ ap (λ x. Ok (Ok x)) (local_put_left m c.drop_top.new.self e c.write.new.self key c.in-Some-of.state_key v c.in_ok-who.who state c.in_ok-changed.changed app c.current-current.ensures c.in_ok-changed.ensures c.in-Some-of.ensures.key c.drop_top.ensures c.in_ok-write.ensures.ok)
+    ∙ ap (λ r. answer_from (known_to e) (on_ok left r)) (ap (schema_test state key v) (sym c.local_limit-limit.ensures) ∙ sym c.in_ok-test_schema.ensures)
+    ∙ ap (λ x. Ok (Ok x)) (local_put_left m c.drop_top.new.self e c.put_entry.new.self key c.in-Some-of.state_key v c.in_ok-copy.copy c.in_ok-who.who state app c.current-current.ensures c.in-Some-of.ensures.key c.in_ok-copy.ensures state_is c.drop_top.ensures c.in_ok-put_entry.ensures.ok)

@@ -1,0 +1,4 @@
+pub mod OutcomeBack
+pub mod BlockBack
+pub mod OutcomeSpelled
+pub mod BlockSpelled

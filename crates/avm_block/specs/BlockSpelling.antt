@@ -1,0 +1,28 @@
+-- The bytes of a block.
+use Rattle.std.specs.Prelude.{ℕ, List, [], ◌∷◌, ◌++◌}
+use Rattle.sha2.specs.Sha256.{sha256}
+use Rattle.avm_ledger.specs.declared.header.Profile.{Profile}
+use Rattle.avm_ledger.specs.declared.header.Profile.TheVariants as profile
+use Rattle.avm_ledger.specs.Spellings.{u32_bytes, u64_bytes, counted_bytes, header_bytes}
+use Rattle.avm_items.specs.CallSpelling.{call_bytes}
+use Rattle.avm_call.specs.OutcomeSpelling.{outcome_bytes}
+use Rattle.avm_block.specs.Blocks.{Entry, Block}
+
+-- AVMB
+abbrev pub magic : List ℕ
+magic = 0x41 ∷ 0x56 ∷ 0x4d ∷ 0x42 ∷ []
+
+-- the number of the format, and in format 2 the profile
+abbrev pub format_bytes : Profile → List ℕ
+format_bytes profile.Two = 1 ∷ []
+format_bytes profile.Three = 2 ∷ 3 ∷ []
+
+abbrev pub entry_bytes : Entry → List ℕ
+entry_bytes e = u64_bytes e.timestamp ++ call_bytes e.call ++ outcome_bytes e.outcome
+
+-- all up to the last digest
+abbrev pub body_bytes : Block → List ℕ
+body_bytes b = magic ++ format_bytes b.header.profile ++ b.base ++ header_bytes b.header ++ counted_bytes u32_bytes entry_bytes b.entries ++ b.after
+
+abbrev pub block_bytes : Block → List ℕ
+block_bytes b = body_bytes b ++ sha256 (body_bytes b)

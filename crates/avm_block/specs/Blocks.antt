@@ -1,0 +1,31 @@
+-- Blocks: calls in the order of their timestamps, how each ended, and the ledgers before and after them.
+use Rattle.std.specs.Prelude.{◌≡◌, ℕ, List, map}
+use Rattle.avm_ledger.specs.declared.header.Header.{Header}
+use Rattle.avm_ledger.specs.Ledgers.{Ledger}
+use Rattle.avm_ledger.specs.Spellings.{ledger_digest}
+use Rattle.avm_items.specs.declared.call_data.CallData.{CallData}
+use Rattle.avm_call.specs.declared.outcome.Outcome.{Outcome}
+use Rattle.avm_call.specs.Replay.{outcomes, replayed}
+
+pub record Entry : Type 0 where
+  pub timestamp : ℕ
+  pub call : CallData
+  pub outcome : Outcome
+
+pub record Block : Type 0 where
+  pub base : List ℕ
+  pub header : Header
+  pub entries : List Entry
+  pub after : List ℕ
+
+abbrev pub calls_of : Block → List CallData
+calls_of b = map (λ (e : Entry). e.call) b.entries
+
+abbrev pub outcomes_of : Block → List Outcome
+outcomes_of b = map (λ (e : Entry). e.outcome) b.entries
+
+-- Over the ledger before, the calls end as the block says, one after another, and lead to the ledger after.
+pub record Replays (l : Ledger) (b : Block) : Type 0 where
+  pub base : b.base ≡ ledger_digest l
+  pub outcomes : outcomes l b.header (calls_of b) ≡ outcomes_of b
+  pub after : b.after ≡ ledger_digest (replayed l b.header (calls_of b))

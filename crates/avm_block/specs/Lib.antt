@@ -1,0 +1,6 @@
+pub mod Blocks
+pub mod BlockSpelling
+pub mod OutcomeReader
+pub mod BlockReader
+pub mod BlockReading
+pub mod WorkedBlocks

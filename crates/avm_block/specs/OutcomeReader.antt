@@ -1,0 +1,61 @@
+-- Reading an outcome from bytes.
+use Rattle.std.specs.Prelude.{ℕ, ◌==◌, nat_le, if◌then◌else◌, List, [], ◌∷◌, Option, Some, None, Ok, Err}
+use Rattle.std.specs.Option.{ok_or}
+use Rattle.std.specs.Int.{w8, w16}
+use Rattle.teal_value.specs.Answer.{◌>>=◌}
+use Rattle.teal_value.specs.declared.fault.Fault.{Fault}
+use Rattle.teal_value.specs.declared.fault.Fault.TheVariants as fault
+use Rattle.avm_ledger.specs.FieldReader.{Front, number_at}
+use Rattle.avm_call.specs.declared.outcome.Why.{Why}
+use Rattle.avm_call.specs.declared.outcome.Why.TheVariants as why
+use Rattle.avm_call.specs.declared.outcome.Cause.{Cause}
+use Rattle.avm_call.specs.declared.outcome.Cause.TheVariants as cause
+use Rattle.avm_call.specs.declared.outcome.Outcome.{Outcome}
+use Rattle.avm_call.specs.declared.outcome.Outcome.TheVariants as outcome
+use Rattle.avm_call.specs.OutcomeSpelling.{fault_number, why_number}
+use Rattle.avm_block.specs.declared.block_fault.BlockFault.{BlockFault}
+use Rattle.avm_block.specs.declared.block_fault.BlockFault.TheVariants.{Truncated, Field}
+
+-- the value of a number among these
+abbrev pub numbered : {A : Type 0} → (A → ℕ) → ℕ → List A → Option A
+numbered number n [] = None
+numbered number n (x ∷ xs) = if number x == n then Some x else numbered number n xs
+
+abbrev pub faults : List Fault
+faults =
+    fault.Err ∷ fault.Underflow ∷ fault.WrongType ∷ fault.Compare ∷ fault.Overflow ∷ fault.Negative ∷ fault.DivZero ∷ fault.TooLong ∷ fault.Range
+    ∷ fault.BtoiLength ∷ fault.StackFull ∷ fault.NoConstant ∷ fault.BadField ∷ fault.NoTxn ∷ fault.NoArg ∷ fault.NoAccount ∷ fault.NoForeign
+    ∷ fault.NotOptedIn ∷ fault.NoSuchApp ∷ fault.Schema ∷ fault.KeyLength ∷ fault.FinalDepth ∷ fault.FinalBytes ∷ fault.Assert ∷ []
+
+abbrev pub whys : List Why
+whys = why.NoApp ∷ why.AlreadyIn ∷ why.NotIn ∷ why.IdsEnd ∷ []
+
+-- one of these values, by its number of one byte
+abbrev pub one_at : {A : Type 0} → (A → ℕ) → List A → List ℕ → Front BlockFault A
+one_at number xs bytes = number_at Truncated w8 bytes >>= λ n. ok_or (numbered number n.0 xs) Field >>= λ x. Ok (x, n.1)
+
+-- a place of a program
+abbrev pub place_at : List ℕ → Front BlockFault ℕ
+place_at bytes = number_at Truncated w16 bytes >>= λ place. if nat_le place.0 1024 then Ok place else Err Field
+
+abbrev pub fault_at : List ℕ → Front BlockFault (Fault × ℕ)
+fault_at bytes = one_at fault_number faults bytes >>= λ f. place_at f.1 >>= λ place. Ok ((f.0, place.0), place.1)
+
+abbrev pub cause_of_kind : ℕ × List ℕ → Front BlockFault Cause
+cause_of_kind kind =
+    if kind.0 == 0 then Ok (cause.Gone, kind.1)
+    else if kind.0 == 1 then Ok (cause.Rejected, kind.1)
+    else if kind.0 == 2 then (fault_at kind.1 >>= λ f. Ok (cause.Faulted f.0.0 f.0.1, f.1))
+    else Err Field
+
+abbrev pub outcome_of_kind : ℕ × List ℕ → Front BlockFault Outcome
+outcome_of_kind kind =
+    if kind.0 == 0 then Ok (outcome.Approved, kind.1)
+    else if kind.0 == 1 then Ok (outcome.Rejected, kind.1)
+    else if kind.0 == 2 then (fault_at kind.1 >>= λ f. Ok (outcome.Faulted f.0.0 f.0.1, f.1))
+    else if kind.0 == 3 then (one_at why_number whys kind.1 >>= λ w. Ok (outcome.Refused w.0, w.1))
+    else if kind.0 == 4 then (number_at Truncated w8 kind.1 >>= cause_of_kind >>= λ c. Ok (outcome.ClearedAnyway c.0, c.1))
+    else Err Field
+
+abbrev pub outcome_at : List ℕ → Front BlockFault Outcome
+outcome_at bytes = number_at Truncated w8 bytes >>= outcome_of_kind

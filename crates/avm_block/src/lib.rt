@@ -1,0 +1,8 @@
+//! Blocks: calls in the order of their timestamps, with how each ended. What a block is and when it replays over a ledger
+//! stands in `specs/Blocks.antt`, its bytes in `specs/BlockSpelling.antt` and `specs/BlockReader.antt`.
+#![tactic(auto)]
+
+mod block_fault;
+pub mod reading_laws;
+
+pub use block_fault::{BlockError, BlockFault};

@@ -1,0 +1,42 @@
+-- Reading entries one after another into a map: each key stands above those before, so each entry comes last.
+use Rattle.std.proofs.Common.{◌≡◌, List, [], ◌∷◌, ◌++◌, Result, Ok, Err, refl, sym, ap, ◌∙◌, append_assoc}
+use Rattle.std.specs.Ordering.{match_ordering, ordering_reverse}
+use Rattle.std.specs.declared.cmp.Ordering.{Ordering}
+use Rattle.std.specs.declared.cmp.Ordering.TheVariants.{Less, Greater}
+use Rattle.std.specs.Cmp.{IsTotalOrder}
+use Rattle.std.specs.Map.{keys_of}
+use Rattle.std.specs.BTreeMap.{insert_entry}
+use Rattle.std.specs.List.{AllByRecursion}
+use Rattle.teal_value.specs.Answer.{◌>>=◌}
+use Rattle.avm_ledger.specs.FieldReader.{Front}
+
+-- values read, after those in front
+abbrev pub with_front : {A F : Type 0} → List A → Front F (List A) → Front F (List A)
+with_front front r = r >>= λ xs. Ok (front ++ xs.0, xs.1)
+
+pub none_in_front : {A F : Type 0} (r : Front F (List A)) → with_front [] r ≡ r
+none_in_front (Ok xs) = refl
+none_in_front (Err e) = refl
+
+pub one_in_front : {A F : Type 0} (front : List A) (x : A) (r : Front F (List A)) → with_front front (r >>= λ xs. Ok (x ∷ xs.0, xs.1)) ≡ with_front (front ++ x ∷ []) r
+one_in_front front x (Ok xs) = ap (λ ys. Ok (ys, xs.1)) (sym (append_assoc front (x ∷ []) xs.0))
+one_in_front front x (Err e) = refl
+
+-- a step that failed
+pub stopped : {A B F : Type 0} (r : Result A F) (d : F) (f : A → Result B F) → r ≡ Err d → (r >>= f) ≡ Err d
+stopped r d f e = ap (λ s. s >>= f) e
+
+module _ {K X : Type 0} {R : K → K → Ordering} (o : IsTotalOrder R) where
+  -- all keys are below this one
+  abbrev pub AllLower : List (K × X) → K → Type 0
+  AllLower es k = AllByRecursion (λ y. R y k ≡ Less) (keys_of es)
+
+  pub insert_last : (k : K) (v : X) (es : List (K × X)) → AllLower es k → insert_entry R es k v ≡ es ++ (k, v) ∷ []
+  insert_last k v [] h = refl
+  insert_last k v (e ∷ es) h =
+      let above : R k e.0 ≡ Greater = o.antisymm k e.0 ∙ ap ordering_reverse h.0 in
+      ap (λ r. match_ordering r ((k, v) ∷ e ∷ es) ((e.0, v) ∷ es) (e ∷ insert_entry R es k v)) above ∙ ap (λ xs. e ∷ xs) (insert_last k v es h.1)
+
+  pub all_lower_more : (k q : K) (v : X) (es : List (K × X)) → AllLower es k → R k q ≡ Less → AllLower (es ++ (k, v) ∷ []) q
+  all_lower_more k q v [] h p = (p, tt)
+  all_lower_more k q v (e ∷ es) h p = (o.trans e.0 k q h.0 p, all_lower_more k q v es h.1 p)

@@ -1,0 +1,94 @@
+//! Fields and states appended to bytes, in their one spelling. At want of memory a part may have been appended.
+
+ghost use Rattle.std.specs.Prelude.{◌≡◌, ◌++◌, OnOk};
+ghost use Rattle.avm_ledger.specs.Spellings.{entry_bytes, schema_bytes, short_string_bytes, state_bytes, string_bytes, u16_bytes, u32_bytes, u64_bytes, u8_bytes, value_bytes};
+
+use crate::schema::Schema;
+use crate::state::State;
+use std::alloc::AllocError;
+use teal_value::{StateKey, Value};
+
+/// Appends the low byte of a number.
+pub fn put_u8(bytes: &mut Vec<u8>, number: usize) -> Result<(), AllocError>
+    ensures { OnOk result (bytes.new.items ≡ bytes.old.items ++ u8_bytes number) }
+{
+    bytes.extend_from_slice(&(number as u64).to_be_bytes()[7..])
+}
+
+/// Appends the two low bytes of a number.
+pub fn put_u16(bytes: &mut Vec<u8>, number: usize) -> Result<(), AllocError>
+    ensures { OnOk result (bytes.new.items ≡ bytes.old.items ++ u16_bytes number) }
+{
+    bytes.extend_from_slice(&(number as u64).to_be_bytes()[6..])
+}
+
+/// Appends the four low bytes of a number.
+pub fn put_u32(bytes: &mut Vec<u8>, number: usize) -> Result<(), AllocError>
+    ensures { OnOk result (bytes.new.items ≡ bytes.old.items ++ u32_bytes number) }
+{
+    bytes.extend_from_slice(&(number as u64).to_be_bytes()[4..])
+}
+
+/// Appends a number of eight bytes.
+pub fn put_u64(bytes: &mut Vec<u8>, number: u64) -> Result<(), AllocError>
+    ensures { OnOk result (bytes.new.items ≡ bytes.old.items ++ u64_bytes number) }
+{
+    bytes.extend_from_slice(&number.to_be_bytes())
+}
+
+/// Appends a byte string behind its length of one byte.
+pub fn put_short_string(bytes: &mut Vec<u8>, string: &[u8]) -> Result<(), AllocError>
+    ensures { OnOk result (bytes.new.items ≡ bytes.old.items ++ short_string_bytes string.now) }
+{
+    put_u8(bytes, string.len())?;
+    bytes.extend_from_slice(string)
+}
+
+/// Appends a byte string behind its length of two bytes.
+pub fn put_string(bytes: &mut Vec<u8>, string: &[u8]) -> Result<(), AllocError>
+    ensures { OnOk result (bytes.new.items ≡ bytes.old.items ++ string_bytes string.now) }
+{
+    put_u16(bytes, string.len())?;
+    bytes.extend_from_slice(string)
+}
+
+/// Appends a schema.
+pub fn put_schema(bytes: &mut Vec<u8>, schema: Schema) -> Result<(), AllocError>
+    ensures { OnOk result (bytes.new.items ≡ bytes.old.items ++ schema_bytes schema) }
+{
+    put_u8(bytes, usize::from(schema.uints))?;
+    put_u8(bytes, usize::from(schema.bytes))
+}
+
+/// Appends a state: the count of its entries, and each by rising key.
+pub fn put_state(bytes: &mut Vec<u8>, state: &State) -> Result<(), AllocError>
+    ensures { OnOk result (bytes.new.items ≡ bytes.old.items ++ state_bytes state.now) }
+{
+    put_u8(bytes, state.len())?;
+    for (key, value) in state.iter() {
+        put_entry(bytes, key, value)?;
+    }
+    Ok(())
+}
+
+fn put_entry(bytes: &mut Vec<u8>, key: &StateKey, value: &Value) -> Result<(), AllocError>
+    ensures { OnOk result (bytes.new.items ≡ bytes.old.items ++ entry_bytes (key.now, value.now)) }
+{
+    put_short_string(bytes, key.as_slice())?;
+    put_value(bytes, value)
+}
+
+fn put_value(bytes: &mut Vec<u8>, value: &Value) -> Result<(), AllocError>
+    ensures { OnOk result (bytes.new.items ≡ bytes.old.items ++ value_bytes value.now) }
+{
+    match value {
+        Value::Uint(number) => {
+            bytes.push(1)?;
+            put_u64(bytes, *number)
+        }
+        Value::Bytes(string) => {
+            bytes.push(2)?;
+            put_short_string(bytes, string.as_slice())
+        }
+    }
+}

@@ -1,0 +1,11 @@
+mod Follow
+mod Placings
+mod Blocks
+mod Stepping
+mod Halting
+mod Standings
+mod Beginnings
+mod Supplying
+mod Outcomes
+mod Alive
+mod Leading

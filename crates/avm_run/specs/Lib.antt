@@ -1,0 +1,6 @@
+pub mod Tests
+pub mod Standing
+pub mod Results
+pub mod Progress
+pub mod RunState
+pub mod Advances

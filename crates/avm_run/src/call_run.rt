@@ -1,0 +1,112 @@
+//! A run of a call, which stops at each item that it was not supplied with.
+
+ghost use Rattle.std.specs.Prelude.{◌≡◌, [], None, Some, IfOk};
+ghost use Rattle.std.specs.Result.{result_err};
+ghost use Rattle.avm_ops.specs.Objects.{IsFull};
+ghost use Rattle.avm_run.specs.Advances.{Advances, Supplies};
+
+use crate::finished::Finished;
+use crate::live::{Live, Ran, run_on};
+use avm_call::Call;
+use avm_items::{Item, ItemValue};
+use avm_ledger::Header;
+use avm_ops::{BoxedOp, Op, OpSet};
+use std::alloc::{AllocError, Global};
+use std::marker::Model;
+use std::mem;
+
+/// Why a run gives no answer.
+#[derive(Clone, Copy, Debug, PartialEq, Eq)]
+pub enum RunFault {
+    /// The item was not asked for.
+    NotAsked,
+    /// The run has ended, or memory was refused to it.
+    Spent,
+    /// Memory was refused. The run is spent.
+    Memory,
+}
+
+/// What a run comes to.
+#[derive(Drop)]
+pub enum Advance {
+    /// It asks for the value of this item.
+    Need(Item),
+    /// The call has ended.
+    Done(Finished),
+}
+
+#[derive(Drop)]
+pub(crate) enum State {
+    Live(Live),
+    Spent,
+}
+
+/// A run of a call, which contracts see as its progress, or as none where it is spent.
+#[derive(Drop)]
+pub struct CallRun {
+    state: State,
+}
+
+impl Model for CallRun {
+    ghost use Rattle.std.specs.Prelude.{Option};
+    ghost use Rattle.avm_run.specs.RunState.{IsSound, Progress, progress};
+
+    ghost Value = { Option Progress };
+
+    ghost view = { λ r. progress r.state };
+
+    ghost invariant = { λ r. IsSound r.state };
+}
+
+impl CallRun {
+    /// A run of the call that was supplied with no item.
+    pub fn start(alloc: Global, call: &Call, header: &Header) -> Result<CallRun, AllocError>
+        ensures { IfOk result (λ run. run ≡ Some (record { call = call.now; header = header.now; reads = []; asked = None })) }
+    {
+        let live = Live::start(alloc, call, header)?;
+        Ok(CallRun {
+            state: State::Live(live),
+        })
+    }
+
+    /// Takes the value of the item that was asked for.
+    pub fn supply(&mut self, item: Item, value: ItemValue) -> Result<(), RunFault>
+        ensures { Supplies self.old self.new item value (result_err result) }
+    {
+        match mem::replace(&mut self.state, State::Spent) {
+            State::Spent => Err(RunFault::Spent),
+            State::Live(live) => {
+                if !live.asks_for(&item) {
+                    self.state = State::Live(live);
+                    return Err(RunFault::NotAsked);
+                }
+                match live.supplied(item, value) {
+                    Ok(live) => {
+                        self.state = State::Live(live);
+                        Ok(())
+                    }
+                    Err(AllocError) => Err(RunFault::Memory),
+                }
+            }
+        }
+    }
+
+    /// Runs on until the call ends or asks for an item that was not supplied. It goes on where it stopped; the tests
+    /// before the program may be made again.
+    pub fn advance(&mut self, alloc: Global, ops: &OpSet) -> Result<Advance, RunFault>
+        requires full { IsFull ⟦<BoxedOp as Op>⟧.opcode ops.now }
+        ensures { Advances self.old self.new result }
+    {
+        match mem::replace(&mut self.state, State::Spent) {
+            State::Spent => Err(RunFault::Spent),
+            State::Live(live) => match run_on(alloc, ops, live) {
+                Ok(Ran::Need(live, item)) => {
+                    self.state = State::Live(live);
+                    Ok(Advance::Need(item))
+                }
+                Ok(Ran::Done(closed)) => Ok(Advance::Done(closed.finished())),
+                Err(AllocError) => Err(RunFault::Memory),
+            },
+        }
+    }
+}

@@ -1,0 +1,16 @@
+//! Runs of calls. A run is handed the items that its call asks for, one by one, and ends in what the definition of calls
+//! says: a [`CallRun`] for whoever holds the items, and [`call_on`] over a ledger. What a call does is defined in
+//! `avm_call`; `specs/Standing.antt` says how far a run has come.
+#![tactic(auto)]
+
+mod admission;
+mod call_run;
+mod ending;
+mod finished;
+mod live;
+mod on_ledger;
+mod running;
+
+pub use call_run::{Advance, CallRun, RunFault};
+pub use finished::Finished;
+pub use on_ledger::{call_on, call_plain};

@@ -1,0 +1,75 @@
+//! Calls on a ledger.
+
+ghost use Rattle.std.specs.Prelude.{◌≡◌, IfErr, IfOk};
+ghost use Rattle.avm_ops.specs.Objects.{IsFull};
+ghost use Rattle.avm_items.specs.Asks.{result_over};
+ghost use Rattle.avm_items.specs.LedgerItems.{at};
+ghost use Rattle.avm_call.specs.Calls.{call_result};
+ghost use Rattle.avm_call.specs.Replay.{ledger_after, outcome_on};
+
+use crate::live::{Closed, Live, Ran, run_on};
+use avm_call::{Call, Outcome};
+use avm_items::{item_of, put_items};
+use avm_ledger::{Header, Ledger};
+use avm_ops::{BoxedOp, Op, OpSet};
+use std::alloc::{AllocError, Global};
+
+/// Makes a call on a ledger, in place, and answers its outcome. It costs what the call touches, not what the ledger holds.
+pub fn call_on(
+    alloc: Global,
+    ledger: &mut Ledger,
+    call: &Call,
+    header: &Header,
+    ops: &OpSet,
+) -> Result<Outcome, AllocError>
+    requires full { IsFull ⟦<BoxedOp as Op>⟧.opcode ops.now }
+    ensures outcome { IfOk result (λ outcome. outcome ≡ outcome_on ledger.old call.now header.now) }
+    ensures after { IfOk result (λ _. ledger.new ≡ ledger_after ledger.old call.now header.now) }
+    ensures unchanged { IfErr result (λ _. ledger.new ≡ ledger.old) }
+{
+    let closed = run_over(alloc, ledger, call, header, ops)?;
+    let mut writes = closed.writes;
+    writes.prune_by(ledger);
+    put_items(alloc, ledger, writes)?;
+    Ok(closed.outcome)
+}
+
+/// Makes a call on a copy of a ledger.
+pub fn call_plain(
+    alloc: Global,
+    ledger: &Ledger,
+    call: &Call,
+    header: &Header,
+    ops: &OpSet,
+) -> Result<(Outcome, Ledger), AllocError>
+    requires full { IsFull ⟦<BoxedOp as Op>⟧.opcode ops.now }
+    ensures outcome { IfOk result (λ r. r.0 ≡ outcome_on ledger.now call.now header.now) }
+    ensures after { IfOk result (λ r. r.1 ≡ ledger_after ledger.now call.now header.now) }
+{
+    let mut after = ledger.clone()?;
+    let outcome = call_on(alloc, &mut after, call, header, ops)?;
+    Ok((outcome, after))
+}
+
+/// The run of a call that is supplied with a ledger's items.
+fn run_over(
+    alloc: Global,
+    ledger: &Ledger,
+    call: &Call,
+    header: &Header,
+    ops: &OpSet,
+) -> Result<Closed, AllocError>
+    requires full { IsFull ⟦<BoxedOp as Op>⟧.opcode ops.now }
+    ensures { IfOk result (λ closed. (closed.outcome, closed.writes) ≡ result_over (at ledger.now) (call_result call.now header.now)) }
+{
+    let mut live = Live::start(alloc, call, header)?;
+    loop {
+        match run_on(alloc, ops, live)? {
+            Ran::Need(asking, item) => {
+                let value = item_of(ledger, &item)?;
+                live = asking.supplied(item, value)?;
+            }
+            Ran::Done(closed) => return Ok(closed),
+        }
+    }
+}
