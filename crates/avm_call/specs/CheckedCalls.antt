@@ -1,6 +1,5 @@
 -- What a checked call keeps.
 use Rattle.std.specs.Prelude.{◌≡◌, if◌then◌else◌, Option, Some, None}
-
 use Rattle.avm_items.specs.declared.call_data.CallData.{CallData}
 use Rattle.avm_call.specs.declared.call.Programs.{Programs}
 use Rattle.avm_call.specs.declared.call_fault.CallFault.{CallFault}

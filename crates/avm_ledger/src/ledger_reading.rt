@@ -117,10 +117,7 @@ fn application_of(
 }
 
 /// A program, checked.
-fn program_of(
-    alloc: Global,
-    fields: Fields<'_>,
-) -> Result<(StoredProgram, Fields<'_>), LedgerError>
+fn program_of(alloc: Global, fields: Fields<'_>) -> Result<(StoredProgram, Fields<'_>), LedgerError>
     ensures { Gives (λ x. x) result (program_at fields.entry) }
 {
     let (program, rest) = fields.string(LedgerFault::Truncated)?;

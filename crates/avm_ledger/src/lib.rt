@@ -16,8 +16,8 @@ pub mod reading_laws;
 mod schema;
 pub mod spelling;
 mod state;
-mod stored_program;
 mod state_reading;
+mod stored_program;
 
 pub use application::{Application, StoredApplication};
 pub use fields::Fields;

@@ -16,12 +16,7 @@ pub(crate) struct Ending {
 }
 
 /// What an approved call writes beside what its program wrote.
-fn completed(
-    call: &Call,
-    id: u64,
-    row: Application,
-    writes: ItemMap,
-) -> Result<ItemMap, AllocError>
+fn completed(call: &Call, id: u64, row: Application, writes: ItemMap) -> Result<ItemMap, AllocError>
     ensures { IfOk result (λ after. after ≡ completed call.now id row writes) }
 {
     let fields = call.fields();

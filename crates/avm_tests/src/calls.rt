@@ -21,7 +21,9 @@ const ONE_UINT: Schema = Schema { uints: 1, bytes: 0 };
 
 /// `int 1`, `int 0` and `err`.
 const APPROVES: &str = "0220010122";
+
 const REJECTS: &str = "0220010022";
+
 const FAULTS: &str = "0200";
 
 /// Adds 1 to the number under the key `n` of the global state, and approves.
@@ -88,14 +90,7 @@ fn creation(alloc: Global, program: &str, schemas: (Schema, Schema)) -> Result<C
 fn call_of(alloc: Global, application: u64, completion: Completion) -> Result<Call, Fail> {
     checked(
         alloc,
-        fields(
-            alloc,
-            application,
-            completion,
-            "",
-            "",
-            (NO_ENTRY, NO_ENTRY),
-        )?,
+        fields(alloc, application, completion, "", "", (NO_ENTRY, NO_ENTRY))?,
     )
 }
 
@@ -111,14 +106,7 @@ fn end_in(
 {
     let call = checked(
         alloc,
-        fields(
-            alloc,
-            0,
-            completion,
-            program,
-            program,
-            (NO_ENTRY, NO_ENTRY),
-        )?,
+        fields(alloc, 0, completion, program, program, (NO_ENTRY, NO_ENTRY))?,
     )?;
     let ledger = Ledger::new(alloc);
     let (outcome, _) = call_plain(alloc, &ledger, &call, &header(profile), ops)?;
@@ -151,25 +139,58 @@ fn programs_of_version_2_end(alloc: Global, ops: &OpSet) -> Result<bool, Fail>
         ("02", Outcome::Faulted(Fault::FinalDepth, 1)),
         ("02200205072223", Outcome::Faulted(Fault::FinalDepth, 7)),
         ("0220020507222309", Outcome::Faulted(Fault::Negative, 7)),
-        ("022002ffffffffffffffffff0101222308", Outcome::Faulted(Fault::Overflow, 16)),
-        ("022002ffffffffffffffffff010122231e", Outcome::Faulted(Fault::FinalDepth, 17)),
+        (
+            "022002ffffffffffffffffff0101222308",
+            Outcome::Faulted(Fault::Overflow, 16),
+        ),
+        (
+            "022002ffffffffffffffffff010122231e",
+            Outcome::Faulted(Fault::FinalDepth, 17),
+        ),
         // The high word of the greatest square, and its low word.
-        ("022002ffffffffffffffffff01feffffffffffffffff0122221d482312", Outcome::Approved),
-        ("022002ffffffffffffffffff010122221d231243", Outcome::Approved),
+        (
+            "022002ffffffffffffffffff01feffffffffffffffff0122221d482312",
+            Outcome::Approved,
+        ),
+        (
+            "022002ffffffffffffffffff010122221d231243",
+            Outcome::Approved,
+        ),
         ("022601002817", Outcome::Rejected),
-        ("022001ffffffffffffffffff01260108ffffffffffffffff28172212", Outcome::Approved),
-        ("02260109ffffffffffffffffff2817", Outcome::Faulted(Fault::BtoiLength, 14)),
+        (
+            "022001ffffffffffffffffff01260108ffffffffffffffff28172212",
+            Outcome::Approved,
+        ),
+        (
+            "02260109ffffffffffffffffff2817",
+            Outcome::Faulted(Fault::BtoiLength, 14),
+        ),
         ("022081000122", Outcome::Approved),
         ("0220010122420000", Outcome::Approved),
         ("0220010142000320010022", Outcome::Approved),
         ("0220010142000020010022", Outcome::Rejected),
         ("022601026869282812", Outcome::Approved),
-        ("0226020020e3b0c44298fc1c149afbf4c8996fb92427ae41e4649b934ca495991b7852b85528012912", Outcome::Approved),
-        ("02260120000000000000000000000000000000000000000000000000000000000000000028320312", Outcome::Approved),
-        ("02200101311922124000010022", Outcome::Faulted(Fault::Err, 11)),
+        (
+            "0226020020e3b0c44298fc1c149afbf4c8996fb92427ae41e4649b934ca495991b7852b85528012912",
+            Outcome::Approved,
+        ),
+        (
+            "02260120000000000000000000000000000000000000000000000000000000000000000028320312",
+            Outcome::Approved,
+        ),
+        (
+            "02200101311922124000010022",
+            Outcome::Faulted(Fault::Err, 11),
+        ),
         ("0220010332052212", Outcome::Rejected),
     ];
-    let opted_in = end_in(alloc, ops, Profile::Two, Completion::OptIn, "02200101311922124000010022")?;
+    let opted_in = end_in(
+        alloc,
+        ops,
+        Profile::Two,
+        Completion::OptIn,
+        "02200101311922124000010022",
+    )?;
     Ok(all_end_so(alloc, ops, Profile::Two, &cases)? && opted_in == Outcome::Approved)
 }
 
@@ -230,9 +251,11 @@ fn long_programs_end(alloc: Global, ops: &OpSet) -> Result<bool, Fail>
     }
     constant.push_str("28")?;
     let joined = end_of_long(alloc, ops, constant.as_str(), ("4950", 7), "")?;
-    Ok(digests == Outcome::Approved
-        && doubled == Outcome::Faulted(Fault::StackFull, 505)
-        && joined == Outcome::Faulted(Fault::TooLong, 82))
+    Ok(
+        digests == Outcome::Approved
+            && doubled == Outcome::Faulted(Fault::StackFull, 505)
+            && joined == Outcome::Faulted(Fault::TooLong, 82),
+    )
 }
 
 fn uint_at(ledger: &Ledger, id: u64, key: &str) -> Option<u64> {
@@ -257,17 +280,25 @@ fn counts_are_kept(alloc: Global, ops: &OpSet) -> Result<bool, Fail>
     let called = call_of(alloc, 1, Completion::NoOp)?;
     let counted = call_on(alloc, &mut ledger, &called, &header, ops)?;
     let twice = uint_at(&ledger, 1, "n");
-    let unknown = call_on(alloc, &mut ledger, &call_of(alloc, 9, Completion::NoOp)?, &header, ops)?;
+    let unknown = call_on(
+        alloc,
+        &mut ledger,
+        &call_of(alloc, 9, Completion::NoOp)?,
+        &header,
+        ops,
+    )?;
     let full = creation(alloc, COUNTS, (NO_ENTRY, NO_ENTRY))?;
     let refused = call_on(alloc, &mut ledger, &full, &header, ops)?;
-    Ok(created == Outcome::Approved
-        && once == Some(1)
-        && counted == Outcome::Approved
-        && twice == Some(2)
-        && unknown == Outcome::Refused(Why::NoApp)
-        && refused == Outcome::Faulted(Fault::Schema, 13)
-        && ledger.next_id() == 2
-        && ledger.application(2).is_none())
+    Ok(
+        created == Outcome::Approved
+            && once == Some(1)
+            && counted == Outcome::Approved
+            && twice == Some(2)
+            && unknown == Outcome::Refused(Why::NoApp)
+            && refused == Outcome::Faulted(Fault::Schema, 13)
+            && ledger.next_id() == 2
+            && ledger.application(2).is_none(),
+    )
 }
 
 /// A schema of one number: another kind has no room, and a key that was taken out makes room.
@@ -276,9 +307,17 @@ fn schemas_are_kept(alloc: Global, ops: &OpSet) -> Result<bool, Fail>
 {
     let header = header(Profile::Two);
     let ledger = Ledger::new(alloc);
-    let other_kind = creation(alloc, "022001012601016e28226728286722", (ONE_UINT, NO_ENTRY))?;
+    let other_kind = creation(
+        alloc,
+        "022001012601016e28226728286722",
+        (ONE_UINT, NO_ENTRY),
+    )?;
     let (faulted, _) = call_plain(alloc, &ledger, &other_kind, &header, ops)?;
-    let again = creation(alloc, "022001012601016e282267286928226722", (ONE_UINT, NO_ENTRY))?;
+    let again = creation(
+        alloc,
+        "022001012601016e282267286928226722",
+        (ONE_UINT, NO_ENTRY),
+    )?;
     let (ended, _) = call_plain(alloc, &ledger, &again, &header, ops)?;
     Ok(faulted == Outcome::Faulted(Fault::Schema, 13) && ended == Outcome::Approved)
 }
@@ -316,16 +355,25 @@ fn opting_in_is_kept(alloc: Global, ops: &OpSet) -> Result<bool, Fail>
     let second = call_on(alloc, &mut ledger, &opting_in, &header, ops)?;
     let closing = checked(
         alloc,
-        fields(alloc, 0, Completion::CloseOut, APPROVES, APPROVES, (NO_ENTRY, NO_ENTRY))?,
+        fields(
+            alloc,
+            0,
+            Completion::CloseOut,
+            APPROVES,
+            APPROVES,
+            (NO_ENTRY, NO_ENTRY),
+        )?,
     )?;
     let not_in = call_on(alloc, &mut ledger, &closing, &header, ops)?;
-    Ok(rejected == Outcome::Rejected
-        && is_out
-        && first == Outcome::Approved
-        && is_in
-        && second == Outcome::Refused(Why::AlreadyIn)
-        && not_in == Outcome::Refused(Why::NotIn)
-        && ledger.next_id() == 2)
+    Ok(
+        rejected == Outcome::Rejected
+            && is_out
+            && first == Outcome::Approved
+            && is_in
+            && second == Outcome::Refused(Why::AlreadyIn)
+            && not_in == Outcome::Refused(Why::NotIn)
+            && ledger.next_id() == 2,
+    )
 }
 
 /// A clear state program that puts a number and errs: the number is undone, and the local state goes. After a deletion a
@@ -340,18 +388,32 @@ fn clearing_is_kept(alloc: Global, ops: &OpSet) -> Result<bool, Fail>
     let is_out = ledger.local_state(&NOBODY, 1).is_none() && uint_at(&ledger, 1, "n").is_none();
     let again = call_on(alloc, &mut ledger, &clearing, &header, ops)?;
     let mut ledger = one_application(alloc, APPROVES, APPROVES, true)?;
-    let deleted = call_on(alloc, &mut ledger, &call_of(alloc, 1, Completion::DeleteApplication)?, &header, ops)?;
-    let gone = call_on(alloc, &mut ledger, &call_of(alloc, 1, Completion::NoOp)?, &header, ops)?;
+    let deleted = call_on(
+        alloc,
+        &mut ledger,
+        &call_of(alloc, 1, Completion::DeleteApplication)?,
+        &header,
+        ops,
+    )?;
+    let gone = call_on(
+        alloc,
+        &mut ledger,
+        &call_of(alloc, 1, Completion::NoOp)?,
+        &header,
+        ops,
+    )?;
     let left = ledger.local_state(&NOBODY, 1).is_some();
     let last = call_on(alloc, &mut ledger, &clearing, &header, ops)?;
-    Ok(cleared == Outcome::ClearedAnyway(Cause::Faulted(Fault::Err, 11))
-        && is_out
-        && again == Outcome::Refused(Why::NotIn)
-        && deleted == Outcome::Approved
-        && gone == Outcome::Refused(Why::NoApp)
-        && left
-        && last == Outcome::ClearedAnyway(Cause::Gone)
-        && ledger.local_state(&NOBODY, 1).is_none())
+    Ok(
+        cleared == Outcome::ClearedAnyway(Cause::Faulted(Fault::Err, 11))
+            && is_out
+            && again == Outcome::Refused(Why::NotIn)
+            && deleted == Outcome::Approved
+            && gone == Outcome::Refused(Why::NoApp)
+            && left
+            && last == Outcome::ClearedAnyway(Cause::Gone)
+            && ledger.local_state(&NOBODY, 1).is_none(),
+    )
 }
 
 /// Each completion with a program that approves, one that rejects and one that faults.
@@ -386,7 +448,11 @@ fn completion_is_kept(
 {
     let was_in = matches!(completion, Completion::CloseOut | Completion::ClearState);
     let mut ledger = one_application(alloc, program, program, was_in)?;
-    let brought = if completion == Completion::UpdateApplication { COUNTS } else { "" };
+    let brought = if completion == Completion::UpdateApplication {
+        COUNTS
+    } else {
+        ""
+    };
     let call = checked(
         alloc,
         fields(alloc, 1, completion, brought, brought, (NO_ENTRY, NO_ENTRY))?,
@@ -397,7 +463,11 @@ fn completion_is_kept(
     let wanted = if approves {
         Outcome::Approved
     } else if program == REJECTS {
-        if clears { Outcome::ClearedAnyway(Cause::Rejected) } else { Outcome::Rejected }
+        if clears {
+            Outcome::ClearedAnyway(Cause::Rejected)
+        } else {
+            Outcome::Rejected
+        }
     } else if clears {
         Outcome::ClearedAnyway(Cause::Faulted(Fault::Err, 1))
     } else {
@@ -428,8 +498,18 @@ fn keys_are_counted_apart(alloc: Global, ops: &OpSet) -> Result<bool, Fail>
 {
     let header = header(Profile::Two);
     let mut ledger = Ledger::new(alloc);
-    let program = check(alloc, bytes_of(alloc, "02200101361a00361a006422086722")?.as_slice())?;
-    ledger.create(alloc, NOBODY, &program, &program, Schema { uints: 2, bytes: 0 }, NO_ENTRY)?;
+    let program = check(
+        alloc,
+        bytes_of(alloc, "02200101361a00361a006422086722")?.as_slice(),
+    )?;
+    ledger.create(
+        alloc,
+        NOBODY,
+        &program,
+        &program,
+        Schema { uints: 2, bytes: 0 },
+        NO_ENTRY,
+    )?;
     for key in ["a", "b", "a"] {
         let mut fields = fields(alloc, 1, Completion::NoOp, "", "", (NO_ENTRY, NO_ENTRY))?;
         let mut arguments = Vec::new(alloc);
@@ -461,14 +541,16 @@ fn runs_ask_once(alloc: Global, ops: &OpSet) -> Result<bool, Fail>
         return Ok(false);
     };
     let spent = matches!(run.advance(alloc, ops), Err(RunFault::Spent));
-    Ok(not_asked == Err(RunFault::NotAsked)
-        && first
-        && again
-        && supplied == Ok(())
-        && finished.outcome() == Outcome::Approved
-        && finished.reads().len() == 1
-        && finished.writes().len() == 0
-        && spent)
+    Ok(
+        not_asked == Err(RunFault::NotAsked)
+            && first
+            && again
+            && supplied == Ok(())
+            && finished.outcome() == Outcome::Approved
+            && finished.reads().len() == 1
+            && finished.writes().len() == 0
+            && spent,
+    )
 }
 
 /// The fault of fields that are no call.
@@ -481,26 +563,41 @@ fn fault_of(alloc: Global, fields: CallData) -> Option<CallFault> {
 
 fn calls_are_checked(alloc: Global) -> Result<bool, Fail> {
     let none = (NO_ENTRY, NO_ENTRY);
-    let large = (Schema { uints: 64, bytes: 1 }, NO_ENTRY);
+    let large = (
+        Schema {
+            uints: 64,
+            bytes: 1,
+        },
+        NO_ENTRY,
+    );
     let clears = fields(alloc, 0, Completion::ClearState, APPROVES, APPROVES, none)?;
     let lacks = fields(alloc, 0, Completion::NoOp, APPROVES, "", none)?;
     let given = fields(alloc, 1, Completion::NoOp, APPROVES, "", none)?;
     let sized = fields(alloc, 0, Completion::NoOp, APPROVES, APPROVES, large)?;
     let small = fields(alloc, 1, Completion::NoOp, "", "", (ONE_UINT, NO_ENTRY))?;
-    let wrong = fields(alloc, 1, Completion::UpdateApplication, "0244", "02ff", none)?;
+    let wrong = fields(
+        alloc,
+        1,
+        Completion::UpdateApplication,
+        "0244",
+        "02ff",
+        none,
+    )?;
     let newest = fields(alloc, 0, Completion::NoOp, APPROVES, "0320010122", none)?;
     let unknown = CallFault::Program(teal_check::CheckFault::Code {
         place: 1,
         fault: teal_code::CodeFault::UnknownOp,
     });
-    Ok(fault_of(alloc, clears) == Some(CallFault::ClearOnCreate)
-        && fault_of(alloc, lacks) == Some(CallFault::ProgramsMissing)
-        && fault_of(alloc, given) == Some(CallFault::ProgramsGiven)
-        && fault_of(alloc, sized) == Some(CallFault::SchemaSize)
-        && fault_of(alloc, small) == Some(CallFault::SchemaSize)
-        && fault_of(alloc, wrong) == Some(unknown)
-        && checked(alloc, newest)?.needs() == Profile::Three
-        && creation(alloc, APPROVES, none)?.needs() == Profile::Two)
+    Ok(
+        fault_of(alloc, clears) == Some(CallFault::ClearOnCreate)
+            && fault_of(alloc, lacks) == Some(CallFault::ProgramsMissing)
+            && fault_of(alloc, given) == Some(CallFault::ProgramsGiven)
+            && fault_of(alloc, sized) == Some(CallFault::SchemaSize)
+            && fault_of(alloc, small) == Some(CallFault::SchemaSize)
+            && fault_of(alloc, wrong) == Some(unknown)
+            && checked(alloc, newest)?.needs() == Profile::Three
+            && creation(alloc, APPROVES, none)?.needs() == Profile::Two,
+    )
 }
 
 /// What goes wrong first, if something does.
