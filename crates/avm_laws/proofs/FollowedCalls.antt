@@ -147,11 +147,6 @@ creation_over call header l K Kp kept o keeps new none few =
 
 -- ---- after the program
 
-abbrev pub is_global_of : ℕ → Item → Bool
-is_global_of id (item.Counts app) = app == id
-is_global_of id (item.Key app key) = app == id
-is_global_of id _ = false
-
 below_by : {X : Type 0} (P : Item → Type 0) (e : Item × X) (es fs : List (Item × X)) → P e.0 → AllByRecursion P (keys_of fs) → (b : Bool) → AllByRecursion P (keys_of (cond b (e ∷ fs) fs))
 below_by P e es fs h g true = (h, g)
 below_by P e es fs h g false = g

@@ -21,3 +21,4 @@ pub mod Accounted
 pub mod AccountedCalls
 pub mod ReadCalls
 pub mod Apart
+pub mod CheckedCalls

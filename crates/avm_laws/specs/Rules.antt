@@ -1,5 +1,5 @@
 -- That calls keep the rules of ledgers, whatever the calls are. The statements of the laws.
-use Rattle.std.specs.Prelude.{◌≡◌, ℕ, ◌+◌, ◌^◌, ◌<◌, ◌≤◌, true, List, length, All, Ok, Some}
+use Rattle.std.specs.Prelude.{◌≡◌, ℕ, ◌+◌, ◌^◌, ◌<◌, ◌≤◌, true, List, length, All, Ok, Some, None}
 use Rattle.teal_value.specs.declared.value.Value.{Value}
 use Rattle.teal_value.specs.declared.value.Value.TheVariants.{Uint, Bytes}
 use Rattle.avm_ledger.specs.declared.application.Application.{Application}
@@ -16,6 +16,7 @@ use Rattle.avm_items.specs.CallReader.{call_front}
 use Rattle.avm_items.specs.CallReading.{HasFields}
 use Rattle.avm_items.specs.LedgerItems.{at, put}
 use Rattle.avm_items.specs.Asks.{result_over}
+use Rattle.avm_call.specs.CallRules.{call_fault}
 use Rattle.avm_call.specs.Calls.{Target, admitted}
 use Rattle.avm_call.specs.Ends.{is_program}
 use Rattle.avm_call.specs.Replay.{ledger_after, replayed}
@@ -116,3 +117,7 @@ ReadLedgersAreSound = (bytes : List ℕ) (l : Ledger) → AreBytes bytes → led
 -- A call that is read from bytes is of bytes.
 abbrev pub ReadCallsAreOfBytes : Type 0
 ReadCallsAreOfBytes = (bytes : List ℕ) (c : CallData) (rest : List ℕ) → AreBytes bytes → call_front bytes ≡ Ok (c, rest) → IsCallOfBytes c
+
+-- A call that breaks no rule of calls brings programs where it has to, and schemas within their limits.
+abbrev pub CheckedCallsBringPrograms : Type 0
+CheckedCallsBringPrograms = (c : CallData) → call_fault c ≡ None → BringsPrograms c

@@ -1,6 +1,6 @@
 //! What calls write, ask for and change.
 
-ghost use Rattle.avm_laws.specs.Calls.{AsksForNoneGone, ChangesWhatItRead, EndsAlike, HandsOnItsChanges, HasWhatWasWritten, LosesNoWrite};
+ghost use Rattle.avm_laws.specs.Calls.{AsksForNoneGone, AsksForWhatIsUsed, ChangesWhatItRead, EndsAlike, HandsOnItsChanges, HasWhatWasWritten, IsAskedForAnswers, LosesNoWrite};
 
 /// At each step of a call's program the ledger with its own writes has what was written, the counts with the keys.
 pub fn writes_are_items()
@@ -16,6 +16,13 @@ pub fn none_gone_is_asked_for()
 pub fn changes_are_handed_on()
     ensures changes { HandsOnItsChanges }
     ensures all { LosesNoWrite }
+{}
+
+/// What is asked for over what was read is used on every ledger that has it; what was read stays what was asked for, with each
+/// answer.
+pub fn questions_are_used()
+    ensures used { AsksForWhatIsUsed }
+    ensures answers { IsAskedForAnswers }
 {}
 
 /// A call that has ended over what it read ends so on every ledger that has what was read, with these changes.

@@ -1,6 +1,6 @@
 //! That calls keep the rules of ledgers.
 
-ghost use Rattle.avm_laws.specs.Rules.{EmptyIsSound, EveryCallKeepsTheRules, ReadCallsAreOfBytes, ReadLedgersAreSound, ReplaysKeepTheRules, WritesKeepTheRules};
+ghost use Rattle.avm_laws.specs.Rules.{CheckedCallsBringPrograms, EmptyIsSound, EveryCallKeepsTheRules, ReadCallsAreOfBytes, ReadLedgersAreSound, ReplaysKeepTheRules, WritesKeepTheRules};
 
 /// At each step of a call's program the ledger with its own writes keeps the rules: values are within 64 bits and 64 bytes,
 /// and states within their schemas.
@@ -23,4 +23,9 @@ pub fn ledgers_begin_sound()
 /// Calls that are read are of bytes.
 pub fn calls_are_of_bytes()
     ensures { ReadCallsAreOfBytes }
+{}
+
+/// A call that breaks no rule of calls brings what it has to.
+pub fn checked_calls_bring_programs()
+    ensures { CheckedCallsBringPrograms }
 {}

@@ -1,0 +1,77 @@
+-- That a call which breaks no rule of calls brings what it has to.
+use Rattle.std.proofs.Common.{◌≡◌, ◌≤◌, Bool, true, false, ◌&&◌, nat_le, nat_lt, if◌then◌else◌, length, Option, None, Some, Result, Ok, Err, refl, sym, ap, ◌∙◌}
+use Rattle.std.specs.Prelude.{◌==◌, ◌||◌, is_ok, not}
+use Rattle.std.proofs.lemmas.Bool.{leb-true}
+use Rattle.teal_check.specs.declared.fault.CheckFault.{CheckFault}
+use Rattle.teal_check.specs.WellFormed.{WellFormed, checked}
+use Rattle.avm_items.specs.declared.call_data.CallData.{CallData}
+use Rattle.avm_items.specs.CallFields.{creates}
+use Rattle.avm_call.specs.declared.call_fault.CallFault.{CallFault}
+use Rattle.avm_call.specs.declared.call_fault.CallFault.TheVariants as fault
+use Rattle.avm_call.specs.CallRules.{total_length, updates, brings_programs, lacks_programs, has_programs, entries_in, fits_schemas, field_fault, program_fault, or_fault, programs_fault, call_fault}
+use Rattle.avm_call.specs.Ends.{is_program}
+use Rattle.avm_laws.specs.Rules.{BringsPrograms}
+use Rattle.avm_laws.proofs.Tests.{both}
+
+none_of_both : (o p : Option CallFault) → or_fault o p ≡ None → (o ≡ None) × (p ≡ None)
+none_of_both (Some f) p e = absurd cc
+none_of_both None p e = (refl, e)
+
+no_fault : (b : Bool) (f : CallFault) (rest : Option CallFault) → (if b then Some f else rest) ≡ None → (b ≡ false) × (rest ≡ None)
+no_fault true f rest e = absurd cc
+no_fault false f rest e = (refl, e)
+
+program_passes : (r : Result WellFormed CheckFault) → program_fault r ≡ None → is_ok r ≡ true
+program_passes (Ok w) e = refl
+program_passes (Err f) e = absurd cc
+
+-- ---- programs
+
+both_pass : (c : CallData) → programs_fault c ≡ None → (b : Bool) → brings_programs c ≡ b → b ≡ true → (is_program c.approval ≡ true) × (is_program c.clear ≡ true)
+both_pass c e false is brings = absurd cc
+both_pass c e true is brings =
+    let programs = or_fault (program_fault (checked c.approval)) (program_fault (checked c.clear)) in
+    let parts = none_of_both (program_fault (checked c.approval)) (program_fault (checked c.clear)) (sym (ap (λ b. if b then programs else None) is) ∙ e) in
+    (program_passes (checked c.approval) parts.0, program_passes (checked c.clear) parts.1)
+
+or_true : (b : Bool) → (b || true) ≡ true
+or_true true = refl
+or_true false = refl
+
+-- ---- schemas
+
+schemas_fit : (c : CallData) → field_fault c ≡ None → fits_schemas c ≡ true
+schemas_fit c e =
+    let accounts = no_fault (nat_lt 4 (length c.accounts)) fault.Accounts _ e in
+    let arguments = no_fault (nat_lt 16 (length c.arguments)) fault.Args _ accounts.1 in
+    let bytes = no_fault (nat_lt 2048 (total_length c.arguments)) fault.ArgBytes _ arguments.1 in
+    let foreign = no_fault (nat_lt 2 (length c.foreign_applications)) fault.Foreign _ bytes.1 in
+    let note = no_fault (nat_lt 1024 (length c.note)) fault.Note _ foreign.1 in
+    let missing = no_fault (brings_programs c && lacks_programs c) fault.ProgramsMissing _ note.1 in
+    let given = no_fault (not (brings_programs c) && has_programs c) fault.ProgramsGiven _ missing.1 in
+    let size = no_fault (not (fits_schemas c)) fault.SchemaSize _ given.1 in
+    passes (fits_schemas c) size.0
+  where
+    passes : (b : Bool) → not b ≡ false → b ≡ true
+    passes true h = refl
+    passes false h = absurd cc
+
+within_limits : (c : CallData) → field_fault c ≡ None → creates c ≡ true → (entries_in c.global_schema ≤ 64) × (entries_in c.local_schema ≤ 16)
+within_limits c e new =
+    let creation = nat_le (entries_in c.global_schema) 64 && nat_le (entries_in c.local_schema) 16 in
+    let other = (entries_in c.global_schema == 0) && (entries_in c.local_schema == 0) in
+    let parts = both (nat_le (entries_in c.global_schema) 64) (nat_le (entries_in c.local_schema) 16) (sym (ap (λ b. if b then creation else other) new) ∙ schemas_fit c e) in
+    (leb-true (entries_in c.global_schema) 64 parts.0, leb-true (entries_in c.local_schema) 16 parts.1)
+
+pub checked_calls_bring_programs : (c : CallData) → call_fault c ≡ None → BringsPrograms c
+checked_calls_bring_programs c e =
+    let parts = none_of_both (field_fault c) (programs_fault c) e in
+    let pass = both_pass c parts.1 (brings_programs c) refl in
+    record {
+      approval = λ new. (pass (ap (λ b. b || updates c.completion) new)).0;
+      clear = λ new. (pass (ap (λ b. b || updates c.completion) new)).1;
+      global_schema = λ new. (within_limits c parts.0 new).0;
+      local_schema = λ new. (within_limits c parts.0 new).1;
+      new_approval = λ is. (pass (ap (λ k. creates c || updates k) is ∙ or_true (creates c))).0;
+      new_clear = λ is. (pass (ap (λ k. creates c || updates k) is ∙ or_true (creates c))).1;
+    }
