@@ -48,13 +48,16 @@ cause_of_kind kind =
     else if kind.0 == 2 then (fault_at kind.1 >>= λ f. Ok (cause.Faulted f.0.0 f.0.1, f.1))
     else Err Field
 
+abbrev pub cause_at : List ℕ → Front BlockFault Cause
+cause_at bytes = number_at Truncated w8 bytes >>= cause_of_kind
+
 abbrev pub outcome_of_kind : ℕ × List ℕ → Front BlockFault Outcome
 outcome_of_kind kind =
     if kind.0 == 0 then Ok (outcome.Approved, kind.1)
     else if kind.0 == 1 then Ok (outcome.Rejected, kind.1)
     else if kind.0 == 2 then (fault_at kind.1 >>= λ f. Ok (outcome.Faulted f.0.0 f.0.1, f.1))
     else if kind.0 == 3 then (one_at why_number whys kind.1 >>= λ w. Ok (outcome.Refused w.0, w.1))
-    else if kind.0 == 4 then (number_at Truncated w8 kind.1 >>= cause_of_kind >>= λ c. Ok (outcome.ClearedAnyway c.0, c.1))
+    else if kind.0 == 4 then (cause_at kind.1 >>= λ c. Ok (outcome.ClearedAnyway c.0, c.1))
     else Err Field
 
 abbrev pub outcome_at : List ℕ → Front BlockFault Outcome

@@ -3,6 +3,8 @@
 #![tactic(auto)]
 
 mod block_fault;
+pub mod header_codec;
+pub mod outcome_codec;
 pub mod reading_laws;
 
 pub use block_fault::{BlockError, BlockFault};
