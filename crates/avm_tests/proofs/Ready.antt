@@ -1,5 +1,5 @@
 -- Instructions without immediates lead to no place behind the longest program.
-use Rattle.std.proofs.Common.{◌≡◌, ◌≤◌, ℕ, Some, None, lit≤, subst}
+use Rattle.std.proofs.Common.{◌≡◌, ◌≤◌, ℕ, Some, lit≤, subst}
 use Rattle.teal_table.specs.declared.opcode.Opcode.{Opcode}
 use Rattle.teal_table.specs.declared.opcode.Opcode.TheVariants as op
 use Rattle.teal_code.specs.declared.instr.Immediates.TheVariants as immediates
