@@ -4,7 +4,7 @@
 ghost use Rattle.avm_ops.specs.Objects.{IsFull};
 
 use avm_call::{Call, CallFault, Cause, Outcome, Why};
-use avm_items::{Addresses, CallData, Completion};
+use avm_items::{Addresses, CallData, Completion, Item, ItemValue, item_of};
 use avm_ledger::{Header, Ledger, Profile, Schema, State};
 use avm_ops::{BoxedOp, Op, OpSet};
 use avm_run::{Advance, CallRun, RunFault, call_on, call_plain};
@@ -523,33 +523,57 @@ fn keys_are_counted_apart(alloc: Global, ops: &OpSet) -> Result<bool, Fail>
     Ok(uint_at(&ledger, 1, "a") == Some(2) && uint_at(&ledger, 1, "b") == Some(1))
 }
 
-/// A run asks for the row of its application, and ends once it was supplied; it takes no other item, and is spent then.
+/// Whether a run asks for this item.
+fn asks_for(alloc: Global, ops: &OpSet, run: &mut CallRun, wanted: &Item) -> bool
+    requires full { IsFull ⟦<BoxedOp as Op>⟧.opcode ops.now }
+{
+    match run.advance(alloc, ops) {
+        Ok(Advance::Need(item)) => item == *wanted,
+        Ok(Advance::Done(_finished)) => false,
+        Err(_fault) => false,
+    }
+}
+
+/// The outcome of a run with how many items it read and wrote, or why it gives none.
+fn end_of_run(
+    alloc: Global,
+    ops: &OpSet,
+    run: &mut CallRun,
+) -> Result<(Outcome, usize, usize), RunFault>
+    requires full { IsFull ⟦<BoxedOp as Op>⟧.opcode ops.now }
+{
+    match run.advance(alloc, ops) {
+        Ok(Advance::Done(finished)) => Ok((
+            finished.outcome(),
+            finished.reads().len(),
+            finished.writes().len(),
+        )),
+        Ok(Advance::Need(_item)) => Err(RunFault::NotAsked),
+        Err(fault) => Err(fault),
+    }
+}
+
+/// A run asks for the row of its application until it is supplied, and then ends; it takes no other item, and is spent.
 fn runs_ask_once(alloc: Global, ops: &OpSet) -> Result<bool, Fail>
     requires full { IsFull ⟦<BoxedOp as Op>⟧.opcode ops.now }
 {
     let ledger = one_application(alloc, APPROVES, APPROVES, false)?;
     let call = call_of(alloc, 1, Completion::NoOp)?;
     let mut run = CallRun::start(alloc, &call, &header(Profile::Two))?;
-    let row = avm_items::Item::App(1);
-    let other = avm_items::Item::App(2);
-    let not_asked = run.supply(other.copied(), avm_items::ItemValue::Absent);
-    let first = matches!(run.advance(alloc, ops), Ok(Advance::Need(item)) if item == row);
-    let again = matches!(run.advance(alloc, ops), Ok(Advance::Need(item)) if item == row);
-    let value = avm_items::item_of(&ledger, &row)?;
-    let supplied = run.supply(row, value);
-    let Ok(Advance::Done(finished)) = run.advance(alloc, ops) else {
-        return Ok(false);
-    };
-    let spent = matches!(run.advance(alloc, ops), Err(RunFault::Spent));
+    let not_asked = run.supply(Item::App(2), ItemValue::Absent);
+    let first = asks_for(alloc, ops, &mut run, &Item::App(1));
+    let again = asks_for(alloc, ops, &mut run, &Item::App(1));
+    let value = item_of(&ledger, &Item::App(1))?;
+    let supplied = run.supply(Item::App(1), value);
+    let end = end_of_run(alloc, ops, &mut run);
+    let spent = end_of_run(alloc, ops, &mut run);
     Ok(
         not_asked == Err(RunFault::NotAsked)
             && first
             && again
             && supplied == Ok(())
-            && finished.outcome() == Outcome::Approved
-            && finished.reads().len() == 1
-            && finished.writes().len() == 0
-            && spent,
+            && end == Ok((Outcome::Approved, 1, 0))
+            && spent == Err(RunFault::Spent),
     )
 }
 
