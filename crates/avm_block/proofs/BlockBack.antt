@@ -20,7 +20,8 @@ use Rattle.avm_items.specs.CallReading.{HasFields}
 use Rattle.avm_items.proofs.CallBack.{call_back}
 use Rattle.avm_call.specs.OutcomeSpelling.{outcome_bytes}
 use Rattle.avm_block.specs.declared.block_fault.BlockFault.TheVariants.{Truncated, Digest}
-use Rattle.avm_block.specs.Blocks.{Entry, Block}
+use Rattle.avm_block.specs.declared.entry.Entry.{Entry}
+use Rattle.avm_block.specs.Blocks.{Block}
 use Rattle.avm_block.specs.BlockSpelling.{magic, format_bytes, entry_bytes, body_bytes, block_bytes}
 use Rattle.avm_block.specs.BlockReader.{magic_at, profile_at, header_at, timestamp_at, in_block, call_in, entry_at, entries_at, count_at, body_at, sealed, block_at}
 use Rattle.avm_block.specs.BlockReading.{IsEntry, AreEntries, IsHeader, IsBlock}

@@ -1,3 +1,5 @@
+pub mod CallFits
+pub mod BlockMade
 pub mod OutcomeBack
 pub mod BlockBack
 pub mod OutcomeSpelled

@@ -15,7 +15,8 @@ use Rattle.avm_items.specs.declared.call_data.CallData.{CallData}
 use Rattle.avm_items.specs.CallReader.{call_front}
 use Rattle.avm_block.specs.declared.block_fault.BlockFault.{BlockFault}
 use Rattle.avm_block.specs.declared.block_fault.BlockFault.TheVariants.{Magic, Format, Truncated, Rest, Order, Field, Digest}
-use Rattle.avm_block.specs.Blocks.{Entry, Block}
+use Rattle.avm_block.specs.declared.entry.Entry.{Entry}
+use Rattle.avm_block.specs.Blocks.{Block}
 use Rattle.avm_block.specs.BlockSpelling.{magic}
 use Rattle.avm_block.specs.OutcomeReader.{outcome_at}
 

@@ -1,22 +1,23 @@
 -- Blocks: calls in the order of their timestamps, how each ended, and the ledgers before and after them.
-use Rattle.std.specs.Prelude.{◌≡◌, ℕ, List, map}
+use Rattle.std.specs.Prelude.{◌≡◌, ℕ, ◌<◌, List, [], ◌∷◌, map}
 use Rattle.avm_ledger.specs.declared.header.Header.{Header}
 use Rattle.avm_ledger.specs.Ledgers.{Ledger}
 use Rattle.avm_ledger.specs.Spellings.{ledger_digest}
 use Rattle.avm_items.specs.declared.call_data.CallData.{CallData}
 use Rattle.avm_call.specs.declared.outcome.Outcome.{Outcome}
 use Rattle.avm_call.specs.Replay.{outcomes, replayed}
-
-pub record Entry : Type 0 where
-  pub timestamp : ℕ
-  pub call : CallData
-  pub outcome : Outcome
+use Rattle.avm_block.specs.declared.entry.Entry.{Entry}
 
 pub record Block : Type 0 where
   pub base : List ℕ
   pub header : Header
   pub entries : List Entry
   pub after : List ℕ
+
+-- Each timestamp is above the one before, and the first above this one.
+abbrev pub RisesAbove : ℕ → List Entry → Type 0
+RisesAbove before [] = Unit {0}
+RisesAbove before (e ∷ es) = (before < e.timestamp) × RisesAbove e.timestamp es
 
 abbrev pub calls_of : Block → List CallData
 calls_of b = map (λ (e : Entry). e.call) b.entries

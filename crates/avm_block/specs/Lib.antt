@@ -2,5 +2,6 @@ pub mod Blocks
 pub mod BlockSpelling
 pub mod OutcomeReader
 pub mod BlockReader
+pub mod AcceptedCalls
 pub mod BlockReading
 pub mod WorkedBlocks

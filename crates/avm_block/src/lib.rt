@@ -1,11 +1,19 @@
 //! Blocks: calls in the order of their timestamps, with how each ended. What a block is and when it replays over a ledger
-//! stands in `specs/Blocks.antt`, its bytes in `specs/BlockSpelling.antt` and `specs/BlockReader.antt`, their laws in
-//! `reading_laws`. Outcomes, formats and headers are read and spelled by the code so far.
+//! stands in `specs/Blocks.antt`, which calls it may have in `specs/AcceptedCalls.antt`, its bytes in
+//! `specs/BlockSpelling.antt` and `specs/BlockReader.antt`, their laws in `reading_laws`. Outcomes, formats and headers are
+//! read and spelled by the code so far.
 #![tactic(auto)]
 
+mod accepted_calls;
+mod block;
 mod block_fault;
+mod call_sizes;
+mod entry;
 pub mod header_codec;
 pub mod outcome_codec;
 pub mod reading_laws;
 
+pub use accepted_calls::accepts;
+pub use block::{Block, MAX_ENTRIES};
 pub use block_fault::{BlockError, BlockFault};
+pub use entry::Entry;
