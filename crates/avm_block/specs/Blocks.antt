@@ -19,11 +19,17 @@ abbrev pub RisesAbove : ℕ → List Entry → Type 0
 RisesAbove before [] = Unit {0}
 RisesAbove before (e ∷ es) = (before < e.timestamp) × RisesAbove e.timestamp es
 
+abbrev pub calls_in : List Entry → List CallData
+calls_in = map (λ (e : Entry). e.call)
+
+abbrev pub outcomes_in : List Entry → List Outcome
+outcomes_in = map (λ (e : Entry). e.outcome)
+
 abbrev pub calls_of : Block → List CallData
-calls_of b = map (λ (e : Entry). e.call) b.entries
+calls_of b = calls_in b.entries
 
 abbrev pub outcomes_of : Block → List Outcome
-outcomes_of b = map (λ (e : Entry). e.outcome) b.entries
+outcomes_of b = outcomes_in b.entries
 
 -- Over the ledger before, the calls end as the block says, one after another, and lead to the ledger after.
 pub record Replays (l : Ledger) (b : Block) : Type 0 where

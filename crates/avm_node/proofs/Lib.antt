@@ -1,3 +1,4 @@
 pub mod CommandNames
+pub mod NumberTexts
 pub mod Replies
 pub mod DigitLines

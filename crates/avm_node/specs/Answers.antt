@@ -1,5 +1,5 @@
 -- What a command answers to its input: the text that is written, and the exit status.
-use Rattle.std.specs.Prelude.{◌≡◌, ◌≢◌, ◌+◌, ℕ, ◌++◌, List, Option, Some, None, Result, Ok, Err, IfSome, codes, decimal, if◌then◌else◌, length, nat_lt, take}
+use Rattle.std.specs.Prelude.{◌≡◌, ◌≢◌, ◌+◌, ℕ, ◌++◌, List, Option, Some, None, Result, Ok, Err, IfSome, codes, decimal, if◌then◌else◌, length, ◌<◌, ◌≤◌, take}
 use Rattle.std.specs.Str.{is_utf8}
 use Rattle.std.specs.Io.KnownBytes.{Appends}
 use Rattle.hex.specs.Hex.{encode_lower}
@@ -8,9 +8,10 @@ use Rattle.teal_source.specs.declared.fault.AsmFaultKind.{AsmFaultKind}
 use Rattle.teal_source.specs.declared.fault.AsmFaultKind.TheVariants as kind
 use Rattle.teal_asm.specs.Program.{assembled}
 use Rattle.avm_node.specs.declared.command_line.NodeCommand.{NodeCommand}
-use Rattle.avm_node.specs.declared.command_line.NodeCommand.TheVariants.{Asm, Check, Dis}
+use Rattle.avm_node.specs.declared.command_line.NodeCommand.TheVariants.{Asm, Check, Dis, Replay, State}
 use Rattle.avm_node.specs.Replies.{Reply, done, failed, input_refusal, refused, usage_reply}
 use Rattle.avm_node.specs.Programs.{check_reply, dis_reply}
+use Rattle.avm_node.specs.BlockCommands.{IsReplayReply, state_reply}
 
 -- how many bytes an input has at most
 abbrev pub input_limit : ℕ
@@ -44,14 +45,17 @@ abbrev pub asm_reply : List ℕ → Reply
 asm_reply input = if is_utf8 input then assembly_reply (assembled input) else input_refusal
 
 -- what a command answers to an input that is not too long
-abbrev pub command_reply : NodeCommand → List ℕ → Reply
-command_reply Asm input = asm_reply input
-command_reply Dis input = dis_reply input
-command_reply Check input = check_reply input
+abbrev pub IsCommandReply : NodeCommand → List ℕ → Reply → Type 0
+IsCommandReply Asm input reply = reply ≡ asm_reply input
+IsCommandReply Dis input reply = reply ≡ dis_reply input
+IsCommandReply Check input reply = reply ≡ check_reply input
+IsCommandReply Replay input reply = IsReplayReply input reply
+IsCommandReply (State timestamp) input reply = reply ≡ state_reply timestamp input
 
--- what a command answers to an input, of which more than the limit is refused before all else
-abbrev pub reply_of : NodeCommand → List ℕ → Reply
-reply_of command input = if nat_lt input_limit (length input) then input_refusal else command_reply command input
+-- What a command answers to an input. More than the limit is refused before all else.
+pub record IsReplyTo (command : NodeCommand) (input : List ℕ) (reply : Reply) : Type 0 where
+  pub long : input_limit < length input → reply ≡ input_refusal
+  pub other : length input ≤ input_limit → IsCommandReply command input reply
 
 -- The bytes are those that a reader had, where these are known: all up to the limit, and one beyond it.
 abbrev pub IsInput : Option (List ℕ) → List ℕ → Type 0
@@ -59,7 +63,7 @@ IsInput had input = IfSome had (λ bytes. input ≡ take (input_limit + 1) bytes
 
 -- the reply of a command to what the reader had
 abbrev pub IsReply : NodeCommand → Option (List ℕ) → Reply → Type 0
-IsReply command had reply = (input : List ℕ) × IsInput had input × (reply ≡ reply_of command input)
+IsReply command had reply = (input : List ℕ) × IsInput had input × IsReplyTo command input reply
 
 -- a writer, which held the first and holds the second bytes where these are known, gained the reply's text, and this is its status
 abbrev pub IsWritten : Reply → Option (List ℕ) → Option (List ℕ) → ℕ → Type 0

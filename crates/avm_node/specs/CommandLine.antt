@@ -1,23 +1,49 @@
 -- Which words are a command.
-use Rattle.std.specs.Prelude.{◌∷◌, [], List, Option, Some, None, true, codes, if◌then◌else◌, option_and_then, option_map}
+use Rattle.std.specs.Prelude.{ℕ, ◌^◌, ◌&&◌, Bool, nat_lt, length, ◌∷◌, [], List, Option, Some, None, true, codes, if◌then◌else◌, option_and_then, option_map}
+use Rattle.std.specs.List.{list_all}
+use Rattle.std.specs.Char.{digit_value}
 use Rattle.std.specs.Str.{bytes_eq}
-use Rattle.clap.specs.Words.{App, Kinds, Text, fault_of, new_app, subcommand_of, with_subcommand}
+use Rattle.std.specs.Str.Parse.{digits_value, without_leading_plus}
+use Rattle.clap.specs.declared.builder.action.ArgAction.TheVariants.{Set}
+use Rattle.clap.specs.declared.builder.value_parser.ValueParser.TheVariants as parser
+use Rattle.clap.specs.Words.{App, Kinds, Row, Rule, Text, fault_of, new_app, new_rule, one_of, subcommand_of, with_rule, with_subcommand}
 use Rattle.avm_node.specs.declared.command_line.NodeCommand.{NodeCommand}
-use Rattle.avm_node.specs.declared.command_line.NodeCommand.TheVariants.{Asm, Check, Dis}
+use Rattle.avm_node.specs.declared.command_line.NodeCommand.TheVariants.{Asm, Check, Dis, Replay, State}
 
--- the commands and their options, without a word for the program's name
+-- the option `--at T`, which has to be given
+abbrev pub at_rule : Rule
+at_rule = record (new_rule (codes "at")) { long = Some (codes "at"); action = Some Set; parser = Some (parser.Unsigned 0 18446744073709551615); required = true }
+
+-- the program without its commands; no word is its name
+abbrev pub bare_line : App
+bare_line = let avm = new_app (codes "avm") in record avm { top = record avm.top { no_binary_name = true } }
+
+-- the commands and their options
 abbrev pub command_line : App
 command_line =
-    let avm = new_app (codes "avm") in
-    let with_asm = with_subcommand (record avm { top = record avm.top { no_binary_name = true } }) (new_app (codes "asm")).top in
+    let with_asm = with_subcommand bare_line (new_app (codes "asm")).top in
     let with_dis = with_subcommand with_asm (new_app (codes "dis")).top in
-    with_subcommand with_dis (new_app (codes "check")).top
+    let with_check = with_subcommand with_dis (new_app (codes "check")).top in
+    let with_replay = with_subcommand with_check (new_app (codes "replay")).top in
+    with_subcommand with_replay (with_rule (new_app (codes "state")) at_rule).top
 
-abbrev pub command_named : Text → Option NodeCommand
-command_named name =
+abbrev pub is_digit : ℕ → Bool
+is_digit c = nat_lt (digit_value c) 10
+
+-- the number below 2^64 that decimal digits write, behind a plus or none
+abbrev pub u64_of : Text → Option ℕ
+u64_of text =
+    let digits = without_leading_plus text in
+    if nat_lt 0 (length digits) && (list_all is_digit digits && nat_lt (digits_value 10 digits) (2 ^ 64)) then Some (digits_value 10 digits) else None
+
+-- the command of a name, with its options
+abbrev pub command_named : Text → List Row → Option NodeCommand
+command_named name options =
     if bytes_eq name (codes "asm") then Some Asm
     else if bytes_eq name (codes "dis") then Some Dis
     else if bytes_eq name (codes "check") then Some Check
+    else if bytes_eq name (codes "replay") then Some Replay
+    else if bytes_eq name (codes "state") then option_map State (option_and_then u64_of (one_of (codes "at") options))
     else None
 
 -- nothing, where there is a fault
@@ -28,7 +54,7 @@ unless_faulty (kind ∷ kinds) value = None
 -- the command that words are to clap where these are the commands, of which a request for help is none
 unfoldable pub command_among : App → List Text → Option NodeCommand
 command_among commands words = unless_faulty (fault_of commands words)
-    (option_and_then command_named (option_map (λ found. found.0) (subcommand_of commands words)))
+    (option_and_then (λ (found : Text × List Row). command_named found.0 found.1) (subcommand_of commands words))
 
 -- the command that the words after the program's name are
 abbrev pub command_in : List Text → Option NodeCommand

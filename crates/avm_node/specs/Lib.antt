@@ -4,5 +4,7 @@ pub mod DigitLines
 pub mod Lines
 pub mod Refusals
 pub mod Programs
+pub mod Outcomes
+pub mod BlockCommands
 pub mod Answers
 pub mod Shown

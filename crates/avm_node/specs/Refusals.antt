@@ -4,6 +4,11 @@ use Rattle.teal_code.specs.declared.decode.CodeFault.{CodeFault}
 use Rattle.teal_code.specs.declared.decode.CodeFault.TheVariants as code
 use Rattle.teal_check.specs.declared.fault.CheckFault.{CheckFault}
 use Rattle.teal_check.specs.declared.fault.CheckFault.TheVariants as check
+use Rattle.avm_ledger.specs.declared.ledger_fault.LedgerFault.{LedgerFault}
+use Rattle.avm_ledger.specs.declared.ledger_fault.LedgerFault.TheVariants as ledger
+use Rattle.avm_block.specs.declared.block_fault.BlockFault.{BlockFault}
+use Rattle.avm_block.specs.declared.block_fault.BlockFault.TheVariants as block
+use Rattle.avm_replay.specs.declared.past.StateFault.TheVariants as state
 use Rattle.avm_node.specs.declared.refusal.Refusal.{Refusal}
 use Rattle.avm_node.specs.declared.refusal.Refusal.TheVariants as refusal
 use Rattle.avm_node.specs.Replies.{Reply, refused}
@@ -43,10 +48,33 @@ behind_name (Some place) = codes " " ++ (decimal place ++ codes "\n")
 abbrev pub check_text : CheckFault → List ℕ
 check_text fault = codes "refused check " ++ (check_name fault ++ behind_name (check_place fault))
 
+abbrev pub ledger_name : LedgerFault → List ℕ
+ledger_name ledger.Malformed = codes "Malformed"
+ledger_name ledger.Truncated = codes "Truncated"
+ledger_name ledger.Rest = codes "Rest"
+
+abbrev pub ledger_text : LedgerFault → List ℕ
+ledger_text fault = codes "refused ledger " ++ (ledger_name fault ++ codes "\n")
+
+abbrev pub block_name : BlockFault → List ℕ
+block_name block.Magic = codes "Magic"
+block_name block.Format = codes "Format"
+block_name block.Truncated = codes "Truncated"
+block_name block.Rest = codes "Rest"
+block_name block.Order = codes "Order"
+block_name block.Field = codes "Field"
+block_name block.Digest = codes "Digest"
+
+abbrev pub block_text : BlockFault → List ℕ
+block_text fault = codes "refused block " ++ (block_name fault ++ codes "\n")
+
 abbrev pub refusal_text : Refusal → List ℕ
 refusal_text (refusal.Hex line) = codes "refused hex " ++ (decimal line ++ codes "\n")
 refusal_text refusal.Lines = codes "refused lines\n"
 refusal_text (refusal.Check fault) = check_text fault
+refusal_text (refusal.Ledger fault) = ledger_text fault
+refusal_text (refusal.Block fault) = block_text fault
+refusal_text (refusal.State state.WrongBase) = codes "refused state WrongBase\n"
 
 abbrev pub refusal_reply : Refusal → Reply
 refusal_reply why = record { text = refusal_text why; status = refused }

@@ -1,12 +1,13 @@
 //! The words of the command line.
 
-ghost use Rattle.std.specs.Prelude.{◌≡◌, ◌↔◌, ◌∷◌, [], Some, None, IfOk, IsTrue, codes, map, option_and_then, option_map};
-ghost use Rattle.clap.specs.Words.{app_of, kind_of};
-ghost use Rattle.avm_node.specs.CommandLine.{command_in, command_line, command_named};
-ghost use Rattle.avm_node.specs.declared.command_line.NodeCommand.TheVariants.{Asm, Check, Dis};
+ghost use Rattle.std.specs.Prelude.{◌≡◌, ◌↔◌, ◌∷◌, [], Some, None, IfOk, IsTrue, codes, false, map, option_and_then};
+ghost use Rattle.clap.specs.Words.{app_of, found_of, kind_of, new_app, one_of, rows_of, rule_of, with_rule};
+ghost use Rattle.clap.specs.declared.builder.command.Command.TheViews.{out-Command};
+ghost use Rattle.avm_node.specs.CommandLine.{at_rule, bare_line, command_in, command_line, command_named, u64_of};
+ghost use Rattle.avm_node.specs.declared.command_line.NodeCommand.TheVariants.{Asm, Check, Dis, Replay, State};
 
 use clap::error::ErrorKind;
-use clap::{Command, Error};
+use clap::{Arg, ArgAction, ArgMatches, Command, Error};
 use std::alloc::{AllocError, Global};
 
 /// A command of the program.
@@ -18,6 +19,10 @@ pub enum NodeCommand {
     Dis,
     /// Checks a program.
     Check,
+    /// Replays a block over the ledger before it.
+    Replay,
+    /// Gives the ledger after the calls of a block with timestamps up to this one.
+    State(u64),
 }
 
 /// The command that the words after the program's name are, or none where they are to be answered with the usage line.
@@ -28,7 +33,10 @@ pub fn command_in<'a>(
     ensures { IfOk result (λ command. command ≡ command_in (map (λ word. word.now) words.now)) }
 {
     match command_line(alloc)?.try_get_matches_from(words) {
-        Ok(matches) => Ok(command_of(matches.subcommand_name())),
+        Ok(matches) => match matches.subcommand() {
+            Some((name, options)) => Ok(command_named(name, options)),
+            None => Ok(None),
+        },
         Err(error) if is_out_of_memory(&error) => Err(AllocError),
         Err(_) => Ok(None),
     }
@@ -40,16 +48,25 @@ fn is_out_of_memory(error: &Error) -> bool
     matches!(error.kind(), ErrorKind::OutOfMemory)
 }
 
-/// The command of a name, if there is one.
-fn command_of(name: Option<&str>) -> Option<NodeCommand>
-    ensures { result ≡ option_and_then command_named (option_map (λ text. text.now) name.entry) }
+/// The command of a name, with its options, if there is one.
+fn command_named(name: &str, options: &ArgMatches<'_>) -> Option<NodeCommand>
+    ensures { result ≡ command_named name.now (rows_of (found_of options.now)) }
 {
     match name {
-        Some("asm") => Some(NodeCommand::Asm),
-        Some("dis") => Some(NodeCommand::Dis),
-        Some("check") => Some(NodeCommand::Check),
+        "asm" => Some(NodeCommand::Asm),
+        "dis" => Some(NodeCommand::Dis),
+        "check" => Some(NodeCommand::Check),
+        "replay" => Some(NodeCommand::Replay),
+        "state" => Some(NodeCommand::State(timestamp_in(options)?)),
         _ => None,
     }
+}
+
+/// The timestamp that the options of `state` have.
+fn timestamp_in(options: &ArgMatches<'_>) -> Option<u64>
+    ensures { result ≡ option_and_then u64_of (one_of (codes "at") (rows_of (found_of options.now))) }
+{
+    options.get_one::<u64>("at")
 }
 
 /// The commands and their options.
@@ -59,20 +76,59 @@ fn command_line<'a>(alloc: Global) -> Result<Command<'a>, AllocError>
     let asm = Command::new(alloc, "asm");
     let dis = Command::new(alloc, "dis");
     let check = Command::new(alloc, "check");
-    Command::new(alloc, "avm")
-        .no_binary_name(true)
+    let replay = Command::new(alloc, "replay");
+    let state = state_line(alloc)?;
+    bare_line(alloc)
         .subcommand(asm)?
         .subcommand(dis)?
-        .subcommand(check)
+        .subcommand(check)?
+        .subcommand(replay)?
+        .subcommand(state)
+}
+
+/// The program without its commands.
+fn bare_line<'a>(alloc: Global) -> Command<'a>
+    ensures app { app_of result ≡ bare_line }
+    ensures local { (out-Command result).has_globals ≡ false }
+{
+    Command::new(alloc, "avm").no_binary_name(true)
+}
+
+/// The command `state` and its option.
+fn state_line<'a>(alloc: Global) -> Result<Command<'a>, AllocError>
+    ensures app { IfOk result (λ command. app_of command ≡ with_rule (new_app (codes "state")) at_rule) }
+    ensures local { IfOk result (λ command. (out-Command command).has_globals ≡ false) }
+{
+    let at = at_option(alloc);
+    Command::new(alloc, "state").arg(at)
+}
+
+fn at_option<'a>(alloc: Global) -> Arg<'a>
+    ensures rule { rule_of result ≡ at_rule }
+    ensures local { result.global ≡ false }
+{
+    Arg::new(alloc, "at")
+        .long("at")
+        .action(ArgAction::Set)
+        .value_parser(clap::value_parser!(u64))
+        .required(true)
 }
 
 /// The words of the commands, computed by their definition: there are no abbreviations, and neither a request for help nor
-/// a word too many is a command.
+/// a word too many is a command. A timestamp is a number below 2^64.
 #[tactic(auto, unfolding(clap::proofs::OnLiterals::clap_on_literals, crate::specs::CommandLine::command_among))]
 pub fn words_of_commands()
     ensures asm { command_in (codes "asm" ∷ []) ≡ Some Asm }
     ensures dis { command_in (codes "dis" ∷ []) ≡ Some Dis }
     ensures check { command_in (codes "check" ∷ []) ≡ Some Check }
+    ensures replay { command_in (codes "replay" ∷ []) ≡ Some Replay }
+    ensures state { command_in (codes "state" ∷ codes "--at" ∷ codes "2" ∷ []) ≡ Some (State 2) }
+    ensures state_in_one { command_in (codes "state" ∷ codes "--at=18446744073709551615" ∷ []) ≡ Some (State 18446744073709551615) }
+    ensures no_timestamp { command_in (codes "state" ∷ []) ≡ None }
+    ensures high_timestamp { command_in (codes "state" ∷ codes "--at" ∷ codes "18446744073709551616" ∷ []) ≡ None }
+    ensures other_timestamp { command_in (codes "state" ∷ codes "--at" ∷ codes "x" ∷ []) ≡ None }
+    ensures two_timestamps { command_in (codes "state" ∷ codes "--at=1" ∷ codes "--at=2" ∷ []) ≡ None }
+    ensures option_of_another { command_in (codes "replay" ∷ codes "--at=1" ∷ []) ≡ None }
     ensures no_word { command_in [] ≡ None }
     ensures abbreviation { command_in (codes "as" ∷ []) ≡ None }
     ensures upper_case { command_in (codes "ASM" ∷ []) ≡ None }

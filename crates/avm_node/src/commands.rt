@@ -1,15 +1,18 @@
 //! The commands of the program.
 
 ghost use Rattle.std.specs.Prelude.{◌≡◌, IfOk, IsSomeAnd, None, map};
-ghost use Rattle.avm_node.specs.Answers.{Answers, IsReply, command_reply};
+ghost use Rattle.avm_node.specs.Answers.{Answers, IsCommandReply, IsReply};
+ghost use Rattle.avm_ops.specs.Objects.{IsFull};
 ghost use Rattle.avm_node.specs.CommandLine.{command_in};
 ghost use Rattle.avm_node.specs.Shown.{shown};
 
 use crate::asm::{asm_reply, input_refusal};
+use crate::block_commands::{replay_reply, state_reply};
 use crate::command_line::{NodeCommand, command_in};
 use crate::input::{INPUT_LIMIT, read_input};
 use crate::output::{FAILED, Reply, USAGE, write_reply};
 use crate::programs::{check_reply, dis_reply};
+use avm_ops::{BoxedOp, Op, OpSet};
 use std::alloc::{AllocError, Global};
 use std::io::{self, Read, Write};
 
@@ -18,19 +21,22 @@ const USAGE_TEXT: &str = "usage: avm asm|dis|check|propose|replay|debug|state\n"
 /// Runs the command that the words after the program's name are, and gives the exit status.
 ///
 /// A failed or interrupted read and want of memory give status 3, with nothing written; so does a failed write, before
-/// which some of the answer may have been written. Words that are no command read nothing.
+/// which some of the answer may have been written. Words that are no command read nothing. The set has an object of every
+/// opcode.
 pub fn answer<'a, R: Read, W: Write>(
     alloc: Global,
     words: &'a [&'a str],
     reader: &mut R,
     writer: &mut W,
+    ops: &OpSet,
 ) -> Option<u8>
+    requires full { IsFull ⟦<BoxedOp as Op>⟧.opcode ops.now }
     ensures answers { IsSomeAnd result (Answers (command_in (map (λ word. word.now) words.now)) (R.remaining reader.old) (W.contents writer.old) (W.contents writer.new)) }
     ensures reads_nothing { command_in (map (λ word. word.now) words.now) ≡ None → reader.new ≡ reader.old }
 {
     let status = match command_in(alloc, words) {
         Ok(None) => write_reply(writer, USAGE_TEXT, USAGE),
-        Ok(Some(command)) => match reply_of(alloc, command, reader) {
+        Ok(Some(command)) => match reply_of(alloc, command, reader, ops) {
             Ok(reply) => write_reply(writer, reply.text.as_str(), reply.status),
             Err(_) => FAILED,
         },
@@ -40,23 +46,37 @@ pub fn answer<'a, R: Read, W: Write>(
 }
 
 /// What a command answers to its whole input.
-fn reply_of<R: Read>(alloc: Global, command: NodeCommand, reader: &mut R) -> io::Result<Reply>
+fn reply_of<R: Read>(
+    alloc: Global,
+    command: NodeCommand,
+    reader: &mut R,
+    ops: &OpSet,
+) -> io::Result<Reply>
+    requires full { IsFull ⟦<BoxedOp as Op>⟧.opcode ops.now }
     ensures { IfOk result (λ reply. IsReply command (R.remaining reader.old) (shown reply)) }
 {
     let input = read_input(alloc, reader)?;
     if input.len() > INPUT_LIMIT {
         return Ok(input_refusal(alloc)?);
     }
-    Ok(command_reply(alloc, command, input.as_slice())?)
+    Ok(command_reply(alloc, command, input.as_slice(), ops)?)
 }
 
 /// What a command answers to an input that is not too long.
-fn command_reply(alloc: Global, command: NodeCommand, input: &[u8]) -> Result<Reply, AllocError>
-    ensures { IfOk result (λ reply. shown reply ≡ command_reply command input.now) }
+fn command_reply(
+    alloc: Global,
+    command: NodeCommand,
+    input: &[u8],
+    ops: &OpSet,
+) -> Result<Reply, AllocError>
+    requires full { IsFull ⟦<BoxedOp as Op>⟧.opcode ops.now }
+    ensures { IfOk result (λ reply. IsCommandReply command input.now (shown reply)) }
 {
     match command {
         NodeCommand::Asm => asm_reply(alloc, input),
         NodeCommand::Dis => dis_reply(alloc, input),
         NodeCommand::Check => check_reply(alloc, input),
+        NodeCommand::Replay => replay_reply(alloc, input, ops),
+        NodeCommand::State(timestamp) => state_reply(alloc, timestamp, input, ops),
     }
 }

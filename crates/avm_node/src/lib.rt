@@ -1,14 +1,16 @@
 //! What the program `avm` answers: a command's text and exit status, from the words of its command line and its input.
 //!
 //! `specs/Answers.antt` says what each command answers, and `specs/CommandLine.antt` which words are which command. Inputs
-//! of lines of digits are read as `specs/DigitLines.antt` says.
+//! of lines of digits are read as `specs/DigitLines.antt` says. `specs/BlockCommands.antt` has the commands that replay blocks.
 #![tactic(auto)]
 
 mod asm;
+mod block_commands;
 mod command_line;
 mod commands;
 mod digit_lines;
 mod input;
+mod outcomes;
 mod output;
 mod programs;
 mod refusal;

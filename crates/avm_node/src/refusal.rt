@@ -1,10 +1,13 @@
 //! Why an input of lines of digits is refused, and what is answered to it.
 
 ghost use Rattle.std.specs.Prelude.{◌≡◌, IfOk, string_bytes};
-ghost use Rattle.avm_node.specs.Refusals.{check_name, check_place, check_text, code_name, refusal_reply};
+ghost use Rattle.avm_node.specs.Refusals.{block_text, check_name, check_place, check_text, code_name, ledger_text, refusal_reply};
 ghost use Rattle.avm_node.specs.Shown.{shown};
 
 use crate::output::{REFUSED, Reply};
+use avm_block::BlockFault;
+use avm_ledger::LedgerFault;
+use avm_replay::StateFault;
 use std::alloc::{AllocError, Global};
 use teal_check::CheckFault;
 use teal_code::CodeFault;
@@ -18,6 +21,12 @@ pub enum Refusal {
     Lines,
     /// The program breaks this rule.
     Check(CheckFault),
+    /// The ledger has this fault.
+    Ledger(LedgerFault),
+    /// The block has this fault.
+    Block(BlockFault),
+    /// There is no ledger of the past.
+    State(StateFault),
 }
 
 /// What is answered to a refused input.
@@ -28,6 +37,12 @@ pub fn refusal_reply(alloc: Global, refusal: Refusal) -> Result<Reply, AllocErro
         Refusal::Hex(line) => format!(in alloc; "refused hex {line}\n")?,
         Refusal::Lines => String::from_str(alloc, "refused lines\n")?,
         Refusal::Check(fault) => check_text(alloc, fault)?,
+        Refusal::Ledger(fault) => ledger_text(alloc, fault)?,
+        Refusal::Block(fault) => block_text(alloc, fault)?,
+        Refusal::State(StateFault::WrongBase) => String::from_str(
+            alloc,
+            "refused state WrongBase\n",
+        )?,
     };
     Ok(Reply {
         text,
@@ -43,6 +58,32 @@ fn check_text(alloc: Global, fault: CheckFault) -> Result<String, AllocError>
         Some(place) => format!(in alloc; "refused check {name} {place}\n"),
         None => format!(in alloc; "refused check {name}\n"),
     }
+}
+
+fn ledger_text(alloc: Global, fault: LedgerFault) -> Result<String, AllocError>
+    ensures { IfOk result (λ text. string_bytes text ≡ ledger_text fault) }
+{
+    let name = match fault {
+        LedgerFault::Malformed => "Malformed",
+        LedgerFault::Truncated => "Truncated",
+        LedgerFault::Rest => "Rest",
+    };
+    format!(in alloc; "refused ledger {name}\n")
+}
+
+fn block_text(alloc: Global, fault: BlockFault) -> Result<String, AllocError>
+    ensures { IfOk result (λ text. string_bytes text ≡ block_text fault) }
+{
+    let name = match fault {
+        BlockFault::Magic => "Magic",
+        BlockFault::Format => "Format",
+        BlockFault::Truncated => "Truncated",
+        BlockFault::Rest => "Rest",
+        BlockFault::Order => "Order",
+        BlockFault::Field => "Field",
+        BlockFault::Digest => "Digest",
+    };
+    format!(in alloc; "refused block {name}\n")
 }
 
 fn check_name(fault: CheckFault) -> &'static str

@@ -1,0 +1,12 @@
+use Rattle.std.proofs.Common.{◌∙◌, refl}
+use Rattle.avm_node.proofs.CommandNames.{if_ok, with_shape}
+use Rattle.avm_node.proofs.command_line.command_line.Goals as goal
+
+pub returns : goal.returns
+returns c =
+    let asm = with_shape _ _ _ _ _ c.in_ok-subcommand.ensures c.new-asm.ensures.local c.bare_line.ensures.app c.new-asm.ensures.app in
+    let dis = with_shape _ _ _ _ _ c.in_ok-subcommand-2.ensures c.new-dis.ensures.local asm c.new-dis.ensures.app in
+    let check = with_shape _ _ _ _ _ c.in_ok-subcommand-3.ensures c.new-check.ensures.local dis c.new-check.ensures.app in
+    let replay = with_shape _ _ _ _ _ c.in_ok-subcommand-4.ensures c.new-replay.ensures.local check c.new-replay.ensures.app in
+    if_ok c.subcommand-5.result _ _ c.subcommand-5.ensures
+    (λ line adds. with_shape _ _ line _ _ adds c.in_ok-state.ensures.local replay c.in_ok-state.ensures.app)

@@ -1,0 +1,169 @@
+//! The commands `replay` and `state`, whose input is two lines of digits: the ledger before a block, and the block.
+
+ghost use Rattle.std.specs.Prelude.{◌≡◌, IfOk, Ok};
+ghost use Rattle.teal_value.specs.Answer.{Gives, ◌>>=◌};
+ghost use Rattle.avm_ops.specs.Objects.{IsFull};
+ghost use Rattle.avm_replay.specs.declared.verdict.Verdict.TheVariants as verdict;
+ghost use Rattle.avm_node.specs.BlockCommands.{IsReplayReply, IsVerdictReply, agrees_reply, first_block, first_ledger, ledger_and_block, needed_bytes, past_of, state_reply, verdict_reply};
+ghost use Rattle.avm_node.specs.Replies.{refused};
+ghost use Rattle.avm_node.specs.DigitLines.{digit_lines};
+ghost use Rattle.avm_node.specs.Shown.{shown};
+
+use crate::digit_lines::DigitLines;
+use crate::outcomes::outcome_text;
+use crate::output::{DONE, REFUSED, Reply};
+use crate::refusal::{Refusal, refusal_reply};
+use avm_block::{Block, decode};
+use avm_call::Outcome;
+use avm_ledger::Ledger;
+use avm_ops::{BoxedOp, Op, OpSet};
+use avm_replay::{Verdict, replay, state_at};
+use std::alloc::{AllocError, Global};
+use teal_value::Failure;
+
+/// What `replay` answers to its input: whether the block replays over the ledger, or the first thing that differs.
+pub fn replay_reply(alloc: Global, input: &[u8], ops: &OpSet) -> Result<Reply, AllocError>
+    requires full { IsFull ⟦<BoxedOp as Op>⟧.opcode ops.now }
+    ensures { IfOk result (λ reply. IsReplayReply input.now (shown reply)) }
+{
+    match ledger_and_block(alloc, input) {
+        Ok((ledger, block)) => verdict_on(alloc, &ledger, &block, ops),
+        Err(Failure::Fault(refusal)) => refusal_reply(alloc, refusal),
+        Err(Failure::Memory) => Err(AllocError),
+    }
+}
+
+/// What `state` answers to its input: the ledger after the calls with timestamps up to this one.
+pub fn state_reply(
+    alloc: Global,
+    timestamp: u64,
+    input: &[u8],
+    ops: &OpSet,
+) -> Result<Reply, AllocError>
+    requires full { IsFull ⟦<BoxedOp as Op>⟧.opcode ops.now }
+    ensures { IfOk result (λ reply. shown reply ≡ state_reply timestamp input.now) }
+{
+    match past_ledger(alloc, timestamp, input, ops) {
+        Ok(ledger) => {
+            let bytes = ledger.canonical(alloc)?;
+            let mut text = hex::encode(alloc, bytes.as_slice())?;
+            text.push('\n')?;
+            Ok(Reply { text, status: DONE })
+        }
+        Err(Failure::Fault(refusal)) => refusal_reply(alloc, refusal),
+        Err(Failure::Memory) => Err(AllocError),
+    }
+}
+
+/// The verdict on a block, as an answer.
+fn verdict_on(
+    alloc: Global,
+    ledger: &Ledger,
+    block: &Block,
+    ops: &OpSet,
+) -> Result<Reply, AllocError>
+    requires full { IsFull ⟦<BoxedOp as Op>⟧.opcode ops.now }
+    ensures { IfOk result (λ reply. IsVerdictReply (Ok (ledger.now, block.now)) (shown reply)) }
+{
+    match replay(alloc, ledger, block, ops)? {
+        Verdict::Agrees(_after) => agrees_reply(alloc, block.after()),
+        Verdict::WrongBase => wrong_reply(alloc, "wrong base\n"),
+        Verdict::WrongOutcome { entry, found } => wrong_outcome_reply(alloc, entry, found),
+        Verdict::WrongState => wrong_reply(alloc, "wrong state\n"),
+    }
+}
+
+/// The answer where a block agrees: the digest of the ledger after it.
+fn agrees_reply(alloc: Global, digest: &[u8; 32]) -> Result<Reply, AllocError>
+    ensures { IfOk result (λ reply. shown reply ≡ agrees_reply digest.now) }
+{
+    let digits = hex::encode(alloc, digest.as_slice())?;
+    let text = format!(in alloc; "agrees {digits}\n")?;
+    Ok(Reply { text, status: DONE })
+}
+
+fn wrong_outcome_reply(
+    alloc: Global,
+    entry: usize,
+    found: Outcome,
+) -> Result<Reply, AllocError>
+    ensures { IfOk result (λ reply. shown reply ≡ verdict_reply (verdict.WrongOutcome entry found)) }
+{
+    let found = outcome_text(alloc, found)?;
+    let text = format!(in alloc; "wrong outcome {entry} {found}\n")?;
+    Ok(Reply {
+        text,
+        status: REFUSED,
+    })
+}
+
+fn wrong_reply(alloc: Global, text: &str) -> Result<Reply, AllocError>
+    ensures { IfOk result (λ reply. shown reply ≡ record { text = text.now; status = refused }) }
+{
+    let text = String::from_str(alloc, text)?;
+    Ok(Reply {
+        text,
+        status: REFUSED,
+    })
+}
+
+/// The ledger after the calls with timestamps up to this one.
+fn past_ledger(
+    alloc: Global,
+    timestamp: u64,
+    input: &[u8],
+    ops: &OpSet,
+) -> Result<Ledger, Failure<Refusal>>
+    requires full { IsFull ⟦<BoxedOp as Op>⟧.opcode ops.now }
+    ensures { Gives (λ l. l) result (ledger_and_block (digit_lines input.now) >>= past_of timestamp) }
+{
+    let (ledger, block) = ledger_and_block(alloc, input)?;
+    match state_at(alloc, &ledger, &block, timestamp, ops) {
+        Ok(past) => Ok(past),
+        Err(Failure::Fault(fault)) => Err(Failure::Fault(Refusal::State(fault))),
+        Err(Failure::Memory) => Err(Failure::Memory),
+    }
+}
+
+/// The ledger and the block of the only two lines.
+fn ledger_and_block(alloc: Global, input: &[u8]) -> Result<(Ledger, Block), Failure<Refusal>>
+    ensures { Gives (λ both. both) result (ledger_and_block (digit_lines input.now)) }
+{
+    let mut lines = DigitLines::new(input);
+    let ledger = next_ledger(alloc, &mut lines)?;
+    let block = next_block(alloc, &mut lines)?;
+    lines.end()?;
+    Ok((ledger, block))
+}
+
+fn next_ledger(alloc: Global, lines: &mut DigitLines) -> Result<Ledger, Failure<Refusal>>
+    ensures { Gives (λ ledger. (ledger, lines.new)) result (first_ledger lines.old) }
+{
+    let bytes = needed_bytes(alloc, lines)?;
+    match Ledger::read(alloc, bytes.as_slice()) {
+        Ok(ledger) => Ok(ledger),
+        Err(Failure::Fault(fault)) => Err(Failure::Fault(Refusal::Ledger(fault))),
+        Err(Failure::Memory) => Err(Failure::Memory),
+    }
+}
+
+fn next_block(alloc: Global, lines: &mut DigitLines) -> Result<Block, Failure<Refusal>>
+    ensures { Gives (λ block. (block, lines.new)) result (first_block lines.old) }
+{
+    let bytes = needed_bytes(alloc, lines)?;
+    match decode(alloc, bytes.as_slice()) {
+        Ok(block) => Ok(block),
+        Err(Failure::Fault(fault)) => Err(Failure::Fault(Refusal::Block(fault))),
+        Err(Failure::Memory) => Err(Failure::Memory),
+    }
+}
+
+/// The bytes of the next line, which there has to be.
+fn needed_bytes(alloc: Global, lines: &mut DigitLines) -> Result<Vec<u8>, Failure<Refusal>>
+    ensures { Gives (λ bytes. (bytes.items, lines.new)) result (needed_bytes lines.old) }
+{
+    match lines.next_bytes(alloc)? {
+        Some(bytes) => Ok(bytes),
+        None => Err(Failure::Fault(Refusal::Lines)),
+    }
+}

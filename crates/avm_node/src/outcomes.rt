@@ -1,0 +1,86 @@
+//! Outcomes in words.
+
+ghost use Rattle.std.specs.Prelude.{◌≡◌, IfOk, string_bytes};
+ghost use Rattle.avm_node.specs.Outcomes.{cause_text, fault_name, faulted_text, outcome_text, why_name};
+
+use avm_call::{Cause, Outcome, Why};
+use std::alloc::{AllocError, Global};
+use teal_value::Fault;
+
+/// An outcome in words.
+pub fn outcome_text(alloc: Global, outcome: Outcome) -> Result<String, AllocError>
+    ensures { IfOk result (λ text. string_bytes text ≡ outcome_text outcome) }
+{
+    match outcome {
+        Outcome::Approved => String::from_str(alloc, "approved"),
+        Outcome::Rejected => String::from_str(alloc, "rejected"),
+        Outcome::Faulted(fault, place) => faulted_text(alloc, fault, place),
+        Outcome::Refused(why) => {
+            let name = why_name(why);
+            format!(in alloc; "refused {name}")
+        }
+        Outcome::ClearedAnyway(cause) => {
+            let cause = cause_text(alloc, cause)?;
+            format!(in alloc; "cleared {cause}")
+        }
+    }
+}
+
+fn cause_text(alloc: Global, cause: Cause) -> Result<String, AllocError>
+    ensures { IfOk result (λ text. string_bytes text ≡ cause_text cause) }
+{
+    match cause {
+        Cause::Gone => String::from_str(alloc, "gone"),
+        Cause::Rejected => String::from_str(alloc, "rejected"),
+        Cause::Faulted(fault, place) => faulted_text(alloc, fault, place),
+    }
+}
+
+fn faulted_text(alloc: Global, fault: Fault, place: u16) -> Result<String, AllocError>
+    ensures { IfOk result (λ text. string_bytes text ≡ faulted_text fault place) }
+{
+    let name = fault_name(fault);
+    format!(in alloc; "faulted {name} {place}")
+}
+
+fn why_name(why: Why) -> &'static str
+    ensures { result.now ≡ why_name why }
+{
+    match why {
+        Why::NoApp => "NoApp",
+        Why::AlreadyIn => "AlreadyIn",
+        Why::NotIn => "NotIn",
+        Why::IdsEnd => "IdsEnd",
+    }
+}
+
+fn fault_name(fault: Fault) -> &'static str
+    ensures { result.now ≡ fault_name fault }
+{
+    match fault {
+        Fault::Err => "Err",
+        Fault::Underflow => "Underflow",
+        Fault::WrongType => "WrongType",
+        Fault::Compare => "Compare",
+        Fault::Overflow => "Overflow",
+        Fault::Negative => "Negative",
+        Fault::DivZero => "DivZero",
+        Fault::TooLong => "TooLong",
+        Fault::Range => "Range",
+        Fault::BtoiLength => "BtoiLength",
+        Fault::StackFull => "StackFull",
+        Fault::NoConstant => "NoConstant",
+        Fault::BadField => "BadField",
+        Fault::NoTxn => "NoTxn",
+        Fault::NoArg => "NoArg",
+        Fault::NoAccount => "NoAccount",
+        Fault::NoForeign => "NoForeign",
+        Fault::NotOptedIn => "NotOptedIn",
+        Fault::NoSuchApp => "NoSuchApp",
+        Fault::Schema => "Schema",
+        Fault::KeyLength => "KeyLength",
+        Fault::FinalDepth => "FinalDepth",
+        Fault::FinalBytes => "FinalBytes",
+        Fault::Assert => "Assert",
+    }
+}

@@ -1,0 +1,12 @@
+//! The replayer: whether a block holds over the ledger before it, and the ledger after some of its calls. What it finds is
+//! said in `specs/Verdicts.antt`, by the meaning of a block (`avm_block`, `specs/Blocks.antt`); one thread makes one call
+//! after another, by `avm_run::call_on`.
+#![tactic(auto)]
+
+mod past;
+mod replayer;
+mod verdict;
+
+pub use past::{StateError, StateFault, state_at};
+pub use replayer::{one_verdict, replay};
+pub use verdict::Verdict;

@@ -1,0 +1,75 @@
+//! Ledgers of the past.
+
+ghost use Rattle.std.specs.Prelude.{◌≡◌, IfErr, IfOk};
+ghost use Rattle.avm_ops.specs.Objects.{IsFull};
+ghost use Rattle.avm_ledger.specs.Spellings.{ledger_digest};
+ghost use Rattle.avm_call.specs.Replay.{replayed};
+ghost use Rattle.avm_block.specs.Blocks.{RisesAbove, calls_in};
+ghost use Rattle.avm_replay.specs.Past.{IsRefused, entries_until, ledger_at};
+
+use avm_block::{Block, Entry};
+use avm_ledger::{Header, Ledger};
+use avm_ops::{BoxedOp, Op, OpSet};
+use avm_run::call_on;
+use std::alloc::{AllocError, Global};
+use teal_value::Failure;
+
+/// Why there is no ledger of the past.
+#[derive(Clone, Copy, Debug, PartialEq, Eq)]
+pub enum StateFault {
+    /// The block stands over another ledger.
+    WrongBase = 1,
+}
+
+/// A [`StateFault`], or want of memory.
+pub type StateError = Failure<StateFault>;
+
+/// The ledger after the calls of a block with timestamps up to this one.
+pub fn state_at(
+    alloc: Global,
+    ledger: &Ledger,
+    block: &Block,
+    timestamp: u64,
+    ops: &OpSet,
+) -> Result<Ledger, StateError>
+    requires full { IsFull ⟦<BoxedOp as Op>⟧.opcode ops.now }
+    ensures base { IfOk result (λ _. block.now.base ≡ ledger_digest ledger.now) }
+    ensures state { IfOk result (λ after. after ≡ ledger_at ledger.now block.now timestamp) }
+    ensures refused { IfErr result (IsRefused ledger.now block.now) }
+{
+    if ledger.digest(alloc)? != *block.base() {
+        return Err(Failure::Fault(StateFault::WrongBase));
+    }
+    let mut after = ledger.clone()?;
+    make_until(
+        alloc,
+        &mut after,
+        block.header(),
+        block.entries(),
+        timestamp,
+        ops,
+    )?;
+    Ok(after)
+}
+
+/// Makes the calls of entries on a ledger, up to the last that isn't behind the timestamp.
+fn make_until(
+    alloc: Global,
+    ledger: &mut Ledger,
+    header: &Header,
+    entries: &[Entry],
+    timestamp: u64,
+    ops: &OpSet,
+) -> Result<(), AllocError>
+    requires full { IsFull ⟦<BoxedOp as Op>⟧.opcode ops.now }
+    requires rising { RisesAbove 0 entries.now }
+    ensures { IfOk result (λ _. ledger.new ≡ replayed ledger.old header.now (calls_in (entries_until timestamp entries.now))) }
+{
+    for entry in entries {
+        if entry.timestamp > timestamp {
+            return Ok(());
+        }
+        call_on(alloc, ledger, &entry.call, header, ops)?;
+    }
+    Ok(())
+}

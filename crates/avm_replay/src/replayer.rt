@@ -1,0 +1,78 @@
+//! Replaying a block.
+
+ghost use Rattle.std.specs.Prelude.{◌≡◌, ◌≤◌, ◌↔◌, IfOk, IsTrue, length};
+ghost use Rattle.avm_ops.specs.Objects.{IsFull};
+ghost use Rattle.avm_replay.specs.Verdicts.{Compares, Judges, OneVerdict};
+
+use crate::verdict::Verdict;
+use avm_block::{Block, Entry, MAX_ENTRIES};
+use avm_call::Outcome;
+use avm_ledger::{Header, Ledger};
+use avm_ops::{BoxedOp, Op, OpSet};
+use avm_run::call_on;
+use std::alloc::{AllocError, Global};
+
+/// Makes the calls of a block over the ledger before it, and compares. The ledger is copied once; a call costs what it
+/// touches.
+pub fn replay(
+    alloc: Global,
+    ledger: &Ledger,
+    block: &Block,
+    ops: &OpSet,
+) -> Result<Verdict, AllocError>
+    requires full { IsFull ⟦<BoxedOp as Op>⟧.opcode ops.now }
+    ensures { IfOk result (λ verdict. Judges ledger.now block.now verdict) }
+{
+    if ledger.digest(alloc)? != *block.base() {
+        return Ok(Verdict::WrongBase);
+    }
+    let mut after = ledger.clone()?;
+    if let Some((entry, found)) = first_wrong(
+        alloc,
+        &mut after,
+        block.header(),
+        block.entries(),
+        ops,
+    )? {
+        return Ok(Verdict::WrongOutcome { entry, found });
+    }
+    if after.digest(alloc)? != *block.after() {
+        return Ok(Verdict::WrongState);
+    }
+    Ok(Verdict::Agrees(after))
+}
+
+/// Makes the calls of entries on a ledger, up to the first that ends otherwise than its entry says; gives its number and
+/// how it ends.
+fn first_wrong(
+    alloc: Global,
+    ledger: &mut Ledger,
+    header: &Header,
+    entries: &[Entry],
+    ops: &OpSet,
+) -> Result<Option<(usize, Outcome)>, AllocError>
+    requires full { IsFull ⟦<BoxedOp as Op>⟧.opcode ops.now }
+    requires few { length entries.now ≤ MAX_ENTRIES }
+    ensures { IfOk result (Compares ledger.old ledger.new header.now entries.now) }
+{
+    let mut number = 0;
+    for entry in entries {
+        number += 1;
+        let found = call_on(alloc, ledger, &entry.call, header, ops)?;
+        if !are_same(found, entry.outcome) {
+            return Ok(Some((number, found)));
+        }
+    }
+    Ok(None)
+}
+
+fn are_same(outcome: Outcome, other: Outcome) -> bool
+    ensures { IsTrue result ↔ (outcome ≡ other) }
+{
+    outcome == other
+}
+
+/// A block has one verdict over a ledger; so it is found to agree exactly where it replays.
+pub fn one_verdict()
+    ensures { OneVerdict }
+{}
