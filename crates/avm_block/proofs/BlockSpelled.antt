@@ -165,14 +165,14 @@ count_spelled bytes x all e =
     let rule = kept (λ z. leb z.0 4096) Field n x e1 in
     record { spelled = subst (λ p. IsSpelled bytes (u32_bytes p.0) p.1) rule.1 (u32_spelled Truncated bytes n all en); few = leb-true x.0 4096 rule.0 })
 
-record BodyRead (accepted : Profile → CallData → Bool) (bytes : List ℕ) (x : Block × List ℕ) : Type 0 where
-  spelled : IsSpelled bytes (body_bytes x.0) x.1
-  block : IsBlock accepted x.0
+pub record BodyRead (accepted : Profile → CallData → Bool) (bytes : List ℕ) (x : Block × List ℕ) : Type 0 where
+  pub spelled : IsSpelled bytes (body_bytes x.0) x.1
+  pub block : IsBlock accepted x.0
 
 digest_spelled : (bytes : List ℕ) (x : List ℕ × List ℕ) → AllBytes bytes → bytes_at Truncated 32 bytes ≡ Ok x → IsSpelled bytes x.0 x.1
 digest_spelled bytes x all e = spelled bytes x.0 x.1 all (bytes_spelled Truncated 32 bytes x e).0
 
-body_spelled : (accepted : Profile → CallData → Bool) (bytes : List ℕ) (x : Block × List ℕ) → AllBytes bytes → body_at accepted bytes ≡ Ok x → BodyRead accepted bytes x
+pub body_spelled : (accepted : Profile → CallData → Bool) (bytes : List ℕ) (x : Block × List ℕ) → AllBytes bytes → body_at accepted bytes ≡ Ok x → BodyRead accepted bytes x
 body_spelled accepted bytes x all e =
     from (magic_at bytes) _ x e (λ m em e1.
     let s1 = magic_spelled bytes m all em in

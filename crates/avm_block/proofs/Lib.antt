@@ -1,6 +1,9 @@
 pub mod CallFits
+pub mod CallFront
+pub mod EntriesReading
 pub mod BlockMade
 pub mod OutcomeBack
 pub mod BlockBack
 pub mod OutcomeSpelled
 pub mod BlockSpelled
+pub mod BlockRead

@@ -1,13 +1,15 @@
-//! Blocks: calls in the order of their timestamps, with how each ended. What a block is and when it replays over a ledger
-//! stands in `specs/Blocks.antt`, which calls it may have in `specs/AcceptedCalls.antt`, its bytes in
-//! `specs/BlockSpelling.antt` and `specs/BlockReader.antt`, their laws in `reading_laws`. Outcomes, formats and headers are
-//! read and spelled by the code so far.
+//! Blocks: calls in the order of their timestamps, with how each ended. A `Block` is one by its type; `encode` writes its
+//! bytes, and `decode` reads them. What a block is and when it replays over a ledger stands in `specs/Blocks.antt`, which
+//! calls it may have in `specs/AcceptedCalls.antt`, its bytes in `specs/BlockSpelling.antt` and `specs/BlockReader.antt`,
+//! their laws in `reading_laws`.
 #![tactic(auto)]
 
 mod accepted_calls;
 mod block;
 mod block_fault;
 mod call_sizes;
+mod decoding;
+mod encoding;
 mod entry;
 pub mod header_codec;
 pub mod outcome_codec;
@@ -16,4 +18,6 @@ pub mod reading_laws;
 pub use accepted_calls::accepts;
 pub use block::{Block, MAX_ENTRIES};
 pub use block_fault::{BlockError, BlockFault};
+pub use decoding::decode;
+pub use encoding::encode;
 pub use entry::Entry;
