@@ -4,9 +4,8 @@ use Rattle.std.specs.Str.{IsUtf8, is_utf8}
 use Rattle.std.proofs.lemmas.Str.{IsUtf8-from_is_utf8, is_utf8-from_IsUtf8}
 use Rattle.teal_source.specs.declared.fault.AsmFault.{AsmFault}
 use Rattle.teal_asm.specs.Program.{assembled}
-use Rattle.avm_node.specs.declared.command_line.NodeCommand.{NodeCommand}
 use Rattle.avm_node.specs.Replies.{input_refusal}
-use Rattle.avm_node.specs.Answers.{IsInput, asm_reply, assembly_reply, command_reply, input_limit, reply_of}
+use Rattle.avm_node.specs.Answers.{IsInput, asm_reply, assembly_reply, input_limit}
 
 not_utf8 : (bytes : List ℕ) → (IsUtf8 bytes → ⊥) → is_utf8 bytes ≡ false
 not_utf8 bytes fails =
@@ -21,12 +20,6 @@ asm_reply-not_utf8 input fails = rw (not_utf8 input fails) refl
 pub asm_reply-utf8 : (input text : List ℕ) (meant : Result (List ℕ) AsmFault) → IsUtf8 input → text ≡ input
     → assembled text ≡ meant → asm_reply input ≡ assembly_reply meant
 asm_reply-utf8 input text meant u same means = rw (is_utf8-from_IsUtf8 input u, ← same, means) refl
-
-pub reply_of-long : (command : NodeCommand) (input : List ℕ) → input_limit < length input → reply_of command input ≡ input_refusal
-reply_of-long command input long = let t : nat_lt input_limit (length input) ≡ true = search (arith) in rw t refl
-
-pub reply_of-short : (command : NodeCommand) (input : List ℕ) → length input ≤ input_limit → reply_of command input ≡ command_reply command input
-reply_of-short command input short = let t : nat_lt input_limit (length input) ≡ false = search (arith) in rw t refl
 
 pub IsInput-taken : (limit : ℕ) (had : Option (List ℕ)) (input : List ℕ) → limit ≡ input_limit + 1
     → IfSome (option_map (take limit) had) (λ xs. input ≡ [] ++ xs) → IsInput had input

@@ -1,5 +1,5 @@
 -- What `replay` and `state` answer to their input: a line of digits for the ledger before a block, and one for the block.
-use Rattle.std.specs.Prelude.{◌≡◌, ℕ, ◌++◌, List, [], ◌∷◌, ◌×◌, Result, Ok, Err, codes, decimal, if◌then◌else◌}
+use Rattle.std.specs.Prelude.{◌≡◌, ℕ, ◌++◌, List, [], ◌∷◌, Result, Ok, Err, codes, decimal, if◌then◌else◌}
 use Rattle.hex.specs.Hex.{encode_lower}
 use Rattle.teal_value.specs.Answer.{◌>>=◌}
 use Rattle.teal_value.specs.SameValues.{are_same_bytes}
@@ -74,10 +74,14 @@ abbrev pub past_of : ℕ → Ledger × Block → Result Ledger Refusal
 past_of timestamp input =
     if are_same_bytes input.1.base (ledger_digest input.0) then Ok (ledger_at input.0 input.1 timestamp) else Err (refusal.State state_fault.WrongBase)
 
+-- the ledger at a timestamp, of an input
+abbrev pub past_ledger : ℕ → List ℕ → Result Ledger Refusal
+past_ledger timestamp input = ledger_and_block (digit_lines input) >>= past_of timestamp
+
 abbrev pub ledger_reply : Result Ledger Refusal → Reply
 ledger_reply (Ok l) = record { text = encode_lower (ledger_bytes l) ++ codes "\n"; status = done }
 ledger_reply (Err why) = refusal_reply why
 
 -- what `state --at T` answers to an input
 abbrev pub state_reply : ℕ → List ℕ → Reply
-state_reply timestamp input = ledger_reply (ledger_and_block (digit_lines input) >>= past_of timestamp)
+state_reply timestamp input = ledger_reply (past_ledger timestamp input)

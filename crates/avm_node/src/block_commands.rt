@@ -1,10 +1,10 @@
 //! The commands `replay` and `state`, whose input is two lines of digits: the ledger before a block, and the block.
 
 ghost use Rattle.std.specs.Prelude.{◌≡◌, IfOk, Ok};
-ghost use Rattle.teal_value.specs.Answer.{Gives, ◌>>=◌};
+ghost use Rattle.teal_value.specs.Answer.{Gives};
 ghost use Rattle.avm_ops.specs.Objects.{IsFull};
 ghost use Rattle.avm_replay.specs.declared.verdict.Verdict.TheVariants as verdict;
-ghost use Rattle.avm_node.specs.BlockCommands.{IsReplayReply, IsVerdictReply, agrees_reply, first_block, first_ledger, ledger_and_block, needed_bytes, past_of, state_reply, verdict_reply};
+ghost use Rattle.avm_node.specs.BlockCommands.{IsReplayReply, IsVerdictReply, agrees_reply, first_block, first_ledger, ledger_and_block, ledger_reply, needed_bytes, past_ledger, state_reply, verdict_reply};
 ghost use Rattle.avm_node.specs.Replies.{refused};
 ghost use Rattle.avm_node.specs.DigitLines.{digit_lines};
 ghost use Rattle.avm_node.specs.Shown.{shown};
@@ -44,15 +44,19 @@ pub fn state_reply(
     ensures { IfOk result (λ reply. shown reply ≡ state_reply timestamp input.now) }
 {
     match past_ledger(alloc, timestamp, input, ops) {
-        Ok(ledger) => {
-            let bytes = ledger.canonical(alloc)?;
-            let mut text = hex::encode(alloc, bytes.as_slice())?;
-            text.push('\n')?;
-            Ok(Reply { text, status: DONE })
-        }
+        Ok(ledger) => ledger_reply(alloc, &ledger),
         Err(Failure::Fault(refusal)) => refusal_reply(alloc, refusal),
         Err(Failure::Memory) => Err(AllocError),
     }
+}
+
+fn ledger_reply(alloc: Global, ledger: &Ledger) -> Result<Reply, AllocError>
+    ensures { IfOk result (λ reply. shown reply ≡ ledger_reply (Ok ledger.now)) }
+{
+    let bytes = ledger.canonical(alloc)?;
+    let mut text = hex::encode(alloc, bytes.as_slice())?;
+    text.push('\n')?;
+    Ok(Reply { text, status: DONE })
 }
 
 /// The verdict on a block, as an answer.
@@ -66,7 +70,10 @@ fn verdict_on(
     ensures { IfOk result (λ reply. IsVerdictReply (Ok (ledger.now, block.now)) (shown reply)) }
 {
     match replay(alloc, ledger, block, ops)? {
-        Verdict::Agrees(_after) => agrees_reply(alloc, block.after()),
+        Verdict::Agrees(_after) => {
+            let reply = agrees_reply(alloc, block.after())?;
+            Ok(reply)
+        }
         Verdict::WrongBase => wrong_reply(alloc, "wrong base\n"),
         Verdict::WrongOutcome { entry, found } => wrong_outcome_reply(alloc, entry, found),
         Verdict::WrongState => wrong_reply(alloc, "wrong state\n"),
@@ -82,11 +89,7 @@ fn agrees_reply(alloc: Global, digest: &[u8; 32]) -> Result<Reply, AllocError>
     Ok(Reply { text, status: DONE })
 }
 
-fn wrong_outcome_reply(
-    alloc: Global,
-    entry: usize,
-    found: Outcome,
-) -> Result<Reply, AllocError>
+fn wrong_outcome_reply(alloc: Global, entry: usize, found: Outcome) -> Result<Reply, AllocError>
     ensures { IfOk result (λ reply. shown reply ≡ verdict_reply (verdict.WrongOutcome entry found)) }
 {
     let found = outcome_text(alloc, found)?;
@@ -115,7 +118,7 @@ fn past_ledger(
     ops: &OpSet,
 ) -> Result<Ledger, Failure<Refusal>>
     requires full { IsFull ⟦<BoxedOp as Op>⟧.opcode ops.now }
-    ensures { Gives (λ l. l) result (ledger_and_block (digit_lines input.now) >>= past_of timestamp) }
+    ensures { Gives (λ l. l) result (past_ledger timestamp input.now) }
 {
     let (ledger, block) = ledger_and_block(alloc, input)?;
     match state_at(alloc, &ledger, &block, timestamp, ops) {
