@@ -1,5 +1,6 @@
 //! The instructions on the stack, the constants, the scratch space, and where a run goes on, as objects: one type a family
-//! of opcodes, each with `of`, which gives the family's object of a code, so that a set is filled by a loop over the codes.
+//! of opcodes, each with `of`, which gives the family's object of a code, and `FlowOp` over all families, so that a set is
+//! filled by a loop over the codes.
 //!
 //! What an instruction does stands in `avm_ops`, `specs/Stack.antt`.
 #![tactic(auto)]
@@ -7,6 +8,7 @@
 mod block;
 mod branch;
 mod constants;
+mod flow_op;
 mod literal;
 mod scratch;
 mod stack;
@@ -15,6 +17,7 @@ mod stops;
 pub use block::Block;
 pub use branch::Branch;
 pub use constants::{Bytec, Intc};
+pub use flow_op::FlowOp;
 pub use literal::Literal;
 pub use scratch::Scratch;
 pub use stack::Stack;

@@ -5,8 +5,6 @@ use Rattle.teal_value.specs.declared.address.Address.{Address}
 use Rattle.teal_value.specs.declared.value.Value.{Value}
 use Rattle.teal_value.specs.declared.fault.Fault.{Fault}
 use Rattle.teal_value.specs.declared.fault.Fault.TheVariants as fault
-use Rattle.teal_table.specs.declared.opcode.Opcode.TheVariants as op
-use Rattle.teal_code.specs.declared.instr.Immediates.{Immediates}
 use Rattle.avm_ledger.specs.Entries.{Entries, value_of_key, with_entry}
 use Rattle.avm_ledger.specs.Schemas.{counts_in, counts_after, is_within, keeps_kind}
 use Rattle.avm_ledger.specs.declared.application.Application.{Application}
@@ -29,10 +27,9 @@ use Rattle.avm_cpu.specs.Operands.{one_bytes, bytes_and_value, uint_bytes_and_va
 use Rattle.avm_ops.specs.declared.op.Stop.{Stop}
 use Rattle.avm_ops.specs.declared.op.Stop.TheVariants as stop
 use Rattle.avm_ops.specs.Frame.{After, Stepped, must, there}
-use Rattle.avm_ops.specs.Effect.{effect}
-use Rattle.avm_ops.specs.Objects.{Does, context_of, known_effect}
-use Rattle.avm_ops.specs.States.{application, counts_written, global_counts, global_delete_of, global_entry, global_limit, global_put_over, key_written, leaves, local_limit, local_state, may_put, schema_in, the_local_state, value_length}
-use Rattle.avm_state_ops.specs.Parts.{Answers, schema_test}
+use Rattle.avm_ops.specs.Objects.{Does, context_of}
+use Rattle.avm_ops.specs.States.{application, counts_written, global_counts, global_delete, global_delete_of, global_entry, global_limit, global_put, global_put_over, key_written, leaves, local_limit, local_put, local_state, may_put, schema_in, the_local_state, value_length}
+use Rattle.avm_state_ops.specs.Parts.{Answers, known_row, schema_test}
 
 -- what follows a part whose value is known
 pub then_answer : {A B : Type 0} (k : Known) (t : Act Fault A) (f : A → Act Fault B) (a : A) → answer_from k t ≡ Ok (Ok a) → answer_from k (and_then t (on_ok f)) ≡ answer_from k (f a)
@@ -62,21 +59,19 @@ there_is : {A : Type 0} (o : Option A) (f : Fault) (a : A) → there o f ≡ Ok 
 there_is (Some b) f a e = let same : b ≡ a = cc in ap done same
 there_is None f a e = absurd cc
 
-pub global_delete_row : (m : Machine) (e : Environment) (i : Immediates) (key : List ℕ) (old : Option Value) (app : ℕ) → one_bytes m.stack ≡ Ok key → app ≡ e.current → answer_from (known_to e) (global_entry app key) ≡ Ok (Ok old)
-    → known_effect m e op.AppGlobalDel i ≡ answer_from (known_to e) (global_delete_of (context_of m e) key old)
-unfolding effect
-global_delete_row m e i key old app operands current entry =
+pub global_delete_row : (m : Machine) (e : Environment) (key : List ℕ) (old : Option Value) (app : ℕ) → one_bytes m.stack ≡ Ok key → app ≡ e.current → answer_from (known_to e) (global_entry app key) ≡ Ok (Ok old)
+    → known_row global_delete m e ≡ answer_from (known_to e) (global_delete_of (context_of m e) key old)
+global_delete_row m e key old app operands current entry =
     ap (λ r. answer_from (known_to e) (on_ok (λ k. and_then (global_entry e.current k) (on_ok (global_delete_of (context_of m e) k))) r)) operands
     ∙ then_answer (known_to e) (global_entry e.current key) (global_delete_of (context_of m e) key) old (subst (λ n. answer_from (known_to e) (global_entry n key) ≡ Ok (Ok old)) current entry)
 
 may_put_passes : (key : List ℕ) (v : Value) → nat_le (length key) 64 ≡ true → nat_le (value_length v) 64 ≡ true → may_put key v ≡ done tt
 may_put_passes key v short small = ap (λ b. and_then (test b fault.KeyLength) (on_ok (λ _. test (nat_le (value_length v) 64) fault.TooLong))) short ∙ ap (λ b. test b fault.TooLong) small
 
-pub global_put_row : (m : Machine) (e : Environment) (i : Immediates) (key : List ℕ) (v : Value) (old : Option Value) (app : ℕ) → bytes_and_value m.stack ≡ Ok (key, v)
+pub global_put_row : (m : Machine) (e : Environment) (key : List ℕ) (v : Value) (old : Option Value) (app : ℕ) → bytes_and_value m.stack ≡ Ok (key, v)
     → nat_le (length key) 64 ≡ true → nat_le (value_length v) 64 ≡ true → app ≡ e.current → answer_from (known_to e) (global_entry app key) ≡ Ok (Ok old)
-    → known_effect m e op.AppGlobalPut i ≡ answer_from (known_to e) (global_put_over (context_of m e) key v old (keeps_kind old (Some v)))
-unfolding effect
-global_put_row m e i key v old app operands short small current entry =
+    → known_row global_put m e ≡ answer_from (known_to e) (global_put_over (context_of m e) key v old (keeps_kind old (Some v)))
+global_put_row m e key v old app operands short small current entry =
     let over : Option Value → Act Fault After = λ o. global_put_over (context_of m e) key v o (keeps_kind o (Some v)) in
     ap (λ r. answer_from (known_to e) (on_ok (λ (p : List ℕ × Value). and_then (may_put p.0 p.1) (on_ok (λ _. and_then (global_entry e.current p.0) (on_ok (λ o. global_put_over (context_of m e) p.0 p.1 o (keeps_kind o (Some p.1))))))) r)) operands
     ∙ ap (λ t. answer_from (known_to e) (and_then t (on_ok (λ _. and_then (global_entry e.current key) (on_ok over))))) (may_put_passes key v short small)
@@ -103,15 +98,14 @@ test_is true f = refl
 test_is false f = refl
 
 -- a put into a local state, up to the test of the schema
-pub local_put_row : (m : Machine) (e : Environment) (i : Immediates) (index : ℕ) (key : List ℕ) (v : Value) (who : Address) (state : Entries) (row : Option Application) (app : ℕ)
+pub local_put_row : (m : Machine) (e : Environment) (index : ℕ) (key : List ℕ) (v : Value) (who : Address) (state : Entries) (row : Option Application) (app : ℕ)
     → uint_bytes_and_value m.stack ≡ Ok (index, key, v) → there (account e.call index) fault.NoAccount ≡ Ok who → app ≡ e.current
     → answer_from (known_to e) (local_state who app) ≡ Ok (Ok (Some state)) → nat_le (length key) 64 ≡ true → nat_le (value_length v) 64 ≡ true
     → answer_from (known_to e) (application app) ≡ Ok (Ok row)
-    → known_effect m e op.AppLocalPut i ≡ answer_from (known_to e) (on_ok
+    → known_row local_put m e ≡ answer_from (known_to e) (on_ok
     (λ _. done (leaves (context_of m e) 3 (with_item e.writes (item.Local who e.current) (value.Local (with_entry state key v)))))
     (schema_test state key v (schema_in (λ a. a.local_schema) row)))
-unfolding effect
-local_put_row m e i index key v who state row app operands account_is current state_is short small row_is =
+local_put_row m e index key v who state row app operands account_is current state_is short small row_is =
     let c = context_of m e in
     let k = known_to e in
     let put : Address → List ℕ → Value → Entries → Schema → Act Fault After = λ who' key' v' state' limit. and_then

@@ -3,6 +3,12 @@ use Rattle.teal_table.specs.declared.opcode.Opcode.{Opcode}
 use Rattle.teal_table.specs.declared.opcode.Opcode.TheVariants as op
 use Rattle.avm_state_ops.specs.declared.txn.Txn.{Txn}
 use Rattle.avm_state_ops.specs.declared.txn.Txn.TheVariants as txn
+use Rattle.avm_state_ops.specs.declared.reads.StateRead.{StateRead}
+use Rattle.avm_state_ops.specs.declared.reads.StateRead.TheVariants as read
+use Rattle.avm_state_ops.specs.declared.writes.StateWrite.{StateWrite}
+use Rattle.avm_state_ops.specs.declared.writes.StateWrite.TheVariants as write
+use Rattle.avm_state_ops.specs.declared.state_op.StateOp.{StateOp}
+use Rattle.avm_state_ops.specs.declared.state_op.StateOp.TheVariants as state
 
 abbrev pub txn_opcode : Txn → Opcode
 txn_opcode txn.Scalar = op.Txn
@@ -11,3 +17,22 @@ txn_opcode txn.GroupScalar = op.Gtxn
 txn_opcode txn.GroupElement = op.Gtxna
 txn_opcode txn.StackScalar = op.Gtxns
 txn_opcode txn.StackElement = op.Gtxnsa
+
+abbrev pub read_opcode : StateRead → Opcode
+read_opcode read.OptedIn = op.AppOptedIn
+read_opcode read.LocalGet = op.AppLocalGet
+read_opcode read.LocalGetEx = op.AppLocalGetEx
+read_opcode read.GlobalGet = op.AppGlobalGet
+read_opcode read.GlobalGetEx = op.AppGlobalGetEx
+
+abbrev pub write_opcode : StateWrite → Opcode
+write_opcode write.LocalPut = op.AppLocalPut
+write_opcode write.GlobalPut = op.AppGlobalPut
+write_opcode write.LocalDelete = op.AppLocalDel
+write_opcode write.GlobalDelete = op.AppGlobalDel
+
+abbrev pub state_opcode : StateOp → Opcode
+state_opcode (state.Txn row) = txn_opcode row
+state_opcode (state.Global row) = op.Global
+state_opcode (state.Read row) = read_opcode row
+state_opcode (state.Write row) = write_opcode row

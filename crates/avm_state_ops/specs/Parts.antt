@@ -3,14 +3,22 @@ use Rattle.std.specs.Prelude.{◌≡◌, ◌||◌, ℕ, List, Option, Some, None
 use Rattle.teal_value.specs.declared.value.Value.{Value}
 use Rattle.teal_value.specs.declared.fault.Fault.{Fault}
 use Rattle.teal_value.specs.declared.fault.Fault.TheVariants as fault
-use Rattle.avm_items.specs.Asks.{Answer}
+use Rattle.avm_items.specs.Asks.{Answer, answer_from}
+use Rattle.avm_items.specs.Acts.{Act}
+use Rattle.avm_items.specs.Environments.{Environment, known_to}
+use Rattle.avm_cpu.specs.Machine.{Machine}
 use Rattle.avm_ops.specs.declared.op.Stop.{Stop}
 use Rattle.avm_ops.specs.declared.op.Stop.TheVariants as stop
 use Rattle.avm_ledger.specs.declared.schema.Schema.{Schema}
 use Rattle.avm_ledger.specs.Entries.{Entries, value_of_key, with_entry}
 use Rattle.avm_ledger.specs.Schemas.{counts_in, is_within, keeps_kind}
-use Rattle.avm_ops.specs.Frame.{Context, After, must}
+use Rattle.avm_ops.specs.Frame.{Context, After, Stepped, must}
+use Rattle.avm_ops.specs.Objects.{context_of}
 use Rattle.avm_ops.specs.States.{leaves, key_written, counts_written}
+
+-- a row over what the call knows, or the first item that it asks for and the call doesn't know
+abbrev pub known_row : (Context → Act Fault After) → Machine → Environment → Answer Stepped
+known_row row m e = answer_from (known_to e) (row (context_of m e))
 
 -- the part's answer is this one, where the value is seen so
 abbrev pub Answers : {A B : Type 0} → (A → B) → Result A Stop → Answer (Result B Fault) → Type 0

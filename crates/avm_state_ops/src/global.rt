@@ -1,6 +1,6 @@
 //! The instruction that pushes a field of the block, or of the application that runs.
 
-ghost use Rattle.std.specs.Prelude.{◌≡◌, IfSome, IsSome};
+ghost use Rattle.std.specs.Prelude.{◌≡◌, IfSome, Some};
 ghost use Rattle.teal_table.specs.declared.opcode.Opcode.TheVariants as op;
 ghost use Rattle.teal_table.specs.Table.{code_of};
 ghost use Rattle.avm_items.specs.Asks.{answer_from};
@@ -62,7 +62,7 @@ impl GlobalOp {
     #[tactic(auto, unfolding(teal_table::specs::Table::row_of))]
     pub fn of(code: u8) -> Option<GlobalOp>
         ensures some { IfSome result (λ _. code_of op.Global ≡ code) }
-        ensures all { code_of op.Global ≡ code → IsSome result }
+        ensures all { (row : _) → code_of op.Global ≡ code → result ≡ Some row }
     {
         match code {
             0x32 => Some(GlobalOp),

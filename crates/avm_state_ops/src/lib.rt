@@ -1,5 +1,5 @@
 //! The instructions on the fields of a call and of a block, and on the states of applications and accounts, as objects:
-//! one type an opcode or a family of opcodes.
+//! one type a family of opcodes, each with `of`, which gives the family's object of a code, and `StateOp` over all families.
 //!
 //! What an instruction does stands in `avm_ops`, `specs/Fields.antt` and `specs/States.antt`.
 #![tactic(auto)]
@@ -8,10 +8,12 @@ mod fields;
 mod global;
 mod known;
 mod reads;
+mod state_op;
 mod txn;
 mod writes;
 
 pub use global::GlobalOp;
-pub use reads::{AppGlobalGet, AppGlobalGetEx, AppLocalGet, AppLocalGetEx, AppOptedIn};
+pub use reads::StateRead;
+pub use state_op::StateOp;
 pub use txn::Txn;
-pub use writes::{AppGlobalDel, AppGlobalPut, AppLocalDel, AppLocalPut};
+pub use writes::StateWrite;

@@ -1,17 +1,14 @@
 //! Instructions that read states.
 
-ghost use Rattle.std.specs.Prelude.{◌≡◌, ◌==◌, if◌then◌else◌, IfOk, IfSome, IsSome};
+ghost use Rattle.std.specs.Prelude.{◌≡◌, ◌==◌, if◌then◌else◌, IfOk, IfSome, Some};
 ghost use Rattle.std.specs.Option.{option_copied};
 ghost use Rattle.teal_value.specs.declared.fault.Fault.TheVariants.{NoForeign};
-ghost use Rattle.teal_table.specs.declared.opcode.Opcode.TheVariants as op;
 ghost use Rattle.teal_table.specs.Table.{code_of};
-ghost use Rattle.avm_items.specs.Asks.{answer_from};
-ghost use Rattle.avm_items.specs.Environments.{known_to};
-ghost use Rattle.avm_cpu.specs.Machine.{Machine};
 ghost use Rattle.avm_ops.specs.Frame.{flag};
-ghost use Rattle.avm_ops.specs.Objects.{context_of};
-ghost use Rattle.avm_ops.specs.States.{foreign_of, or_zero};
-ghost use Rattle.avm_state_ops.specs.Parts.{Answers};
+ghost use Rattle.avm_ops.specs.Objects.{Does, IfStopped};
+ghost use Rattle.avm_ops.specs.States.{foreign_of, global_get, global_get_ex, local_get, local_get_ex, opted_in, or_zero};
+ghost use Rattle.avm_state_ops.specs.Families.{read_opcode};
+ghost use Rattle.avm_state_ops.specs.Parts.{known_row};
 
 use crate::fields::account;
 use crate::known::{application, global_entry, local_state};
@@ -23,25 +20,50 @@ use teal_code::Instr;
 use teal_table::Opcode;
 use teal_value::{Fault, Value};
 
-/// Whether an account is opted in to an application.
+/// An instruction that reads a state.
 #[derive(Clone, Copy, Debug, PartialEq, Eq)]
-pub struct AppOptedIn;
+pub enum StateRead {
+    /// Whether an account is opted in to an application.
+    OptedIn,
+    /// A value of an account's local state of this application, 0 where there is none.
+    LocalGet,
+    /// A value of an account's local state of an application, and whether there is one.
+    LocalGetEx,
+    /// A value of this application's global state, 0 where there is none.
+    GlobalGet,
+    /// A value of an application's global state, and whether there is one.
+    GlobalGetEx,
+}
 
-/// A value of an account's local state of this application, 0 where there is none.
-#[derive(Clone, Copy, Debug, PartialEq, Eq)]
-pub struct AppLocalGet;
+impl StateRead {
+    /// The instruction of a code.
+    #[tactic(auto, unfolding(teal_table::specs::Table::row_of))]
+    pub fn of(code: u8) -> Option<StateRead>
+        ensures some { IfSome result (λ row. code_of (read_opcode row) ≡ code) }
+        ensures all { (row : _) → code_of (read_opcode row) ≡ code → result ≡ Some row }
+    {
+        match code {
+            0x61 => Some(StateRead::OptedIn),
+            0x62 => Some(StateRead::LocalGet),
+            0x63 => Some(StateRead::LocalGetEx),
+            0x64 => Some(StateRead::GlobalGet),
+            0x65 => Some(StateRead::GlobalGetEx),
+            _ => None,
+        }
+    }
 
-/// A value of an account's local state of an application, and whether there is one.
-#[derive(Clone, Copy, Debug, PartialEq, Eq)]
-pub struct AppLocalGetEx;
-
-/// A value of this application's global state, 0 where there is none.
-#[derive(Clone, Copy, Debug, PartialEq, Eq)]
-pub struct AppGlobalGet;
-
-/// A value of an application's global state, and whether there is one.
-#[derive(Clone, Copy, Debug, PartialEq, Eq)]
-pub struct AppGlobalGetEx;
+    fn opcode(self) -> Opcode
+        ensures { result ≡ read_opcode self }
+    {
+        match self {
+            StateRead::OptedIn => Opcode::AppOptedIn,
+            StateRead::LocalGet => Opcode::AppLocalGet,
+            StateRead::LocalGetEx => Opcode::AppLocalGetEx,
+            StateRead::GlobalGet => Opcode::AppGlobalGet,
+            StateRead::GlobalGetEx => Opcode::AppGlobalGetEx,
+        }
+    }
+}
 
 /// 1 for true, 0 for false.
 fn flag(holds: bool) -> Value
@@ -89,25 +111,78 @@ fn foreign_application(env: &Env, offset: u64) -> Result<u64, Fault>
     }
 }
 
-impl AppOptedIn {
-    /// The instruction, of its code.
-    #[tactic(auto, unfolding(teal_table::specs::Table::row_of))]
-    pub fn of(code: u8) -> Option<AppOptedIn>
-        ensures some { IfSome result (λ _. code_of op.AppOptedIn ≡ code) }
-        ensures all { code_of op.AppOptedIn ≡ code → IsSome result }
-    {
-        match code {
-            0x61 => Some(AppOptedIn),
-            _ => None,
-        }
-    }
+fn opted_in(cpu: &mut Cpu, env: &Env) -> Result<Flow, Stop>
+    ensures row { Does result cpu.new env.now (known_row opted_in cpu.old env.now) }
+    ensures unchanged { IfStopped result (cpu.new ≡ cpu.old) }
+{
+    let (index, id) = cpu.two_uints()?;
+    let who = account(env.call(), index)?;
+    let is_in = local_state(env, who, application_named(env, id))?.is_some();
+    cpu.replace(2, flag(is_in));
+    Ok(Flow::Next)
 }
 
-impl Op for AppOptedIn {
-    ghost opcode = { λ _. op.AppOptedIn };
+fn local_get(cpu: &mut Cpu, env: &Env) -> Result<Flow, Stop>
+    ensures row { Does result cpu.new env.now (known_row local_get cpu.old env.now) }
+    ensures unchanged { IfStopped result (cpu.new ≡ cpu.old) }
+{
+    let (index, key) = cpu.uint_and_bytes()?;
+    let who = account(env.call(), index)?;
+    let Some(state) = local_state(env, who, env.current())? else {
+        return Err(Stop::Fault(Fault::NotOptedIn));
+    };
+    let value = or_zero(state.value_of(key))?;
+    cpu.replace(2, value);
+    Ok(Flow::Next)
+}
+
+fn local_get_ex(cpu: &mut Cpu, env: &Env) -> Result<Flow, Stop>
+    ensures row { Does result cpu.new env.now (known_row local_get_ex cpu.old env.now) }
+    ensures unchanged { IfStopped result (cpu.new ≡ cpu.old) }
+{
+    let (index, id, key) = cpu.two_uints_and_bytes()?;
+    let who = account(env.call(), index)?;
+    let Some(state) = local_state(env, who, application_named(env, id))? else {
+        return Err(Stop::Fault(Fault::NotOptedIn));
+    };
+    let value = state.value_of(key);
+    let is_there = flag(value.is_some());
+    let copy = or_zero(value)?;
+    cpu.replace_pair(3, copy, is_there);
+    Ok(Flow::Next)
+}
+
+fn global_get(cpu: &mut Cpu, env: &Env) -> Result<Flow, Stop>
+    ensures row { Does result cpu.new env.now (known_row global_get cpu.old env.now) }
+    ensures unchanged { IfStopped result (cpu.new ≡ cpu.old) }
+{
+    let key = cpu.one_bytes()?;
+    let value = or_zero(global_entry(env, env.current(), key)?)?;
+    cpu.replace(1, value);
+    Ok(Flow::Next)
+}
+
+fn global_get_ex(cpu: &mut Cpu, env: &Env) -> Result<Flow, Stop>
+    ensures row { Does result cpu.new env.now (known_row global_get_ex cpu.old env.now) }
+    ensures unchanged { IfStopped result (cpu.new ≡ cpu.old) }
+{
+    let (offset, key) = cpu.uint_and_bytes()?;
+    let id = foreign_application(env, offset)?;
+    if application(env, id)?.is_none() {
+        return Err(Stop::Fault(Fault::NoSuchApp));
+    }
+    let value = global_entry(env, id, key)?;
+    let is_there = flag(value.is_some());
+    let copy = or_zero(value)?;
+    cpu.replace_pair(2, copy, is_there);
+    Ok(Flow::Next)
+}
+
+impl Op for StateRead {
+    ghost opcode = { read_opcode };
 
     fn code(&self) -> u8 {
-        Opcode::AppOptedIn.code()
+        self.opcode().code()
     }
 
     #[tactic(auto, unfolding(avm_ops::specs::Effect::effect))]
@@ -118,170 +193,12 @@ impl Op for AppOptedIn {
         cpu: &mut Cpu,
         env: &mut Env,
     ) -> Result<Flow, Stop> {
-        let (index, id) = cpu.two_uints()?;
-        let who = account(env.call(), index)?;
-        let is_in = local_state(env, who, application_named(env, id))?.is_some();
-        cpu.replace(2, flag(is_in));
-        Ok(Flow::Next)
-    }
-}
-
-impl AppLocalGet {
-    /// The instruction, of its code.
-    #[tactic(auto, unfolding(teal_table::specs::Table::row_of))]
-    pub fn of(code: u8) -> Option<AppLocalGet>
-        ensures some { IfSome result (λ _. code_of op.AppLocalGet ≡ code) }
-        ensures all { code_of op.AppLocalGet ≡ code → IsSome result }
-    {
-        match code {
-            0x62 => Some(AppLocalGet),
-            _ => None,
+        match self {
+            StateRead::OptedIn => opted_in(cpu, env),
+            StateRead::LocalGet => local_get(cpu, env),
+            StateRead::LocalGetEx => local_get_ex(cpu, env),
+            StateRead::GlobalGet => global_get(cpu, env),
+            StateRead::GlobalGetEx => global_get_ex(cpu, env),
         }
-    }
-}
-
-impl Op for AppLocalGet {
-    ghost opcode = { λ _. op.AppLocalGet };
-
-    fn code(&self) -> u8 {
-        Opcode::AppLocalGet.code()
-    }
-
-    #[tactic(auto, unfolding(avm_ops::specs::Effect::effect))]
-    fn exec(
-        &self,
-        _alloc: Global,
-        _instr: &Instr,
-        cpu: &mut Cpu,
-        env: &mut Env,
-    ) -> Result<Flow, Stop> {
-        let (index, key) = cpu.uint_and_bytes()?;
-        let who = account(env.call(), index)?;
-        let Some(state) = local_state(env, who, env.current())? else {
-            return Err(Stop::Fault(Fault::NotOptedIn));
-        };
-        let value = or_zero(state.value_of(key))?;
-        cpu.replace(2, value);
-        Ok(Flow::Next)
-    }
-}
-
-impl AppLocalGetEx {
-    /// The instruction, of its code.
-    #[tactic(auto, unfolding(teal_table::specs::Table::row_of))]
-    pub fn of(code: u8) -> Option<AppLocalGetEx>
-        ensures some { IfSome result (λ _. code_of op.AppLocalGetEx ≡ code) }
-        ensures all { code_of op.AppLocalGetEx ≡ code → IsSome result }
-    {
-        match code {
-            0x63 => Some(AppLocalGetEx),
-            _ => None,
-        }
-    }
-}
-
-impl Op for AppLocalGetEx {
-    ghost opcode = { λ _. op.AppLocalGetEx };
-
-    fn code(&self) -> u8 {
-        Opcode::AppLocalGetEx.code()
-    }
-
-    #[tactic(auto, unfolding(avm_ops::specs::Effect::effect))]
-    fn exec(
-        &self,
-        _alloc: Global,
-        _instr: &Instr,
-        cpu: &mut Cpu,
-        env: &mut Env,
-    ) -> Result<Flow, Stop> {
-        let (index, id, key) = cpu.two_uints_and_bytes()?;
-        let who = account(env.call(), index)?;
-        let Some(state) = local_state(env, who, application_named(env, id))? else {
-            return Err(Stop::Fault(Fault::NotOptedIn));
-        };
-        let value = state.value_of(key);
-        let is_there = flag(value.is_some());
-        let copy = or_zero(value)?;
-        cpu.replace_pair(3, copy, is_there);
-        Ok(Flow::Next)
-    }
-}
-
-impl AppGlobalGet {
-    /// The instruction, of its code.
-    #[tactic(auto, unfolding(teal_table::specs::Table::row_of))]
-    pub fn of(code: u8) -> Option<AppGlobalGet>
-        ensures some { IfSome result (λ _. code_of op.AppGlobalGet ≡ code) }
-        ensures all { code_of op.AppGlobalGet ≡ code → IsSome result }
-    {
-        match code {
-            0x64 => Some(AppGlobalGet),
-            _ => None,
-        }
-    }
-}
-
-impl Op for AppGlobalGet {
-    ghost opcode = { λ _. op.AppGlobalGet };
-
-    fn code(&self) -> u8 {
-        Opcode::AppGlobalGet.code()
-    }
-
-    #[tactic(auto, unfolding(avm_ops::specs::Effect::effect))]
-    fn exec(
-        &self,
-        _alloc: Global,
-        _instr: &Instr,
-        cpu: &mut Cpu,
-        env: &mut Env,
-    ) -> Result<Flow, Stop> {
-        let key = cpu.one_bytes()?;
-        let value = or_zero(global_entry(env, env.current(), key)?)?;
-        cpu.replace(1, value);
-        Ok(Flow::Next)
-    }
-}
-
-impl AppGlobalGetEx {
-    /// The instruction, of its code.
-    #[tactic(auto, unfolding(teal_table::specs::Table::row_of))]
-    pub fn of(code: u8) -> Option<AppGlobalGetEx>
-        ensures some { IfSome result (λ _. code_of op.AppGlobalGetEx ≡ code) }
-        ensures all { code_of op.AppGlobalGetEx ≡ code → IsSome result }
-    {
-        match code {
-            0x65 => Some(AppGlobalGetEx),
-            _ => None,
-        }
-    }
-}
-
-impl Op for AppGlobalGetEx {
-    ghost opcode = { λ _. op.AppGlobalGetEx };
-
-    fn code(&self) -> u8 {
-        Opcode::AppGlobalGetEx.code()
-    }
-
-    #[tactic(auto, unfolding(avm_ops::specs::Effect::effect))]
-    fn exec(
-        &self,
-        _alloc: Global,
-        _instr: &Instr,
-        cpu: &mut Cpu,
-        env: &mut Env,
-    ) -> Result<Flow, Stop> {
-        let (offset, key) = cpu.uint_and_bytes()?;
-        let id = foreign_application(env, offset)?;
-        if application(env, id)?.is_none() {
-            return Err(Stop::Fault(Fault::NoSuchApp));
-        }
-        let value = global_entry(env, id, key)?;
-        let is_there = flag(value.is_some());
-        let copy = or_zero(value)?;
-        cpu.replace_pair(2, copy, is_there);
-        Ok(Flow::Next)
     }
 }

@@ -1,16 +1,16 @@
 //! Instructions that change states.
 
-ghost use Rattle.std.specs.Prelude.{◌≡◌, ◌||◌, ℕ, List, Some, false, true, IfSome, IsSome, MatchOption, MatchResult};
+ghost use Rattle.std.specs.Prelude.{◌≡◌, ◌||◌, ℕ, List, Some, false, true, IfSome, MatchOption};
 ghost use Rattle.std.specs.Option.{option_copied};
-ghost use Rattle.teal_table.specs.declared.opcode.Opcode.TheVariants as op;
 ghost use Rattle.teal_table.specs.Table.{code_of};
 ghost use Rattle.avm_ledger.specs.Schemas.{count_without, counts_after, is_within, keeps_kind};
 ghost use Rattle.avm_items.specs.Asks.{answer_from};
 ghost use Rattle.avm_items.specs.Environments.{known_to};
 ghost use Rattle.avm_cpu.specs.Machine.{Machine};
-ghost use Rattle.avm_ops.specs.Objects.{context_of};
-ghost use Rattle.avm_ops.specs.States.{global_delete_of, global_put_over, schema_in, value_length};
-ghost use Rattle.avm_state_ops.specs.Parts.{Answers, after_delete, after_put, schema_test};
+ghost use Rattle.avm_ops.specs.Objects.{context_of, Does, IfStopped};
+ghost use Rattle.avm_ops.specs.States.{global_delete, global_delete_of, global_put, global_put_over, local_delete, local_put, schema_in, value_length};
+ghost use Rattle.avm_state_ops.specs.Families.{write_opcode};
+ghost use Rattle.avm_state_ops.specs.Parts.{Answers, after_delete, after_put, known_row, schema_test};
 
 use crate::fields::account;
 use crate::known::{application, global_counts, global_entry, local_state};
@@ -23,21 +23,46 @@ use teal_code::Instr;
 use teal_table::Opcode;
 use teal_value::{Fault, StateKey, Value};
 
-/// Puts a value into an account's local state of this application.
+/// An instruction that changes a state.
 #[derive(Clone, Copy, Debug, PartialEq, Eq)]
-pub struct AppLocalPut;
+pub enum StateWrite {
+    /// Puts a value into an account's local state of this application.
+    LocalPut,
+    /// Puts a value into this application's global state.
+    GlobalPut,
+    /// Takes a key out of an account's local state of this application.
+    LocalDelete,
+    /// Takes a key out of this application's global state.
+    GlobalDelete,
+}
 
-/// Puts a value into this application's global state.
-#[derive(Clone, Copy, Debug, PartialEq, Eq)]
-pub struct AppGlobalPut;
+impl StateWrite {
+    /// The instruction of a code.
+    #[tactic(auto, unfolding(teal_table::specs::Table::row_of))]
+    pub fn of(code: u8) -> Option<StateWrite>
+        ensures some { IfSome result (λ row. code_of (write_opcode row) ≡ code) }
+        ensures all { (row : _) → code_of (write_opcode row) ≡ code → result ≡ Some row }
+    {
+        match code {
+            0x66 => Some(StateWrite::LocalPut),
+            0x67 => Some(StateWrite::GlobalPut),
+            0x68 => Some(StateWrite::LocalDelete),
+            0x69 => Some(StateWrite::GlobalDelete),
+            _ => None,
+        }
+    }
 
-/// Takes a key out of an account's local state of this application.
-#[derive(Clone, Copy, Debug, PartialEq, Eq)]
-pub struct AppLocalDel;
-
-/// Takes a key out of this application's global state.
-#[derive(Clone, Copy, Debug, PartialEq, Eq)]
-pub struct AppGlobalDel;
+    fn opcode(self) -> Opcode
+        ensures { result ≡ write_opcode self }
+    {
+        match self {
+            StateWrite::LocalPut => Opcode::AppLocalPut,
+            StateWrite::GlobalPut => Opcode::AppGlobalPut,
+            StateWrite::LocalDelete => Opcode::AppLocalDel,
+            StateWrite::GlobalDelete => Opcode::AppGlobalDel,
+        }
+    }
+}
 
 /// How many bytes a value has.
 fn value_length(value: &Value) -> usize
@@ -161,25 +186,97 @@ fn counts_of_delete(env: &Env, old: Option<&Value>) -> Result<Option<Schema>, St
     }
 }
 
-impl AppLocalPut {
-    /// The instruction, of its code.
-    #[tactic(auto, unfolding(teal_table::specs::Table::row_of))]
-    pub fn of(code: u8) -> Option<AppLocalPut>
-        ensures some { IfSome result (λ _. code_of op.AppLocalPut ≡ code) }
-        ensures all { code_of op.AppLocalPut ≡ code → IsSome result }
-    {
-        match code {
-            0x66 => Some(AppLocalPut),
-            _ => None,
-        }
+fn local_put(cpu: &mut Cpu, env: &mut Env) -> Result<Flow, Stop>
+    ensures row { Does result cpu.new env.new (known_row local_put cpu.old env.old) }
+    ensures writes { env.new ≡ record env.old { writes = env.new.writes } }
+    ensures unchanged { IfStopped result ((cpu.new ≡ cpu.old) × (env.new ≡ env.old)) }
+{
+    let (index, key, value) = cpu.uint_bytes_and_value()?;
+    let who = account(env.call(), index)?;
+    let current = env.current();
+    let Some(state) = local_state(env, who, current)? else {
+        return Err(Stop::Fault(Fault::NotOptedIn));
+    };
+    let Some(state_key) = StateKey::of(key) else {
+        return Err(Stop::Fault(Fault::KeyLength));
+    };
+    if value_length(value) > 64 {
+        return Err(Stop::Fault(Fault::TooLong));
     }
+    let limit = local_limit(application(env, current)?);
+    test_schema(state, key, value, limit)?;
+    let copy = value.clone()?;
+    env.put_entry(who, current, state_key, copy)?;
+    cpu.drop_top(3);
+    Ok(Flow::Next)
 }
 
-impl Op for AppLocalPut {
-    ghost opcode = { λ _. op.AppLocalPut };
+fn global_put(cpu: &mut Cpu, env: &mut Env) -> Result<Flow, Stop>
+    ensures row { Does result cpu.new env.new (known_row global_put cpu.old env.old) }
+    ensures writes { env.new ≡ record env.old { writes = env.new.writes } }
+    ensures unchanged { IfStopped result ((cpu.new ≡ cpu.old) × (env.new ≡ env.old)) }
+{
+    let (key, value) = cpu.bytes_and_value()?;
+    let Some(state_key) = StateKey::of(key) else {
+        return Err(Stop::Fault(Fault::KeyLength));
+    };
+    if value_length(value) > 64 {
+        return Err(Stop::Fault(Fault::TooLong));
+    }
+    let current = env.current();
+    let old = global_entry(env, current, key)?;
+    let after = counts_of_put(env, old, value)?;
+    let copy = value.clone()?;
+    env.write(Item::Key(current, state_key), ItemValue::Key(copy))?;
+    if let Some(after) = after {
+        env.write(Item::Counts(current), ItemValue::Counts(after))?;
+    }
+    cpu.drop_top(2);
+    Ok(Flow::Next)
+}
+
+fn local_delete(cpu: &mut Cpu, env: &mut Env) -> Result<Flow, Stop>
+    ensures row { Does result cpu.new env.new (known_row local_delete cpu.old env.old) }
+    ensures writes { env.new ≡ record env.old { writes = env.new.writes } }
+    ensures unchanged { IfStopped result ((cpu.new ≡ cpu.old) × (env.new ≡ env.old)) }
+{
+    let (index, key) = cpu.uint_and_bytes()?;
+    let who = account(env.call(), index)?;
+    let current = env.current();
+    let Some(state) = local_state(env, who, current)? else {
+        return Err(Stop::Fault(Fault::NotOptedIn));
+    };
+    if state.value_of(key).is_some() {
+        if let Some(state_key) = StateKey::of(key) {
+            env.remove_entry(who, current, &state_key)?;
+        }
+    }
+    cpu.drop_top(2);
+    Ok(Flow::Next)
+}
+
+fn global_delete(cpu: &mut Cpu, env: &mut Env) -> Result<Flow, Stop>
+    ensures row { Does result cpu.new env.new (known_row global_delete cpu.old env.old) }
+    ensures writes { env.new ≡ record env.old { writes = env.new.writes } }
+    ensures unchanged { IfStopped result ((cpu.new ≡ cpu.old) × (env.new ≡ env.old)) }
+{
+    let key = cpu.one_bytes()?;
+    let current = env.current();
+    let old = global_entry(env, current, key)?;
+    let counts = counts_of_delete(env, old)?;
+    if let (Some(after), Some(state_key)) = (counts, StateKey::of(key)) {
+        env.write(Item::Key(current, state_key), ItemValue::Absent)?;
+        env.write(Item::Counts(current), ItemValue::Counts(after))?;
+    }
+    cpu.drop_top(1);
+    Ok(Flow::Next)
+}
+
+impl Op for StateWrite {
+    ghost opcode = { write_opcode };
 
     fn code(&self) -> u8 {
-        Opcode::AppLocalPut.code()
+        self.opcode().code()
     }
 
     #[tactic(auto, unfolding(avm_ops::specs::Effect::effect))]
@@ -190,159 +287,11 @@ impl Op for AppLocalPut {
         cpu: &mut Cpu,
         env: &mut Env,
     ) -> Result<Flow, Stop> {
-        let (index, key, value) = cpu.uint_bytes_and_value()?;
-        let who = account(env.call(), index)?;
-        let current = env.current();
-        let Some(state) = local_state(env, who, current)? else {
-            return Err(Stop::Fault(Fault::NotOptedIn));
-        };
-        let Some(state_key) = StateKey::of(key) else {
-            return Err(Stop::Fault(Fault::KeyLength));
-        };
-        if value_length(value) > 64 {
-            return Err(Stop::Fault(Fault::TooLong));
+        match self {
+            StateWrite::LocalPut => local_put(cpu, env),
+            StateWrite::GlobalPut => global_put(cpu, env),
+            StateWrite::LocalDelete => local_delete(cpu, env),
+            StateWrite::GlobalDelete => global_delete(cpu, env),
         }
-        let limit = local_limit(application(env, current)?);
-        test_schema(state, key, value, limit)?;
-        let copy = value.clone()?;
-        env.put_entry(who, current, state_key, copy)?;
-        cpu.drop_top(3);
-        Ok(Flow::Next)
-    }
-}
-
-impl AppGlobalPut {
-    /// The instruction, of its code.
-    #[tactic(auto, unfolding(teal_table::specs::Table::row_of))]
-    pub fn of(code: u8) -> Option<AppGlobalPut>
-        ensures some { IfSome result (λ _. code_of op.AppGlobalPut ≡ code) }
-        ensures all { code_of op.AppGlobalPut ≡ code → IsSome result }
-    {
-        match code {
-            0x67 => Some(AppGlobalPut),
-            _ => None,
-        }
-    }
-}
-
-impl Op for AppGlobalPut {
-    ghost opcode = { λ _. op.AppGlobalPut };
-
-    fn code(&self) -> u8 {
-        Opcode::AppGlobalPut.code()
-    }
-
-    #[tactic(auto, unfolding(avm_ops::specs::Effect::effect))]
-    fn exec(
-        &self,
-        _alloc: Global,
-        _instr: &Instr,
-        cpu: &mut Cpu,
-        env: &mut Env,
-    ) -> Result<Flow, Stop> {
-        let (key, value) = cpu.bytes_and_value()?;
-        let Some(state_key) = StateKey::of(key) else {
-            return Err(Stop::Fault(Fault::KeyLength));
-        };
-        if value_length(value) > 64 {
-            return Err(Stop::Fault(Fault::TooLong));
-        }
-        let current = env.current();
-        let old = global_entry(env, current, key)?;
-        let after = counts_of_put(env, old, value)?;
-        let copy = value.clone()?;
-        env.write(Item::Key(current, state_key), ItemValue::Key(copy))?;
-        if let Some(after) = after {
-            env.write(Item::Counts(current), ItemValue::Counts(after))?;
-        }
-        cpu.drop_top(2);
-        Ok(Flow::Next)
-    }
-}
-
-impl AppLocalDel {
-    /// The instruction, of its code.
-    #[tactic(auto, unfolding(teal_table::specs::Table::row_of))]
-    pub fn of(code: u8) -> Option<AppLocalDel>
-        ensures some { IfSome result (λ _. code_of op.AppLocalDel ≡ code) }
-        ensures all { code_of op.AppLocalDel ≡ code → IsSome result }
-    {
-        match code {
-            0x68 => Some(AppLocalDel),
-            _ => None,
-        }
-    }
-}
-
-impl Op for AppLocalDel {
-    ghost opcode = { λ _. op.AppLocalDel };
-
-    fn code(&self) -> u8 {
-        Opcode::AppLocalDel.code()
-    }
-
-    #[tactic(auto, unfolding(avm_ops::specs::Effect::effect))]
-    fn exec(
-        &self,
-        _alloc: Global,
-        _instr: &Instr,
-        cpu: &mut Cpu,
-        env: &mut Env,
-    ) -> Result<Flow, Stop> {
-        let (index, key) = cpu.uint_and_bytes()?;
-        let who = account(env.call(), index)?;
-        let current = env.current();
-        let Some(state) = local_state(env, who, current)? else {
-            return Err(Stop::Fault(Fault::NotOptedIn));
-        };
-        if state.value_of(key).is_some() {
-            if let Some(state_key) = StateKey::of(key) {
-                env.remove_entry(who, current, &state_key)?;
-            }
-        }
-        cpu.drop_top(2);
-        Ok(Flow::Next)
-    }
-}
-
-impl AppGlobalDel {
-    /// The instruction, of its code.
-    #[tactic(auto, unfolding(teal_table::specs::Table::row_of))]
-    pub fn of(code: u8) -> Option<AppGlobalDel>
-        ensures some { IfSome result (λ _. code_of op.AppGlobalDel ≡ code) }
-        ensures all { code_of op.AppGlobalDel ≡ code → IsSome result }
-    {
-        match code {
-            0x69 => Some(AppGlobalDel),
-            _ => None,
-        }
-    }
-}
-
-impl Op for AppGlobalDel {
-    ghost opcode = { λ _. op.AppGlobalDel };
-
-    fn code(&self) -> u8 {
-        Opcode::AppGlobalDel.code()
-    }
-
-    #[tactic(auto, unfolding(avm_ops::specs::Effect::effect))]
-    fn exec(
-        &self,
-        _alloc: Global,
-        _instr: &Instr,
-        cpu: &mut Cpu,
-        env: &mut Env,
-    ) -> Result<Flow, Stop> {
-        let key = cpu.one_bytes()?;
-        let current = env.current();
-        let old = global_entry(env, current, key)?;
-        let counts = counts_of_delete(env, old)?;
-        if let (Some(after), Some(state_key)) = (counts, StateKey::of(key)) {
-            env.write(Item::Key(current, state_key), ItemValue::Absent)?;
-            env.write(Item::Counts(current), ItemValue::Counts(after))?;
-        }
-        cpu.drop_top(1);
-        Ok(Flow::Next)
     }
 }

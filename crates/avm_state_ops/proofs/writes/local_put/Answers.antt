@@ -1,7 +1,6 @@
-use Rattle.std.proofs.Common.{rules, ◌≡◌, true, nat_le, length, Ok, Err, sym, ap, subst, ◌∙◌}
+use Rattle.std.proofs.Common.{rules, ◌≡◌, true, nat_le, length, Ok, sym, ap, subst, ◌∙◌}
 use Rattle.std.specs.Option.{option_copied}
 use Rattle.teal_value.specs.declared.fault.Fault.TheVariants as fault
-use Rattle.teal_table.specs.declared.opcode.Opcode.TheVariants as op
 use Rattle.avm_items.specs.Asks.{answer_from}
 use Rattle.avm_items.specs.Acts.{done, on_ok}
 use Rattle.avm_items.specs.CallFields.{account}
@@ -12,18 +11,17 @@ use Rattle.avm_items.specs.Environments.{known_to}
 use Rattle.avm_ledger.specs.Entries.{with_entry}
 use Rattle.avm_ops.specs.declared.op.Stop.TheVariants as stop
 use Rattle.avm_ops.specs.Frame.{there}
-use Rattle.avm_ops.specs.Objects.{context_of, known_effect}
-use Rattle.avm_ops.specs.States.{leaves, local_state, schema_in, value_length}
-use Rattle.avm_state_ops.specs.Parts.{schema_test}
+use Rattle.avm_ops.specs.Objects.{context_of}
+use Rattle.avm_ops.specs.States.{leaves, local_put, local_state, value_length}
+use Rattle.avm_state_ops.specs.Parts.{known_row, schema_test}
 use Rattle.avm_state_ops.proofs.Rows.{passed_on, local_put_left, local_put_row}
-use Rattle.avm_state_ops.proofs.writes.AppLocalPutOp.exec.Goals as goal
+use Rattle.avm_state_ops.proofs.writes.local_put.Goals as goal
 
 -- The row up to its last test, and then the test.
 pub returns-in_err-test_schema-clause-row : goal.returns-in_err-test_schema-clause-row
 returns-in_err-test_schema-clause-row c =
     let m = c.args.cpu.now in
     let e = c.args.env.now in
-    let i = c.args._instr.now.immediates in
     let key = c.in_ok-index.key.now in
     let v = c.in_ok-index.value.now in
     let state = c.in-Some.state.now in
@@ -35,15 +33,14 @@ returns-in_err-test_schema-clause-row c =
     subst (λ call. there (account call c.in_ok-index.index) fault.NoAccount ≡ Ok c.in_ok-who.who) c.call.ensures (sym c.in_ok-who.ensures) in
     let state_is = subst (λ o. answer_from (known_to e) (local_state c.in_ok-who.who app) ≡ Ok (Ok (option_copied o))) c.in-Some.is c.in_ok-state.ensures in
     let left = λ (u : Unit {0}). done (leaves (context_of m e) 3 (with_item e.writes (item.Local c.in_ok-who.who e.current) (value.Local (with_entry state key v)))) in
-    passed_on c.from_residual-in_err-test_schema.result (stop.Fault c.in_err-test_schema.field-0.0) m e (known_effect m e op.AppLocalPut i) c.from_residual-in_err-test_schema.ensures.1
-    (local_put_row m e i c.in_ok-index.index key v c.in_ok-who.who state row app c.in_ok-index.ensures who_is c.current-current.ensures state_is short small c.in_ok-application.ensures
+    passed_on c.from_residual-in_err-test_schema.result (stop.Fault c.in_err-test_schema.field-0.0) m e (known_row local_put m e) c.from_residual-in_err-test_schema.ensures.1
+    (local_put_row m e c.in_ok-index.index key v c.in_ok-who.who state row app c.in_ok-index.ensures who_is c.current-current.ensures state_is short small c.in_ok-application.ensures
     ∙ ap (λ r. answer_from (known_to e) (on_ok left r)) (ap (schema_test state key v) (sym c.local_limit-limit.ensures) ∙ sym c.in_err-test_schema.ensures))
 
 pub returns-clause-row : goal.returns-clause-row
 returns-clause-row c =
     let m = c.args.cpu.now in
     let e = c.args.env.now in
-    let i = c.args._instr.now.immediates in
     let key = c.in_ok-index.key.now in
     let v = c.in_ok-index.value.now in
     let state = c.in-Some.state.now in
@@ -55,6 +52,6 @@ returns-clause-row c =
     subst (λ call. there (account call c.in_ok-index.index) fault.NoAccount ≡ Ok c.in_ok-who.who) c.call.ensures (sym c.in_ok-who.ensures) in
     let state_is = subst (λ o. answer_from (known_to e) (local_state c.in_ok-who.who app) ≡ Ok (Ok (option_copied o))) c.in-Some.is c.in_ok-state.ensures in
     let left = λ (u : Unit {0}). done (leaves (context_of m e) 3 (with_item e.writes (item.Local c.in_ok-who.who e.current) (value.Local (with_entry state key v)))) in
-    local_put_row m e i c.in_ok-index.index key v c.in_ok-who.who state row app c.in_ok-index.ensures who_is c.current-current.ensures state_is short small c.in_ok-application.ensures
+    local_put_row m e c.in_ok-index.index key v c.in_ok-who.who state row app c.in_ok-index.ensures who_is c.current-current.ensures state_is short small c.in_ok-application.ensures
     ∙ ap (λ r. answer_from (known_to e) (on_ok left r)) (ap (schema_test state key v) (sym c.local_limit-limit.ensures) ∙ sym c.in_ok-test_schema.ensures)
     ∙ ap (λ x. Ok (Ok x)) (local_put_left m c.drop_top.new.self e c.put_entry.new.self key c.in-Some-of.state_key v c.in_ok-copy.copy c.in_ok-who.who state app c.current-current.ensures c.in-Some-of.ensures.key c.in_ok-copy.ensures state_is c.drop_top.ensures c.in_ok-put_entry.ensures.ok)

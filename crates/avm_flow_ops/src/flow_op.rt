@@ -1,0 +1,89 @@
+//! Every instruction of this crate as one type, so that a set of objects is filled with one type of object.
+
+ghost use Rattle.std.specs.Prelude.{◌≡◌, IfSome, Some};
+ghost use Rattle.teal_table.specs.Table.{code_of};
+ghost use Rattle.avm_flow_ops.specs.Families.{flow_opcode};
+
+use crate::{Block, Branch, Bytec, Intc, Literal, Scratch, Stack, Stops};
+use avm_cpu::{Cpu, Flow};
+use avm_items::Env;
+use avm_ops::{Op, Stop};
+use std::alloc::Global;
+use teal_code::Instr;
+
+/// An instruction on the stack, the constants or the scratch space, or on where a run goes on, in its family.
+#[derive(Clone, Copy, Debug, PartialEq, Eq)]
+pub enum FlowOp {
+    Block(Block),
+    Branch(Branch),
+    Bytec(Bytec),
+    Intc(Intc),
+    Literal(Literal),
+    Scratch(Scratch),
+    Stack(Stack),
+    Stops(Stops),
+}
+
+impl FlowOp {
+    /// The instruction of a code.
+    pub fn of(code: u8) -> Option<FlowOp>
+        ensures some { IfSome result (λ op. code_of (flow_opcode op) ≡ code) }
+        ensures all { (op : _) → code_of (flow_opcode op) ≡ code → result ≡ Some op }
+    {
+        if let Some(op) = Block::of(code) {
+            Some(FlowOp::Block(op))
+        } else if let Some(op) = Branch::of(code) {
+            Some(FlowOp::Branch(op))
+        } else if let Some(op) = Bytec::of(code) {
+            Some(FlowOp::Bytec(op))
+        } else if let Some(op) = Intc::of(code) {
+            Some(FlowOp::Intc(op))
+        } else if let Some(op) = Literal::of(code) {
+            Some(FlowOp::Literal(op))
+        } else if let Some(op) = Scratch::of(code) {
+            Some(FlowOp::Scratch(op))
+        } else if let Some(op) = Stack::of(code) {
+            Some(FlowOp::Stack(op))
+        } else if let Some(op) = Stops::of(code) {
+            Some(FlowOp::Stops(op))
+        } else {
+            None
+        }
+    }
+}
+
+impl Op for FlowOp {
+    ghost opcode = { flow_opcode };
+
+    fn code(&self) -> u8 {
+        match self {
+            FlowOp::Block(op) => op.code(),
+            FlowOp::Branch(op) => op.code(),
+            FlowOp::Bytec(op) => op.code(),
+            FlowOp::Intc(op) => op.code(),
+            FlowOp::Literal(op) => op.code(),
+            FlowOp::Scratch(op) => op.code(),
+            FlowOp::Stack(op) => op.code(),
+            FlowOp::Stops(op) => op.code(),
+        }
+    }
+
+    fn exec(
+        &self,
+        alloc: Global,
+        instr: &Instr,
+        cpu: &mut Cpu,
+        env: &mut Env,
+    ) -> Result<Flow, Stop> {
+        match self {
+            FlowOp::Block(op) => op.exec(alloc, instr, cpu, env),
+            FlowOp::Branch(op) => op.exec(alloc, instr, cpu, env),
+            FlowOp::Bytec(op) => op.exec(alloc, instr, cpu, env),
+            FlowOp::Intc(op) => op.exec(alloc, instr, cpu, env),
+            FlowOp::Literal(op) => op.exec(alloc, instr, cpu, env),
+            FlowOp::Scratch(op) => op.exec(alloc, instr, cpu, env),
+            FlowOp::Stack(op) => op.exec(alloc, instr, cpu, env),
+            FlowOp::Stops(op) => op.exec(alloc, instr, cpu, env),
+        }
+    }
+}
