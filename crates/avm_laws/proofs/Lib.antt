@@ -20,5 +20,6 @@ pub mod QuietRows
 pub mod Accounted
 pub mod AccountedCalls
 pub mod ReadCalls
+pub mod FinishedCalls
 pub mod Apart
 pub mod CheckedCalls

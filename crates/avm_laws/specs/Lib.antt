@@ -1,4 +1,5 @@
 pub mod Ledgers
 pub mod Calls
+pub mod FinishedCalls
 pub mod Rules
 pub mod Spellings
