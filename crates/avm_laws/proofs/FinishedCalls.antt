@@ -2,14 +2,13 @@
 use Rattle.std.proofs.Common.{◌≡◌, Ok, Err, refl, sym, ap, ◌∙◌}
 use Rattle.avm_ledger.specs.Ledgers.{Ledger}
 use Rattle.avm_ledger.specs.LedgerRules.{KeepsRules}
-use Rattle.avm_items.specs.Items.{ItemMap, value_in}
-use Rattle.avm_items.specs.LedgerItems.{at, put, AgreesWithReads}
-use Rattle.avm_items.specs.Asks.{Answer, answer_from, result_over}
+use Rattle.avm_items.specs.Items.{value_in}
+use Rattle.avm_items.specs.LedgerItems.{put, AgreesWithReads}
+use Rattle.avm_items.specs.Asks.{Answer, answer_from}
 use Rattle.avm_items.specs.Locality.{then}
-use Rattle.avm_call.specs.declared.outcome.Outcome.{Outcome}
 use Rattle.avm_call.specs.Calls.{CallResult, call_result}
 use Rattle.avm_call.specs.AskedFor.{AreAskedFor}
-use Rattle.avm_call.specs.Replay.{outcome_on, changes_on, ledger_after}
+use Rattle.avm_call.specs.Replay.{outcome_on, changes_on}
 use Rattle.avm_run.specs.Results.{CallRecord, IsResult, with_changes}
 use Rattle.avm_laws.specs.FinishedCalls.{IsCallOn, IsCallOnLedgers}
 use Rattle.avm_laws.proofs.ReadCalls.{ends_alike, changes_what_it_read}

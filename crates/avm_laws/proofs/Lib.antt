@@ -21,5 +21,6 @@ pub mod Accounted
 pub mod AccountedCalls
 pub mod ReadCalls
 pub mod FinishedCalls
+pub mod KnownValues
 pub mod Apart
 pub mod CheckedCalls

@@ -1,13 +1,12 @@
 -- That what was read decides how a call ends, and what it changes.
-use Rattle.std.proofs.Common.{◌≡◌, Bool, true, false, cond, [], ◌∷◌, Option, None, Some, Ok, refl, sym, ap, ◌∙◌, subst, inl, inr, arith, List, Err}
+use Rattle.std.proofs.Common.{◌≡◌, Bool, true, false, cond, [], ◌∷◌, Option, None, Some, Ok, refl, sym, ap, ◌∙◌, subst, List, Err}
 use Rattle.std.specs.Prelude.{All, not, unwrap_or}
 use Rattle.std.specs.Ordering.{is_eq}
 use Rattle.std.specs.List.{AllByRecursion, Contains}
 use Rattle.std.specs.List.Sorted.{IsStrictlySortedBy}
 use Rattle.std.specs.Map.{keys_of}
-use Rattle.std.specs.Cmp.{tied_itself}
 use Rattle.std.specs.declared.cmp.Ordering.TheVariants.{Less}
-use Rattle.std.proofs.lemmas.List.Elements.{All-nil, All-cons, All-contains, All-head, All-tail, Contains-append_cases, Contains-append_left, Contains-append_right, Contains-push}
+use Rattle.std.proofs.lemmas.List.Elements.{All-nil, All-cons, All-contains, All-head, All-tail, Contains-append_left, Contains-append_right, Contains-push}
 use Rattle.avm_ledger.specs.declared.header.Header.{Header}
 use Rattle.avm_ledger.specs.Ledgers.{Ledger}
 use Rattle.avm_ledger.specs.LedgerRules.{KeepsRules}
@@ -16,16 +15,14 @@ use Rattle.avm_items.specs.declared.call_data.CallData.{CallData}
 use Rattle.avm_items.specs.declared.item.Item.{Item}
 use Rattle.avm_items.specs.declared.item_value.ItemValue.{ItemValue}
 use Rattle.avm_items.specs.declared.item_value.ItemValue.TheVariants as value
-use Rattle.avm_items.specs.Items.{ItemMap, Known, Look, IsInItemOrder, item_cmp, value_in, with_item}
+use Rattle.avm_items.specs.Items.{ItemMap, Known, Look, IsInItemOrder, item_cmp, value_in}
 use Rattle.avm_items.specs.LedgerItems.{at, is_of_gone, AgreesWithReads, pruned, value_before}
 use Rattle.avm_items.specs.Asks.{Ask, Gives, Asks, Answer, result_over, items_asked, answer_at, answer_from}
 use Rattle.avm_items.specs.SameValues.{is_same_value}
 use Rattle.avm_call.specs.Calls.{CallResult, call_result}
 use Rattle.avm_call.specs.Replay.{changes_on}
 use Rattle.avm_call.specs.AskedFor.{AreAskedFor, asked_at, asked_while_known}
-use Rattle.avm_items.proofs.Questions.{question_with_more}
-use Rattle.avm_laws.proofs.Following.{value_with}
-use Rattle.avm_laws.proofs.Given.{found_itself, item_same, item_total}
+use Rattle.avm_laws.proofs.Given.{found_itself, item_total}
 use Rattle.avm_laws.proofs.WrittenItems.{IsThere}
 use Rattle.avm_laws.proofs.Accounted.{Accounted, if-result}
 use Rattle.avm_laws.proofs.AccountedCalls.{call_accounted}
@@ -35,15 +32,15 @@ use Rattle.avm_laws.proofs.CallChanges.{asks_for_none_gone, sorted_writes}
 -- ---- a run over what was read, and over a ledger that has it
 
 -- the ledger has what was read of the items that are asked for
-abbrev HasReads : Ledger → Known → Type 0
+abbrev pub HasReads : Ledger → Known → Type 0
 HasReads l known = (x : Item) (v : ItemValue) → known x ≡ Some v → is_of_gone l x ≡ false → at l x ≡ v
 
 -- an item that was read, as the ledger has it
-abbrev IsReadAt : Ledger → Known → Item → Type 0
+abbrev pub IsReadAt : Ledger → Known → Item → Type 0
 IsReadAt l known x = value_before known x ≡ at l x
 
-record Alike {A : Type 0} (l : Ledger) (known : Known) (t : Ask A) (a : A) : Type 0 where
-  result : result_over (at l) t ≡ a
+pub record Alike {A : Type 0} (l : Ledger) (known : Known) (t : Ask A) (a : A) : Type 0 where
+  pub result : result_over (at l) t ≡ a
   asked : asked_while_known known t ≡ items_asked (at l) t
   read : All (IsReadAt l known) (items_asked (at l) t)
 
@@ -63,7 +60,7 @@ alike_at l known x k a has next there (Some v) is e =
       read = All-cons (IsReadAt l known) x (items_asked (at l) (k (at l x))) (before ∙ sym here) (subst (λ u. All (IsReadAt l known) (items_asked (at l) (k u))) (sym here) rest.read);
     }
 
-alike : {A : Type 0} (l : Ledger) (known : Known) (t : Ask A) (a : A) → HasReads l known → All (IsThere l) (items_asked (at l) t) → answer_from known t ≡ Ok a → Alike l known t a
+pub alike : {A : Type 0} (l : Ledger) (known : Known) (t : Ask A) (a : A) → HasReads l known → All (IsThere l) (items_asked (at l) t) → answer_from known t ≡ Ok a → Alike l known t a
 alike l known (Gives b) a has there e = record { result = gives_same e; asked = refl; read = All-nil (IsReadAt l known) }
 alike l known (Asks x k) a has there e = alike_at l known x k a has (λ v. alike l known (k v) a has) there (known x) refl e
 

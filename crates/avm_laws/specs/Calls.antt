@@ -1,5 +1,5 @@
 -- What calls write, ask for and change, over ledgers that keep the rules. The statements of the laws.
-use Rattle.std.specs.Prelude.{◌≡◌, ℕ, false, List, [], ◌∷◌, Option, Some, None, Ok, Err, All, unwrap_or}
+use Rattle.std.specs.Prelude.{◌≡◌, ℕ, false, Some, Ok, Err, All, unwrap_or}
 use Rattle.std.specs.List.{Contains}
 use Rattle.avm_ledger.specs.declared.application.Application.{Application}
 use Rattle.avm_ledger.specs.declared.header.Header.{Header}
@@ -8,9 +8,9 @@ use Rattle.avm_ledger.specs.LedgerRules.{KeepsRules}
 use Rattle.avm_items.specs.declared.call_data.CallData.{CallData}
 use Rattle.avm_items.specs.declared.item.Item.{Item}
 use Rattle.avm_items.specs.declared.item_value.ItemValue.{ItemValue}
-use Rattle.avm_items.specs.Items.{ItemMap, Known, value_in, with_item}
+use Rattle.avm_items.specs.Items.{ItemMap, value_in, with_item}
 use Rattle.avm_items.specs.LedgerItems.{at, put, is_of_gone, AgreesWithReads, AreChanges, pruned, value_before}
-use Rattle.avm_items.specs.Asks.{Ask, Gives, Asks, result_over, items_asked, answer_from}
+use Rattle.avm_items.specs.Asks.{result_over, items_asked, answer_from}
 use Rattle.avm_call.specs.Runs.{path}
 use Rattle.avm_call.specs.Calls.{CallResult, Target, admitted, prepared, execution, call_result}
 use Rattle.avm_call.specs.AskedFor.{AreAskedFor}
