@@ -3,3 +3,4 @@ pub mod Steps
 pub mod LaidOut
 pub mod Asked
 pub mod Unapproved
+pub mod AskedFor

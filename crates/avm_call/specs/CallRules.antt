@@ -1,7 +1,6 @@
 -- Which fields make a call (AVM specification, application call transactions; the limits are those of Algorand's consensus
 -- protocol for such transactions), and the first rule that others break.
 use Rattle.std.specs.Prelude.{ℕ, ◌+◌, ◌==◌, Bool, true, false, not, ◌&&◌, ◌||◌, nat_lt, nat_le, if◌then◌else◌, List, [], ◌∷◌, length, Option, Some, None, Result, Ok, Err}
-use Rattle.teal_table.specs.declared.shape.Version.{Version}
 use Rattle.teal_table.specs.declared.shape.Version.TheVariants.{Two, Three}
 use Rattle.teal_check.specs.declared.fault.CheckFault.{CheckFault}
 use Rattle.teal_check.specs.WellFormed.{WellFormed, checked}

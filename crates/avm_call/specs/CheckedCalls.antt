@@ -2,7 +2,6 @@
 use Rattle.std.specs.Prelude.{◌≡◌, if◌then◌else◌, Option, Some, None}
 use Rattle.avm_items.specs.declared.call_data.CallData.{CallData}
 use Rattle.avm_call.specs.declared.call.Programs.{Programs}
-use Rattle.avm_call.specs.declared.call_fault.CallFault.{CallFault}
 use Rattle.avm_call.specs.CallRules.{brings_programs, call_fault}
 
 -- the programs that it brings

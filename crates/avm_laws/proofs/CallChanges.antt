@@ -17,7 +17,7 @@ use Rattle.avm_call.specs.Runs.{Position, context_at, start, path}
 use Rattle.avm_call.specs.Calls.{Target, admitted, prepared, execution, call_result}
 use Rattle.avm_call.specs.Replay.{changes_on, ledger_after}
 use Rattle.avm_laws.specs.Calls.{written_after}
-use Rattle.avm_laws.proofs.Along.{along-any, along-result, along-asked}
+use Rattle.avm_laws.proofs.Along.{Along, along-any, along-result, along-asked}
 use Rattle.avm_laws.proofs.WrittenItems.{OnOk, IsThere}
 use Rattle.avm_laws.proofs.Following.{Follows}
 use Rattle.avm_laws.proofs.FollowedRuns.{Stands, run_stands}
@@ -28,17 +28,17 @@ use Rattle.avm_laws.proofs.Pruned.{are_changes, put_pruned, put_written}
 
 -- ---- nothing more is kept
 
-abbrev Any : Ledger → Type 0
+abbrev pub Any : Ledger → Type 0
 Any m = Unit {0}
 
-abbrev AnyAt : Position → Ledger → Type 0
+abbrev pub AnyAt : Position → Ledger → Type 0
 AnyAt p m = Unit {0}
 
 any_ok : (R : After → Type 0) → ((after : After) → R after) → (r : Stepped) → OnOk R r
 any_ok R h (Ok after) = h after
 any_ok R h (Err f) = tt
 
-all_kept : (call : CallData) (header : Header) → IsKept call header Any AnyAt
+pub all_kept : (call : CallData) (header : Header) → IsKept call header Any AnyAt
 all_kept call header = record {
   new = λ new m k few none. tt;
   opted_in = λ m id row k is. tt;
@@ -78,18 +78,24 @@ loses_no_write l call header keeps =
     let w = (result_over (at l) (call_result call header)).1 in
     after_is l call header Any keeps left ∙ sym (put_written l Any w (rules_in_order l keeps) left)
 
--- the ledger with what has been written after some steps
-pub written_over : (l : Ledger) (call : CallData) (header : Header) (t : Target) (row : Application) (steps : ℕ) (K : Ledger → Type 0) (Kp : Position → Ledger → Type 0) → IsKept call header K Kp → KeepsRules l → K l
-    → result_over (at l) (admitted call) ≡ Ok t → t.row ≡ Some row → Stands (execution call header t.id row) row l Kp (result_over (at l) (path (execution call header t.id row) (prepared call t.id) steps)).0
-written_over l call header t row steps K Kp kept keeps here is row_is =
+-- along the path of a program, the ledger with what has been written
+pub path_stands : (l : Ledger) (call : CallData) (header : Header) (t : Target) (row : Application) (steps : ℕ) (K : Ledger → Type 0) (Kp : Position → Ledger → Type 0) → IsKept call header K Kp → KeepsRules l → K l
+    → result_over (at l) (admitted call) ≡ Ok t → t.row ≡ Some row → Along (at l) (IsThere l) (λ end. Stands (execution call header t.id row) row l Kp end.0) (path (execution call header t.id row) (prepared call t.id) steps)
+path_stands l call header t row steps K Kp kept keeps here is row_is =
     let e = execution call header t.id row in
     let w = prepared call t.id in
     let target : IsTarget l call (creates call) t =
     subst (OnTarget (IsTarget l call (creates call))) is (along-result (at l) (IsThere l) (OnTarget (IsTarget l call (creates call))) (admitted call) (admitted_is l call)) in
     let over = prepared_over call header l K Kp kept (rules_in_order l keeps) here (next_is_free l keeps) t row row_is (creates call) refl target in
-    along-result (at l) (IsThere l) (λ end. Stands e row l Kp end.0) (path e w steps)
-    (run_stands e row l Kp (kept.steps over.ledger t.id row over.keeps over.current) steps (start e.program w)
-    (record { ledger = over.ledger; follows = over.follows; current = over.current; keeps = kept.begins over.ledger t.id row w over.keeps over.current }))
+    run_stands e row l Kp (kept.steps over.ledger t.id row over.keeps over.current) steps (start e.program w)
+    (record { ledger = over.ledger; follows = over.follows; current = over.current; keeps = kept.begins over.ledger t.id row w over.keeps over.current })
+
+-- the ledger with what has been written after some steps
+pub written_over : (l : Ledger) (call : CallData) (header : Header) (t : Target) (row : Application) (steps : ℕ) (K : Ledger → Type 0) (Kp : Position → Ledger → Type 0) → IsKept call header K Kp → KeepsRules l → K l
+    → result_over (at l) (admitted call) ≡ Ok t → t.row ≡ Some row → Stands (execution call header t.id row) row l Kp (result_over (at l) (path (execution call header t.id row) (prepared call t.id) steps)).0
+written_over l call header t row steps K Kp kept keeps here is row_is =
+    let e = execution call header t.id row in
+    along-result (at l) (IsThere l) (λ end. Stands e row l Kp end.0) (path e (prepared call t.id) steps) (path_stands l call header t row steps K Kp kept keeps here is row_is)
 
 pub put_followed : (new : Known) (l : Ledger) (w : ItemMap) (m : Ledger) → KeepsRules l → Follows new l w m → put l w ≡ m
 put_followed new l w m keeps f = put_gives l m w f.order (record { order = rules_in_order l keeps; sorted = f.sorted; has = λ y c stands. sym (f.has y); stands = f.stands })

@@ -20,5 +20,7 @@ pub mod QuietRows
 pub mod Accounted
 pub mod AccountedCalls
 pub mod ReadCalls
+pub mod FinishedCalls
+pub mod KnownValues
 pub mod Apart
 pub mod CheckedCalls

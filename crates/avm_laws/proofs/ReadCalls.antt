@@ -1,13 +1,12 @@
 -- That what was read decides how a call ends, and what it changes.
-use Rattle.std.proofs.Common.{◌≡◌, Bool, true, false, cond, [], ◌∷◌, Option, None, Some, Ok, refl, sym, ap, ◌∙◌, subst, inl, inr, arith, List, Err}
+use Rattle.std.proofs.Common.{◌≡◌, Bool, true, false, cond, [], ◌∷◌, Option, None, Some, Ok, refl, sym, ap, ◌∙◌, subst, List, Err}
 use Rattle.std.specs.Prelude.{All, not, unwrap_or}
 use Rattle.std.specs.Ordering.{is_eq}
 use Rattle.std.specs.List.{AllByRecursion, Contains}
 use Rattle.std.specs.List.Sorted.{IsStrictlySortedBy}
 use Rattle.std.specs.Map.{keys_of}
-use Rattle.std.specs.Cmp.{tied_itself}
 use Rattle.std.specs.declared.cmp.Ordering.TheVariants.{Less}
-use Rattle.std.proofs.lemmas.List.Elements.{All-nil, All-cons, All-contains, All-head, All-tail, Contains-append_cases, Contains-append_left, Contains-append_right, Contains-push}
+use Rattle.std.proofs.lemmas.List.Elements.{All-nil, All-cons, All-contains, All-head, All-tail, Contains-append_left, Contains-append_right, Contains-push}
 use Rattle.avm_ledger.specs.declared.header.Header.{Header}
 use Rattle.avm_ledger.specs.Ledgers.{Ledger}
 use Rattle.avm_ledger.specs.LedgerRules.{KeepsRules}
@@ -16,16 +15,14 @@ use Rattle.avm_items.specs.declared.call_data.CallData.{CallData}
 use Rattle.avm_items.specs.declared.item.Item.{Item}
 use Rattle.avm_items.specs.declared.item_value.ItemValue.{ItemValue}
 use Rattle.avm_items.specs.declared.item_value.ItemValue.TheVariants as value
-use Rattle.avm_items.specs.Items.{ItemMap, Known, Look, IsInItemOrder, item_cmp, value_in, with_item}
+use Rattle.avm_items.specs.Items.{ItemMap, Known, Look, IsInItemOrder, item_cmp, value_in}
 use Rattle.avm_items.specs.LedgerItems.{at, is_of_gone, AgreesWithReads, pruned, value_before}
 use Rattle.avm_items.specs.Asks.{Ask, Gives, Asks, Answer, result_over, items_asked, answer_at, answer_from}
 use Rattle.avm_items.specs.SameValues.{is_same_value}
 use Rattle.avm_call.specs.Calls.{CallResult, call_result}
 use Rattle.avm_call.specs.Replay.{changes_on}
-use Rattle.avm_laws.specs.Calls.{AreAskedFor, asked_at, asked_while_known}
-use Rattle.avm_items.proofs.Questions.{question_with_more}
-use Rattle.avm_laws.proofs.Following.{value_with}
-use Rattle.avm_laws.proofs.Given.{found_itself, item_same, item_total}
+use Rattle.avm_call.specs.AskedFor.{AreAskedFor, asked_at, asked_while_known}
+use Rattle.avm_laws.proofs.Given.{found_itself, item_total}
 use Rattle.avm_laws.proofs.WrittenItems.{IsThere}
 use Rattle.avm_laws.proofs.Accounted.{Accounted, if-result}
 use Rattle.avm_laws.proofs.AccountedCalls.{call_accounted}
@@ -35,15 +32,15 @@ use Rattle.avm_laws.proofs.CallChanges.{asks_for_none_gone, sorted_writes}
 -- ---- a run over what was read, and over a ledger that has it
 
 -- the ledger has what was read of the items that are asked for
-abbrev HasReads : Ledger → Known → Type 0
+abbrev pub HasReads : Ledger → Known → Type 0
 HasReads l known = (x : Item) (v : ItemValue) → known x ≡ Some v → is_of_gone l x ≡ false → at l x ≡ v
 
 -- an item that was read, as the ledger has it
-abbrev IsReadAt : Ledger → Known → Item → Type 0
+abbrev pub IsReadAt : Ledger → Known → Item → Type 0
 IsReadAt l known x = value_before known x ≡ at l x
 
-record Alike {A : Type 0} (l : Ledger) (known : Known) (t : Ask A) (a : A) : Type 0 where
-  result : result_over (at l) t ≡ a
+pub record Alike {A : Type 0} (l : Ledger) (known : Known) (t : Ask A) (a : A) : Type 0 where
+  pub result : result_over (at l) t ≡ a
   asked : asked_while_known known t ≡ items_asked (at l) t
   read : All (IsReadAt l known) (items_asked (at l) t)
 
@@ -63,7 +60,7 @@ alike_at l known x k a has next there (Some v) is e =
       read = All-cons (IsReadAt l known) x (items_asked (at l) (k (at l x))) (before ∙ sym here) (subst (λ u. All (IsReadAt l known) (items_asked (at l) (k u))) (sym here) rest.read);
     }
 
-alike : {A : Type 0} (l : Ledger) (known : Known) (t : Ask A) (a : A) → HasReads l known → All (IsThere l) (items_asked (at l) t) → answer_from known t ≡ Ok a → Alike l known t a
+pub alike : {A : Type 0} (l : Ledger) (known : Known) (t : Ask A) (a : A) → HasReads l known → All (IsThere l) (items_asked (at l) t) → answer_from known t ≡ Ok a → Alike l known t a
 alike l known (Gives b) a has there e = record { result = gives_same e; asked = refl; read = All-nil (IsReadAt l known) }
 alike l known (Asks x k) a has there e = alike_at l known x k a has (λ v. alike l known (k v) a has) there (known x) refl e
 
@@ -100,63 +97,6 @@ used l known (Asks x k) y has there e = used_at l known x k y has (λ v. used l 
 pub asks_for_what_is_used : (l : Ledger) (reads : ItemMap) (call : CallData) (header : Header) (x : Item) → KeepsRules l → AgreesWithReads l reads → answer_from (value_in reads) (call_result call header) ≡ Err x
     → Contains (items_asked (at l) (call_result call header)) x
 asks_for_what_is_used l reads call header x keeps agrees e = used l (value_in reads) (call_result call header) x agrees (asks_for_none_gone l call header keeps) e
-
--- ---- what was asked for, after one more answer
-
-record AskedAfter {A : Type 0} (known more : Known) (t : Ask A) (x : Item) : Type 0 where
-  stays : (y : Item) → Contains (asked_while_known known t) y → Contains (asked_while_known more t) y
-  answered : Contains (asked_while_known more t) x
-
-none_asked : {P : Type 0} (y : Item) → Contains [] y → P
-none_asked y h = absurd (omega (arith, h.1))
-
-grown : (x : Item) (xs ys : List Item) → ((z : Item) → Contains xs z → Contains ys z) → (z : Item) → Contains (x ∷ xs) z → Contains (x ∷ ys) z
-grown x xs ys more z h = elim (Contains-append_cases (x ∷ []) xs z h) [ inl one ↦ Contains-append_left (x ∷ []) ys z one | inr rest ↦ below x ys z (more z rest) ]
-
-after_at : {A : Type 0} (known more : Known) (x : Item) (v : ItemValue) → more x ≡ Some v → (y : Item) (k : ItemValue → Ask A) → ((u : ItemValue) → answer_from known (k u) ≡ Err x → AskedAfter known more (k u) x)
-    → (o : Option ItemValue) → known y ≡ o → ((u : ItemValue) → o ≡ Some u → more y ≡ Some u) → answer_at y (λ u. answer_from known (k u)) o ≡ Err x → AskedAfter known more (Asks y k) x
-after_at known more x v there y k next None is same e =
-    let is_x : y ≡ x = err_same e in
-    record {
-      stays = λ z h. none_asked z (subst (λ xs. Contains xs z) (ap (asked_at y (λ u. asked_while_known known (k u))) is) h);
-      answered = subst (Contains (asked_while_known more (Asks y k))) is_x
-          (subst (λ xs. Contains xs y) (sym (ap (asked_at y (λ u. asked_while_known more (k u))) (ap more is_x ∙ there))) (on_top y (asked_while_known more (k v))));
-    }
-after_at known more x v there y k next (Some u) is same e =
-    let rest = next u e in
-    let before = ap (asked_at y (λ w. asked_while_known known (k w))) is in
-    let after = ap (asked_at y (λ w. asked_while_known more (k w))) (same u refl) in
-    record {
-      stays = λ z h. subst (λ xs. Contains xs z) (sym after) (grown y (asked_while_known known (k u)) (asked_while_known more (k u)) rest.stays z (subst (λ xs. Contains xs z) before h));
-      answered = subst (λ xs. Contains xs x) (sym after) (below y (asked_while_known more (k u)) x rest.answered);
-    }
-
-asked_after : {A : Type 0} (known more : Known) (x : Item) (v : ItemValue) → more x ≡ Some v → ((y : Item) (u : ItemValue) → known y ≡ Some u → more y ≡ Some u) → (t : Ask A) → answer_from known t ≡ Err x → AskedAfter known more t x
-asked_after known more x v there same (Gives a) e = absurd cc
-asked_after known more x v there same (Asks y k) e = after_at known more x v there y k (λ u. asked_after known more x v there same (k u)) (known y) refl (same y) e
-
-pub is_asked_for_answers : (reads : ItemMap) (call : CallData) (header : Header) (x : Item) (v : ItemValue) → AreAskedFor reads call header → answer_from (value_in reads) (call_result call header) ≡ Err x → AreAskedFor (with_item reads x v) call header
-is_asked_for_answers reads call header x v asked e = λ y u there. by y u (is_eq (item_cmp y x)) refl (sym (value_with reads x v y) ∙ there)
-  where
-    t : Ask CallResult
-    t = call_result call header
-
-    unknown : value_in reads x ≡ None
-    unknown = (question_with_more (value_in reads) (value_in reads) (record { same = λ y u h. h }) (call_result call header) x e).0
-
-    same : (y : Item) (u : ItemValue) → value_in reads y ≡ Some u → value_in (with_item reads x v) y ≡ Some u
-    same y u h = at_test (is_eq (item_cmp y x)) refl
-      where
-        at_test : (b : Bool) → is_eq (item_cmp y x) ≡ b → value_in (with_item reads x v) y ≡ Some u
-        at_test true tied = let no : None ≡ Some u = sym unknown ∙ sym (ap (value_in reads) (item_same y x tied)) ∙ h in absurd cc
-        at_test false apart = value_with reads x v y ∙ ap (λ b. cond b (Some v) (value_in reads y)) apart ∙ h
-
-    after : AskedAfter (value_in reads) (value_in (with_item reads x v)) (call_result call header) x
-    after = asked_after (value_in reads) (value_in (with_item reads x v)) x v (value_with reads x v x ∙ ap (λ r. cond (is_eq r) (Some v) (value_in reads x)) (tied_itself item_total x)) same (call_result call header) e
-
-    by : (y : Item) (u : ItemValue) (b : Bool) → is_eq (item_cmp y x) ≡ b → cond b (Some v) (value_in reads y) ≡ Some u → Contains (asked_while_known (value_in (with_item reads x v)) (call_result call header)) y
-    by y u true tied h = subst (Contains (asked_while_known (value_in (with_item reads x v)) (call_result call header))) (sym (item_same y x tied)) after.answered
-    by y u false apart h = after.stays y (asked y u h)
 
 -- ---- what it changes
 

@@ -1,5 +1,5 @@
 -- What calls write, ask for and change, over ledgers that keep the rules. The statements of the laws.
-use Rattle.std.specs.Prelude.{◌≡◌, ℕ, false, List, [], ◌∷◌, Option, Some, None, Ok, Err, All, unwrap_or}
+use Rattle.std.specs.Prelude.{◌≡◌, ℕ, false, Some, Ok, Err, All, unwrap_or}
 use Rattle.std.specs.List.{Contains}
 use Rattle.avm_ledger.specs.declared.application.Application.{Application}
 use Rattle.avm_ledger.specs.declared.header.Header.{Header}
@@ -8,11 +8,12 @@ use Rattle.avm_ledger.specs.LedgerRules.{KeepsRules}
 use Rattle.avm_items.specs.declared.call_data.CallData.{CallData}
 use Rattle.avm_items.specs.declared.item.Item.{Item}
 use Rattle.avm_items.specs.declared.item_value.ItemValue.{ItemValue}
-use Rattle.avm_items.specs.Items.{ItemMap, Known, value_in, with_item}
+use Rattle.avm_items.specs.Items.{ItemMap, value_in, with_item}
 use Rattle.avm_items.specs.LedgerItems.{at, put, is_of_gone, AgreesWithReads, AreChanges, pruned, value_before}
-use Rattle.avm_items.specs.Asks.{Ask, Gives, Asks, result_over, items_asked, answer_from}
+use Rattle.avm_items.specs.Asks.{result_over, items_asked, answer_from}
 use Rattle.avm_call.specs.Runs.{path}
 use Rattle.avm_call.specs.Calls.{CallResult, Target, admitted, prepared, execution, call_result}
+use Rattle.avm_call.specs.AskedFor.{AreAskedFor}
 use Rattle.avm_call.specs.Replay.{changes_on, ledger_after}
 
 -- what a call has written after so many steps of its program, over a ledger
@@ -41,20 +42,7 @@ LosesNoWrite = (l : Ledger) (call : CallData) (header : Header) → KeepsRules l
 
 -- ---- over what was read
 
--- the items that are asked for in order, up to the first that isn't known
-abbrev pub asked_at : Item → (ItemValue → List Item) → Option ItemValue → List Item
-asked_at x rest (Some v) = x ∷ rest v
-asked_at x rest None = []
-
-abbrev pub asked_while_known : {A : Type 0} → Known → Ask A → List Item
-asked_while_known known (Gives a) = []
-asked_while_known known (Asks x k) = asked_at x (λ v. asked_while_known known (k v)) (known x)
-
--- the call asks for each of these items where it has those before it
-abbrev pub AreAskedFor : ItemMap → CallData → Header → Type 0
-AreAskedFor reads call header = (x : Item) (v : ItemValue) → value_in reads x ≡ Some v → Contains (asked_while_known (value_in reads) (call_result call header)) x
-
--- It stays so with the answer to the first question that is left.
+-- What was asked for stays so with the answer to the first question that is left.
 abbrev pub IsAskedForAnswers : Type 0
 IsAskedForAnswers =
     (reads : ItemMap) (call : CallData) (header : Header) (x : Item) (v : ItemValue) → AreAskedFor reads call header → answer_from (value_in reads) (call_result call header) ≡ Err x

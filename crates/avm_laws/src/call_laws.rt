@@ -1,6 +1,7 @@
 //! What calls write, ask for and change.
 
 ghost use Rattle.avm_laws.specs.Calls.{AsksForNoneGone, AsksForWhatIsUsed, ChangesWhatItRead, EndsAlike, HandsOnItsChanges, HasWhatWasWritten, IsAskedForAnswers, LosesNoWrite};
+ghost use Rattle.avm_laws.specs.KnownValues.{KnowsTheLedger};
 
 /// At each step of a call's program the ledger with its own writes has what was written, the counts with the keys.
 pub fn writes_are_items()
@@ -29,4 +30,9 @@ pub fn questions_are_used()
 pub fn reads_decide()
     ensures result { EndsAlike }
     ensures changes { ChangesWhatItRead }
+{}
+
+/// What a run knows of an item, by its own writes or by what it read, is the item's value in the ledger with its own writes.
+pub fn runs_know_the_ledger()
+    ensures { KnowsTheLedger }
 {}

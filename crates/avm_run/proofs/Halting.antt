@@ -1,5 +1,5 @@
 -- One test after another: where the first passes the second decides, and where one stops all stop.
-use Rattle.std.proofs.Common.{◌≡◌, Result, Ok, Err, sym, ap, ◌∙◌, subst}
+use Rattle.std.proofs.Common.{◌≡◌, Ok, sym, ap, ◌∙◌, subst}
 use Rattle.avm_items.specs.Items.{Known}
 use Rattle.avm_items.specs.Asks.{answer_from}
 use Rattle.avm_items.specs.Acts.{Act, on_ok, ◌>>=◌}

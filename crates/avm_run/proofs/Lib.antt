@@ -3,9 +3,10 @@ mod Placings
 mod Blocks
 mod Stepping
 mod Halting
-mod Standings
 mod Beginnings
+mod Standings
 mod Supplying
 mod Outcomes
 mod Alive
 mod Leading
+mod Answering

@@ -1,5 +1,5 @@
 -- What a call that has ended gives over more than its reads, and on ledgers.
-use Rattle.std.proofs.Common.{◌≡◌, Ok, Err, refl, sym, ap, subst, ◌∙◌}
+use Rattle.std.proofs.Common.{◌≡◌, Ok, Err, refl, ap, ◌∙◌}
 use Rattle.avm_items.specs.Items.{Known, Look, value_in}
 use Rattle.avm_items.specs.Asks.{Answer, answer_from, result_over}
 use Rattle.avm_items.specs.Locality.{Agrees, Extends, then}

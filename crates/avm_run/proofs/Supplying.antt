@@ -1,8 +1,6 @@
 -- One more item supplied: what was known stays, and one question less is left.
-use Rattle.std.proofs.Common.{◌≡◌, ◌+◌, ◌-◌, ◌<◌, ◌≤◌, ℕ, Bool, true, false, cond, [], ◌∷◌, length, refl, sym, ap, subst, ◌∙◌, arith}
-use Rattle.std.specs.Prelude.{IsTrue, Option, None, Some, Ok, Err}
-use Rattle.std.specs.Map.{lookup}
-use Rattle.std.specs.BTreeMap.{insert_entry, is_at}
+use Rattle.std.proofs.Common.{◌≡◌, ◌+◌, ◌-◌, ◌<◌, Bool, true, false, cond, [], ◌∷◌, length, refl, sym, ap, subst, ◌∙◌, arith}
+use Rattle.std.specs.Prelude.{IsTrue, None, Some, Err}
 use Rattle.std.specs.Ordering.{is_eq, match_ordering}
 use Rattle.std.specs.declared.cmp.Ordering.{Ordering}
 use Rattle.std.specs.declared.cmp.Ordering.TheVariants.{Less, Equal, Greater}
@@ -12,14 +10,15 @@ use Rattle.avm_items.specs.declared.call_data.CallData.{CallData}
 use Rattle.avm_items.specs.declared.item.Item.{Item}
 use Rattle.avm_items.specs.declared.item_value.ItemValue.{ItemValue}
 use Rattle.avm_items.specs.Items.{Known, Look, ItemMap, item_cmp, value_in, with_item}
-use Rattle.avm_items.specs.Asks.{answer_from, remaining_questions}
-use Rattle.avm_items.specs.Counting.{AsksAtMost, Any}
+use Rattle.avm_items.specs.Asks.{answer_from}
+use Rattle.avm_items.specs.Counting.{Any}
 use Rattle.avm_items.specs.Locality.{Agrees, Extends}
 use Rattle.avm_items.proofs.Counting.{at_most-more, one_less, asks_some}
 use Rattle.avm_items.proofs.Puts.{item_total, item_same}
 use Rattle.avm_items.proofs.Questions.{question_with_more}
 use Rattle.avm_call.specs.Calls.{call_result}
 use Rattle.avm_call.specs.Ends.{has_programs}
+use Rattle.avm_call.proofs.AskedFor.{asked_with_answer}
 use Rattle.avm_run.specs.Progress.{IsFew, most_items}
 
 extends_itself : (known : Known) → Extends known known
@@ -80,7 +79,7 @@ fewer call header reads x v comes few asks =
     let fit = found_after Comes reads x v comes few.programs in
     let long = one_longer reads x v none in
     let less = one_less Comes (most_items - length reads) Any (value_in reads) (value_in (with_item reads x v)) (still_known reads x v none) fit x v (is_there reads x v) (call_result call header) few.left asks in
-    record { programs = fit; left = at_most-more Comes (most_items - length reads - 1) (most_items - length (with_item reads x v)) Any _ (omega (arith, long)) less.1 }
+    record { asked = asked_with_answer reads call header x v few.asked asks; programs = fit; left = at_most-more Comes (most_items - length reads - 1) (most_items - length (with_item reads x v)) Any _ (omega (arith, long)) less.1 }
 
 pub longer_by_one : (call : CallData) (header : Header) (reads : ItemMap) (x : Item) (v : ItemValue) → answer_from (value_in reads) (call_result call header) ≡ Err x → length (with_item reads x v) ≡ length reads + 1
 longer_by_one call header reads x v asks = one_longer reads x v (not_supplied (value_in reads) call header x asks)

@@ -8,6 +8,7 @@ use Rattle.avm_items.specs.LedgerItems.{pruned, value_before}
 use Rattle.avm_items.specs.Locality.{Agrees, Extends, then}
 use Rattle.avm_call.specs.declared.outcome.Outcome.{Outcome}
 use Rattle.avm_call.specs.Calls.{CallResult, call_result}
+use Rattle.avm_call.specs.AskedFor.{AreAskedFor}
 
 -- a call with the items that it read and wrote, and its outcome
 pub record CallRecord : Type 0 where
@@ -32,3 +33,8 @@ ResultOverMore f = (known : Known) → Extends (value_in f.reads) known → then
 -- and on every ledger that agrees with them.
 abbrev pub ResultOnLedgers : CallRecord → Type 0
 ResultOnLedgers f = (look : Look) → Agrees (value_in f.reads) look → with_changes f.reads (result_over look (call_result f.call f.header)) ≡ (f.outcome, f.writes)
+
+-- what the type of a call that has ended keeps
+pub record IsFinished (f : CallRecord) : Type 0 where
+  pub result : IsResult f.call f.header f.reads f.outcome f.writes
+  pub asked : AreAskedFor f.reads f.call f.header

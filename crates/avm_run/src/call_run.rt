@@ -3,10 +3,10 @@
 ghost use Rattle.std.specs.Prelude.{◌≡◌, [], None, Some, IfOk};
 ghost use Rattle.std.specs.Result.{result_err};
 ghost use Rattle.avm_ops.specs.Objects.{IsFull};
-ghost use Rattle.avm_run.specs.Advances.{Advances, Supplies};
+ghost use Rattle.avm_run.specs.Advances.{Advances, Steps, Supplies};
 
 use crate::finished::Finished;
-use crate::live::{Live, Ran, run_on};
+use crate::live::{Live, Ran, Went, run_on, step_on};
 use avm_call::Call;
 use avm_items::{Item, ItemValue};
 use avm_ledger::Header;
@@ -32,6 +32,17 @@ pub enum Advance {
     /// It asks for the value of this item.
     Need(Item),
     /// The call has ended.
+    Done(Finished),
+}
+
+/// What one step of a run comes to.
+#[derive(Drop)]
+pub enum Step {
+    /// It stands at the next place of its program's path.
+    Moved,
+    /// It asks for the value of this item.
+    Need(Item),
+    /// The path has no next place, and the call has ended.
     Done(Finished),
 }
 
@@ -61,7 +72,7 @@ impl Model for CallRun {
 impl CallRun {
     /// A run of the call that was supplied with no item.
     pub fn start(alloc: Global, call: &Call, header: &Header) -> Result<CallRun, AllocError>
-        ensures { IfOk result (λ run. run ≡ Some (record { call = call.now; header = header.now; reads = []; asked = None })) }
+        ensures { IfOk result (λ run. run ≡ Some (record { call = call.now; header = header.now; reads = []; asked = None; steps = None })) }
     {
         let live = Live::start(alloc, call, header)?;
         Ok(CallRun {
@@ -105,6 +116,32 @@ impl CallRun {
                     Ok(Advance::Need(item))
                 }
                 Ok(Ran::Done(closed)) => Ok(Advance::Done(closed.finished())),
+                Err(AllocError) => Err(RunFault::Memory),
+            },
+        }
+    }
+
+    /// Makes one step of the path of the call's program, over the items supplied. The first step makes the tests before the
+    /// program and leads to the start of the path, before the first instruction; each further step carries out one
+    /// instruction. Where no program runs, and where the path has ended, the call ends, as with [`CallRun::advance`].
+    pub fn step_one(&mut self, alloc: Global, ops: &OpSet) -> Result<Step, RunFault>
+        requires full { IsFull ⟦<BoxedOp as Op>⟧.opcode ops.now }
+        ensures { Steps self.old self.new result }
+    {
+        match mem::replace(&mut self.state, State::Spent) {
+            State::Spent => Err(RunFault::Spent),
+            State::Live(live) => match step_on(alloc, ops, live) {
+                Ok(Went::On(live)) => {
+                    self.state = State::Live(live);
+                    Ok(Step::Moved)
+                }
+                Ok(Went::Stops(ran)) => match ran {
+                    Ran::Need(live, item) => {
+                        self.state = State::Live(live);
+                        Ok(Step::Need(item))
+                    }
+                    Ran::Done(closed) => Ok(Step::Done(closed.finished())),
+                },
                 Err(AllocError) => Err(RunFault::Memory),
             },
         }

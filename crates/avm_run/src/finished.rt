@@ -5,6 +5,7 @@ ghost use Rattle.avm_ledger.specs.declared.header.Header.{Header as BlockHeader}
 ghost use Rattle.avm_items.specs.declared.call_data.CallData.{CallData as Fields};
 ghost use Rattle.avm_items.specs.Items.{Known, Look, value_in};
 ghost use Rattle.avm_items.specs.Locality.{Agrees, Extends};
+ghost use Rattle.avm_call.specs.AskedFor.{AreAskedFor};
 ghost use Rattle.avm_run.specs.Results.{IsResult, ResultOverMore, ResultOnLedgers};
 
 use avm_call::{Call, Outcome};
@@ -24,13 +25,13 @@ pub struct Finished {
 }
 
 impl Model for Finished {
-    ghost use Rattle.avm_run.specs.Results.{CallRecord, IsResult};
+    ghost use Rattle.avm_run.specs.Results.{CallRecord, IsFinished};
 
     ghost Value = { CallRecord };
 
     ghost view = { λ f. record { call = f.call; header = f.header; reads = f.reads; writes = f.writes; outcome = f.outcome } };
 
-    ghost invariant = { λ f. IsResult f.call f.header f.reads f.outcome f.writes };
+    ghost invariant = { λ f. IsFinished (record { call = f.call; header = f.header; reads = f.reads; writes = f.writes; outcome = f.outcome }) };
 }
 
 impl Finished {
@@ -41,7 +42,8 @@ impl Finished {
         writes: ItemMap,
         outcome: Outcome,
     ) -> Finished
-        requires { IsResult call header reads outcome writes }
+        requires result { IsResult call header reads outcome writes }
+        requires asked { AreAskedFor reads call header }
         ensures { result ≡ record { call = call; header = header; reads = reads; writes = writes; outcome = outcome } }
     {
         Finished {
@@ -89,11 +91,13 @@ impl Finished {
     }
 
     /// That the definition of the call gives this outcome, and writes of which these are left where what was given is
-    /// taken out: over the items read, over all that is known beside them, and on every ledger that agrees with them.
+    /// taken out: over the items read, over all that is known beside them, and on every ledger that agrees with them. The
+    /// call asks for each item that it was given.
     pub fn holds(&self)
         ensures over_reads { IsResult self.now.call self.now.header self.now.reads self.now.outcome self.now.writes }
         ensures over_more { ResultOverMore self.now }
         ensures on_ledgers { ResultOnLedgers self.now }
+        ensures asked { AreAskedFor self.now.reads self.now.call self.now.header }
     {
         let _outcome = &self.outcome;
     }

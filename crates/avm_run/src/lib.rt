@@ -11,6 +11,6 @@ mod live;
 mod on_ledger;
 mod running;
 
-pub use call_run::{Advance, CallRun, RunFault};
+pub use call_run::{Advance, CallRun, RunFault, Step};
 pub use finished::Finished;
 pub use on_ledger::{call_on, call_plain};

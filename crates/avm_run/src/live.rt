@@ -3,10 +3,12 @@
 ghost use Rattle.std.specs.Prelude.{◌≡◌, [], Err, None, Ok, Some, IfOk, IsTrue};
 ghost use Rattle.avm_items.specs.Asks.{answer_from};
 ghost use Rattle.avm_items.specs.Items.{value_in, with_item};
+ghost use Rattle.avm_call.specs.AskedFor.{AreAskedFor};
+ghost use Rattle.avm_call.specs.CallPaths.{outcome_of};
 ghost use Rattle.avm_call.specs.Calls.{call_result};
 ghost use Rattle.avm_call.specs.Ends.{has_programs};
 ghost use Rattle.avm_ops.specs.Objects.{IsFull};
-ghost use Rattle.avm_run.specs.Progress.{ClosesAs, EndsRun, Follows, IsAlive, IsSupplied, RunsTo, is_asked, reads_of};
+ghost use Rattle.avm_run.specs.Progress.{ClosesAs, EndsRun, Follows, GoesTo, IsAlive, IsSupplied, RunsTo, TestsTo, is_asked, reads_of, steps_of};
 ghost use Rattle.avm_run.specs.Standing.{BeginsRun};
 
 use crate::admission::{Admitted, Halt, admit};
@@ -57,6 +59,21 @@ pub(crate) enum Ran {
     Done(Closed),
 }
 
+/// What the tests before a program lead to.
+#[derive(Drop)]
+pub(crate) enum Tested {
+    /// The program of the call, before its first instruction.
+    Begins(Call, Box<Running>),
+    Stops(Ran),
+}
+
+/// What one step of the program's path leads to.
+#[derive(Drop)]
+pub(crate) enum Went {
+    On(Live),
+    Stops(Ran),
+}
+
 impl Phase {
     /// The phase with one item more supplied.
     fn supplied(self, item: Item, value: ItemValue) -> Result<Phase, AllocError>
@@ -80,8 +97,10 @@ impl Phase {
 impl Closed {
     /// The finished call: what it writes without what has the value of before.
     pub(crate) fn finished(self) -> Finished
-        requires { answer_from (value_in self.reads) (call_result self.call self.header) ≡ Ok (self.outcome, self.writes) }
-        ensures { (result.call ≡ self.call) × (result.header ≡ self.header) × (result.reads ≡ self.reads) }
+        requires result { answer_from (value_in self.reads) (call_result self.call self.header) ≡ Ok (self.outcome, self.writes) }
+        requires asked { AreAskedFor self.reads self.call self.header }
+        ensures same { (result.call ≡ self.call) × (result.header ≡ self.header) × (result.reads ≡ self.reads) }
+        ensures outcome { result.outcome ≡ self.outcome }
     {
         let Closed {
             call,
@@ -100,6 +119,7 @@ impl Live {
     /// A run of the call that was supplied with no item.
     pub(crate) fn start(alloc: Global, call: &Call, header: &Header) -> Result<Live, AllocError>
         ensures same { IfOk result (λ l. (l.call ≡ call.now) × (l.header ≡ header.now) × (reads_of l.phase ≡ []) × (l.asked ≡ None)) }
+        ensures steps { IfOk result (λ l. steps_of l.phase ≡ None) }
         ensures alive { IfOk result (λ l. IsAlive l) }
     {
         let call = call.clone()?;
@@ -127,6 +147,7 @@ impl Live {
         requires alive { IsAlive self }
         requires asked { answer_from (value_in (reads_of self.phase)) (call_result self.call self.header) ≡ Err item }
         ensures same { IfOk result (λ l. (l.call ≡ self.call) × (l.header ≡ self.header) × (reads_of l.phase ≡ with_item (reads_of self.phase) item value) × (l.asked ≡ None)) }
+        ensures steps { IfOk result (λ l. steps_of l.phase ≡ steps_of self.phase) }
         ensures alive { IfOk result (λ l. IsAlive l) }
     {
         keeps_programs(&value);
@@ -156,6 +177,18 @@ fn keeps_programs(value: &ItemValue)
     }
 }
 
+/// A run that asks for this item.
+fn asking(call: Call, header: Header, phase: Phase, item: &Item) -> Live
+    ensures { result ≡ record { call = call; header = header; phase = phase; asked = Some item.now } }
+{
+    Live {
+        call,
+        header,
+        phase,
+        asked: Some(item.copied()),
+    }
+}
+
 /// Runs on to the end of the call, or to an item that was not supplied.
 pub(crate) fn run_on(alloc: Global, ops: &OpSet, live: Live) -> Result<Ran, AllocError>
     requires full { IsFull ⟦<BoxedOp as Op>⟧.opcode ops.now }
@@ -169,55 +202,108 @@ pub(crate) fn run_on(alloc: Global, ops: &OpSet, live: Live) -> Result<Ran, Allo
         asked: _asked,
     } = live;
     match phase {
-        Phase::Tests(items) => run_tests(alloc, ops, call, header, items),
+        Phase::Tests(items) => match run_tests(alloc, call, header, items)? {
+            Tested::Begins(call, running) => run_program(alloc, ops, call, header, running),
+            Tested::Stops(ran) => Ok(ran),
+        },
         Phase::Runs(running) => run_program(alloc, ops, call, header, running),
     }
 }
 
-/// Makes the tests before the program, and runs it where they pass.
+/// Makes the next step of the path of the call's program. The first leads to the start of the program.
+pub(crate) fn step_on(alloc: Global, ops: &OpSet, live: Live) -> Result<Went, AllocError>
+    requires full { IsFull ⟦<BoxedOp as Op>⟧.opcode ops.now }
+    requires follows { Follows live.call live.header live.phase }
+    ensures { IfOk result (λ went. GoesTo live.call live.header (reads_of live.phase) (steps_of live.phase) went) }
+{
+    let Live {
+        call,
+        header,
+        phase,
+        asked: _asked,
+    } = live;
+    match phase {
+        Phase::Tests(items) => match run_tests(alloc, call, header, items)? {
+            Tested::Begins(call, running) => Ok(Went::On(Live {
+                call,
+                header,
+                phase: Phase::Runs(running),
+                asked: None,
+            })),
+            Tested::Stops(ran) => Ok(Went::Stops(ran)),
+        },
+        Phase::Runs(running) => step_program(alloc, ops, call, header, running),
+    }
+}
+
+/// Makes the tests before the program, and stands before its first instruction where they pass.
 fn run_tests(
     alloc: Global,
-    ops: &OpSet,
     call: Call,
     header: Header,
     items: ItemMap,
-) -> Result<Ran, AllocError>
-    requires full { IsFull ⟦<BoxedOp as Op>⟧.opcode ops.now }
-    ensures { IfOk result (λ ran. RunsTo call header items ran) }
+) -> Result<Tested, AllocError>
+    ensures { IfOk result (λ tested. TestsTo call header items tested) }
 {
     match admit(&call, &items) {
         Ok(Admitted { id, row: Some(row) }) => {
             let running = begin(alloc, &call, &header, items, id, row)?;
             let running = Box::new(alloc, running)?;
-            run_program(alloc, ops, call, header, running)
+            Ok(Tested::Begins(call, running))
         }
         Ok(Admitted { id, row: None }) => {
             let end = cleared(alloc, &call, id, Cause::Gone)?;
-            Ok(Ran::Done(Closed {
+            Ok(Tested::Stops(Ran::Done(Closed {
                 call,
                 header,
                 reads: items,
                 writes: end.writes,
                 outcome: end.outcome,
-            }))
+            })))
         }
-        Err(Halt::Refused(why)) => Ok(Ran::Done(Closed {
+        Err(Halt::Refused(why)) => Ok(Tested::Stops(Ran::Done(Closed {
             call,
             header,
             reads: items,
             writes: ItemMap::new(alloc),
             outcome: Outcome::Refused(why),
-        })),
-        Err(Halt::Need(item)) => Ok(Ran::Need(
-            Live {
-                call,
-                header,
-                phase: Phase::Tests(items),
-                asked: Some(item.copied()),
-            },
-            item,
-        )),
+        }))),
+        Err(Halt::Need(item)) => {
+            let live = asking(call, header, Phase::Tests(items), &item);
+            Ok(Tested::Stops(Ran::Need(live, item)))
+        }
         Err(Halt::Memory) => Err(AllocError),
+    }
+}
+
+/// Makes one step of the program's path.
+fn step_program(
+    alloc: Global,
+    ops: &OpSet,
+    call: Call,
+    header: Header,
+    running: Box<Running>,
+) -> Result<Went, AllocError>
+    requires full { IsFull ⟦<BoxedOp as Op>⟧.opcode ops.now }
+    requires begun { BeginsRun call header running.value.env.reads running.value }
+    ensures { IfOk result (λ went. GoesTo call header running.value.env.reads (Some running.value.steps) went) }
+{
+    let mut running = running;
+    match step(alloc, ops, &mut running)? {
+        Stepped::On => Ok(Went::On(Live {
+            call,
+            header,
+            phase: Phase::Runs(running),
+            asked: None,
+        })),
+        Stepped::Need(item) => {
+            let live = asking(call, header, Phase::Runs(running), &item);
+            Ok(Went::Stops(Ran::Need(live, item)))
+        }
+        Stepped::Ended(ended) => {
+            let closed = close(alloc, call, header, running, ended)?;
+            Ok(Went::Stops(Ran::Done(closed)))
+        }
     }
 }
 
@@ -238,15 +324,8 @@ fn run_program(
         match step(alloc, ops, &mut running)? {
             Stepped::On => {}
             Stepped::Need(item) => {
-                return Ok(Ran::Need(
-                    Live {
-                        call,
-                        header,
-                        phase: Phase::Runs(running),
-                        asked: Some(item.copied()),
-                    },
-                    item,
-                ));
+                let live = asking(call, header, Phase::Runs(running), &item);
+                return Ok(Ran::Need(live, item));
             }
             Stepped::Ended(ended) => {
                 return Ok(Ran::Done(close(alloc, call, header, running, ended)?));
@@ -264,7 +343,8 @@ fn close(
     ended: Ended,
 ) -> Result<Closed, AllocError>
     requires ends { ClosesAs call header running.value ended }
-    ensures { IfOk result (λ closed. EndsRun call header running.value.env.reads closed) }
+    ensures ends { IfOk result (λ closed. EndsRun call header running.value.env.reads closed) }
+    ensures outcome { IfOk result (λ closed. closed.outcome ≡ outcome_of call.completion ended) }
 {
     let Running { env, row, .. } = Box::into_inner(running);
     let id = env.current();

@@ -1,5 +1,4 @@
-use Rattle.std.proofs.Common.{Ok, ap, ◌∙◌}
-use Rattle.teal_check.specs.WellFormed.{checked}
+use Rattle.std.proofs.Common.{ap, ◌∙◌}
 use Rattle.teal_check.proofs.CheckedPrograms.{is_kept}
 use Rattle.avm_call.specs.CallRules.{program_fault}
 use Rattle.avm_call.proofs.call.program_of.Goals as goal

@@ -1,4 +1,4 @@
-use Rattle.std.proofs.Common.{◌≡◌, ap, ◌∙◌, subst}
+use Rattle.std.proofs.Common.{subst}
 use Rattle.avm_items.specs.Items.{value_in}
 use Rattle.avm_items.specs.Asks.{answer_from}
 use Rattle.avm_items.specs.Acts.{done, ◌>>=◌}

@@ -1,11 +1,11 @@
-use Rattle.std.proofs.Common.{◌≡◌, ◌+◌, ◌<◌, length, refl, sym, ap, ◌∙◌, subst, arith}
+use Rattle.std.proofs.Common.{◌≡◌, ◌+◌, length, sym, ap, ◌∙◌, subst, arith}
 use Rattle.avm_items.specs.Items.{ItemMap, value_in, with_item}
 use Rattle.avm_items.specs.Asks.{answer_from, result_over}
 use Rattle.avm_items.specs.LedgerItems.{at}
 use Rattle.avm_items.specs.Locality.{Agrees}
 use Rattle.avm_items.proofs.Questions.{result_on_ledger}
 use Rattle.avm_call.specs.Calls.{call_result}
-use Rattle.avm_run.specs.Progress.{most_items, reads_of}
+use Rattle.avm_run.specs.Progress.{reads_of}
 use Rattle.avm_run.proofs.Alive.{asks_alive}
 use Rattle.avm_run.proofs.Supplying.{agrees_after, few_left, longer_by_one}
 use Rattle.avm_run.proofs.on_ledger.run_over.Goals as goal

@@ -1,5 +1,3 @@
-use Rattle.std.proofs.Common.{◌≡◌, None, subst}
-use Rattle.avm_call.specs.CallRules.{call_fault}
 use Rattle.avm_run.proofs.Alive.{starts_alive}
 use Rattle.avm_run.proofs.live.Live.start.Goals as goal
 

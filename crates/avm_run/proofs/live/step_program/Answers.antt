@@ -1,0 +1,68 @@
+use Rattle.std.proofs.Common.{◌≡◌, ◌+◌, Some, Ok, Err, refl, sym, ap, ◌∙◌, subst}
+use Rattle.avm_items.specs.Items.{value_in}
+use Rattle.avm_items.specs.Asks.{answer_from}
+use Rattle.avm_items.specs.Environments.{Environment}
+use Rattle.avm_call.specs.CallPaths.{call_path}
+use Rattle.avm_run.specs.declared.live.Live.{Live}
+use Rattle.avm_run.specs.declared.running.Running.{Running}
+use Rattle.avm_run.specs.Standing.{BeginsRun}
+use Rattle.avm_run.specs.Progress.{AsksIn, HasStep, PathIs, steps_of}
+use Rattle.avm_run.proofs.Leading.{still_runs, asks_over, begins_there, ends_run, path_over_items}
+use Rattle.avm_run.proofs.live.step_program.Goals as goal
+
+pub returns-in-On : goal.returns-in-On
+returns-in-On g c =
+    let old = c.deref_mut.result.now in
+    let new = c.step.new.running in
+    let items = c.args.running.value.env.reads in
+    let begun = subst (BeginsRun c.args.call c.args.header items) (sym c.deref_mut.ensures.value) c.requires.begun in
+    let step = rw c.in-On.is at c.in_ok-step.ensures in
+    let runs = still_runs c.args.call c.args.header items old new begun step.same step.stands in
+    let counted : new.steps ≡ c.args.running.value.steps + 1 = step.counted ∙ ap (λ (r : Running). r.steps + 1) c.deref_mut.ensures.value in
+    record {
+      same_call = refl;
+      same_header = refl;
+      same_reads = runs.same_items;
+      asked = refl;
+      follows = record { same_call = runs.same_call; same_header = runs.same_header; same_items = refl; stands = step.stands };
+      counted = ap Some counted;
+      there = subst (HasStep c.args.call c.args.header items) counted (begins_there c.args.call c.args.header items new runs);
+    }
+
+pub returns-in-Need : goal.returns-in-Need
+returns-in-Need g c =
+    let old = c.deref_mut.result.now in
+    let new = c.step.new.running in
+    let items = c.args.running.value.env.reads in
+    let begun = subst (BeginsRun c.args.call c.args.header items) (sym c.deref_mut.ensures.value) c.requires.begun in
+    let step = rw c.in-Need.is at c.in_ok-step.ensures in
+    let runs = still_runs c.args.call c.args.header items old new begun step.same step.stands in
+    subst (λ (l : Live). AsksIn c.args.call c.args.header items l c.in-Need.item × (steps_of l.phase ≡ Some c.args.running.value.steps)) (sym c.asking-live.ensures) (
+      record {
+        same_call = refl;
+        same_header = refl;
+        same_reads = runs.same_items;
+        asked = refl;
+        follows = record { same_call = runs.same_call; same_header = runs.same_header; same_items = refl; stands = step.stands };
+        definition = asks_over c.args.call c.args.header items old c.in-Need.item begun step.asks;
+        next = ap (λ n. answer_from (value_in items) (call_path c.args.call c.args.header (n + 1))) step.counted ∙ path_over_items c.args.call c.args.header items old (old.steps + 1) (Err c.in-Need.item) begun step.next;
+      },
+      ap Some (step.counted ∙ ap (λ (r : Running). r.steps) c.deref_mut.ensures.value),
+    )
+
+pub returns-in_ok-closed-in-Ended : goal.returns-in_ok-closed-in-Ended
+returns-in_ok-closed-in-Ended g c =
+    let old = c.deref_mut.result.now in
+    let items = c.args.running.value.env.reads in
+    let begun = subst (BeginsRun c.args.call c.args.header items) (sym c.deref_mut.ensures.value) c.requires.begun in
+    let step = rw c.in-Ended.is at c.in_ok-step.ensures in
+    let ends = c.in_ok-closed-in-Ended.ensures in
+    let reads = ap (λ (e : Environment). e.reads) step.same.env ∙ ap (λ (r : Running). r.env.reads) c.deref_mut.ensures.value in (
+      ends_run c.args.call c.args.call c.args.header items _ c.in_ok-closed-in-Ended.closed refl reads ends.ends,
+      record {
+        reached = Some (step.position, Some c.in-Ended.ended);
+        last = subst (λ (r : Running). PathIs c.args.call c.args.header items (r.steps + 1) (Ok (Some (step.position, Some c.in-Ended.ended)))) c.deref_mut.ensures.value
+            (path_over_items c.args.call c.args.header items old (old.steps + 1) (Ok (Some (step.position, Some c.in-Ended.ended))) begun step.next);
+        outcome = ends.outcome;
+      },
+    )
