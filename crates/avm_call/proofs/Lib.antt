@@ -2,4 +2,5 @@ pub mod Paths
 pub mod Steps
 pub mod LaidOut
 pub mod Asked
+pub mod Placed
 pub mod Unapproved
