@@ -5,7 +5,8 @@ use Rattle.avm_items.specs.declared.call_data.CallData.{CallData}
 use Rattle.avm_items.specs.CallReading.{HasFields}
 use Rattle.avm_block.specs.declared.entry.Entry.{Entry}
 use Rattle.avm_block.specs.Blocks.{RisesAbove}
-use Rattle.avm_block.specs.BlockReading.{HasPlace, AreEntries}
+use Rattle.avm_call.specs.Places.{HasPlace}
+use Rattle.avm_block.specs.BlockReading.{AreEntries}
 
 abbrev IsSmall : Entry → Type 0
 IsSmall e = e.timestamp < 2 ^ 64

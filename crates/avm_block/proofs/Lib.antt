@@ -1,4 +1,4 @@
-pub mod CallFits
+pub mod CheckedCalls
 pub mod CallFront
 pub mod EntriesReading
 pub mod BlockMade

@@ -18,7 +18,7 @@ use Rattle.avm_call.specs.declared.outcome.Outcome.TheVariants as outcome
 use Rattle.avm_call.specs.OutcomeSpelling.{fault_number, why_number, outcome_bytes}
 use Rattle.avm_block.specs.declared.block_fault.BlockFault.TheVariants.{Truncated, Field}
 use Rattle.avm_block.specs.OutcomeReader.{numbered, faults, whys, one_at, place_at, fault_at, cause_of_kind, outcome_at}
-use Rattle.avm_block.specs.BlockReading.{HasCausePlace, HasPlace}
+use Rattle.avm_call.specs.Places.{HasCausePlace, HasPlace}
 
 fault_of_number : (f : Fault) → numbered fault_number (fault_number f) faults ≡ Some f
 fault_of_number fault.Err = refl

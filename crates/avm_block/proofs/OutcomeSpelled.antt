@@ -18,7 +18,7 @@ use Rattle.avm_call.specs.OutcomeSpelling.{fault_number, why_number, outcome_byt
 use Rattle.avm_block.specs.declared.block_fault.BlockFault.{BlockFault}
 use Rattle.avm_block.specs.declared.block_fault.BlockFault.TheVariants.{Truncated, Field}
 use Rattle.avm_block.specs.OutcomeReader.{numbered, faults, whys, one_at, place_at, fault_at, cause_of_kind, outcome_of_kind, outcome_at}
-use Rattle.avm_block.specs.BlockReading.{HasCausePlace, HasPlace}
+use Rattle.avm_call.specs.Places.{HasCausePlace, HasPlace}
 use Rattle.avm_block.proofs.OutcomeBack.{cause_bytes, byte_as_it_is, small_fault, small_why}
 
 -- a field that keeps its rule

@@ -4,24 +4,11 @@ use Rattle.avm_ledger.specs.declared.header.Header.{Header}
 use Rattle.avm_ledger.specs.declared.header.Profile.{Profile}
 use Rattle.avm_items.specs.declared.call_data.CallData.{CallData}
 use Rattle.avm_items.specs.CallReading.{HasFields}
-use Rattle.avm_call.specs.declared.outcome.Cause.{Cause}
-use Rattle.avm_call.specs.declared.outcome.Cause.TheVariants as cause
-use Rattle.avm_call.specs.declared.outcome.Outcome.{Outcome}
-use Rattle.avm_call.specs.declared.outcome.Outcome.TheVariants as outcome
+use Rattle.avm_call.specs.Places.{HasPlace}
 use Rattle.avm_block.specs.declared.entry.Entry.{Entry}
 use Rattle.avm_block.specs.Blocks.{Block}
 use Rattle.avm_block.specs.BlockSpelling.{block_bytes}
 use Rattle.avm_block.specs.BlockReader.{block_at}
-
--- a fault's place is one of a program, or its end
-abbrev pub HasCausePlace : Cause → Type 0
-HasCausePlace (cause.Faulted f place) = place ≤ 1024
-HasCausePlace _ = Unit {0}
-
-abbrev pub HasPlace : Outcome → Type 0
-HasPlace (outcome.Faulted f place) = place ≤ 1024
-HasPlace (outcome.ClearedAnyway c) = HasCausePlace c
-HasPlace _ = Unit {0}
 
 pub record IsEntry (accepted : CallData → Bool) (before : ℕ) (e : Entry) : Type 0 where
   pub rises : before < e.timestamp

@@ -13,6 +13,7 @@ mod encoding;
 mod entry;
 pub mod header_codec;
 pub mod outcome_codec;
+mod places;
 pub mod reading_laws;
 
 pub use accepted_calls::accepts;
@@ -21,3 +22,4 @@ pub use block_fault::{BlockError, BlockFault};
 pub use decoding::decode;
 pub use encoding::encode;
 pub use entry::Entry;
+pub use places::outcome_has_place;

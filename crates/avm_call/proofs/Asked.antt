@@ -24,18 +24,18 @@ use Rattle.avm_items.specs.Items.{ItemMap}
 use Rattle.avm_call.proofs.LaidOut.{program_asks}
 
 -- a test that both programs of an application pass, where the value is one
-abbrev passes : (List ℕ → Bool) → ItemValue → Bool
+abbrev pub passes : (List ℕ → Bool) → ItemValue → Bool
 passes fits (value.App row) = fits row.approval && fits row.clear
 passes fits _ = true
 
-abbrev Comes : (List ℕ → Bool) → ItemValue → Type 0
+abbrev pub Comes : (List ℕ → Bool) → ItemValue → Type 0
 Comes fits v = IsTrue (passes fits v)
 
-abbrev BothFit : (List ℕ → Bool) → Option Application → Type 0
+abbrev pub BothFit : (List ℕ → Bool) → Option Application → Type 0
 BothFit fits None = Unit {0}
 BothFit fits (Some row) = (fits row.approval ≡ true) × (fits row.clear ≡ true)
 
-abbrev TargetFits : (List ℕ → Bool) → Result Target Why → Type 0
+abbrev pub TargetFits : (List ℕ → Bool) → Result Target Why → Type 0
 TargetFits fits (Ok t) = BothFit fits t.row
 TargetFits fits (Err w) = Unit {0}
 
@@ -43,7 +43,7 @@ both_tests : (a b : Bool) → (a && b) ≡ true → (a ≡ true) × (b ≡ true)
 both_tests true b e = (refl, e)
 both_tests false b e = absurd cc
 
-programs_fit : (fits : List ℕ → Bool) (v : ItemValue) → Comes fits v → BothFit fits (application_in v)
+pub programs_fit : (fits : List ℕ → Bool) (v : ItemValue) → Comes fits v → BothFit fits (application_in v)
 programs_fit fits (value.App row) h = both_tests (fits row.approval) (fits row.clear) h
 programs_fit fits value.Absent h = tt
 programs_fit fits (value.NextApp id) h = tt
@@ -100,7 +100,7 @@ admitted_asks fits call new =
 
 -- ---- the program, and the whole call
 
-program_fits : (fits : List ℕ → Bool) (row : Application) → (fits row.approval ≡ true) × (fits row.clear ≡ true) → (c : Completion) → fits (program_of c row) ≡ true
+pub program_fits : (fits : List ℕ → Bool) (row : Application) → (fits row.approval ≡ true) × (fits row.clear ≡ true) → (c : Completion) → fits (program_of c row) ≡ true
 program_fits fits row h completion.NoOp = h.0
 program_fits fits row h completion.OptIn = h.0
 program_fits fits row h completion.CloseOut = h.0

@@ -279,14 +279,14 @@ targets (suc n) version bytes place ps low e starts rs w x i next target there r
 
 -- ---- a checked program
 
-afforded : (version : Version) (bytes : List ℕ) (ps : List Placed) (w : WellFormed) → affordable version bytes ps ≡ Ok w → w.placed ≡ ps
+pub afforded : (version : Version) (bytes : List ℕ) (ps : List Placed) (w : WellFormed) → affordable version bytes ps ≡ Ok w → w.placed ≡ ps
 afforded version bytes ps w e =
     elim (chosen (ltb 700 (check.cost_of ps)) _ _ _ e) [
       | inl (more, bad) ↦ absurd cc
       | inr (fits, one) ↦ let same : record { version = version; bytes = bytes; placed = ps; cost = check.cost_of ps } ≡ w = cc in sym (ap (λ (v : WellFormed). v.placed) same)
     ]
 
-version_within : (bytes : List ℕ) (v : Version × ℕ) → check.version_at bytes ≡ Ok v → v.1 ≤ length bytes
+pub version_within : (bytes : List ℕ) (v : Version × ℕ) → check.version_at bytes ≡ Ok v → v.1 ≤ length bytes
 version_within bytes v e =
     let (n, first, others) = bind_ok (on_code 0 (varuint_at bytes)) _ _ e in
     let (version, known, last) = bind_ok (version_of n.0) _ _ others in

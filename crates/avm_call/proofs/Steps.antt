@@ -14,6 +14,7 @@ use Rattle.avm_ops.specs.Frame.{Stepped}
 use Rattle.avm_ops.specs.Effect.{effect}
 use Rattle.avm_ops.specs.Steps.{branch_target, IsFlowTo}
 use Rattle.avm_call.specs.declared.outcome.Ended.{Ended}
+use Rattle.avm_call.specs.declared.outcome.Ended.TheVariants as ended
 use Rattle.avm_call.specs.Runs.{Execution, Position, version_at, instruction_at, context_at, place_after, known_itself, result_at_end, stepped, executed, start, run_from, path, whole_path}
 use Rattle.avm_call.specs.Ends.{HasEnded, is_start, is_start_or_end, IsLaidOut}
 use Rattle.avm_call.proofs.Paths.{Goes, read_on, behind_by, executed_asks, goes_on}
@@ -76,11 +77,15 @@ unfolding left_from
 left_in_all place [] = omega arith
 left_in_all place (s ∷ ss) = count_by_test (left_from place ss) (length ss) (nat_le place s) (left_in_all place ss)
 
--- ---- a step goes to an instruction behind it, or to the end
+-- ---- a step goes to an instruction behind it, or to the end, or faults where it is
 
-abbrev LaidOn : List ℕ → Execution → Position → Result Position Ended → Type 0
+abbrev pub FaultsAt : ℕ → Ended → Type 0
+FaultsAt place (ended.Faulted f at) = at ≡ place
+FaultsAt place _ = Unit {0}
+
+abbrev pub LaidOn : List ℕ → Execution → Position → Result Position Ended → Type 0
 LaidOn starts e p (Ok q) = (p.place < q.place) × (is_start_or_end starts (length e.program) q.place ≡ true)
-LaidOn starts e p (Err end) = Unit {0}
+LaidOn starts e p (Err end) = FaultsAt p.place end
 
 the_end : (starts : List ℕ) (end : ℕ) → is_start_or_end starts end end ≡ true
 the_end starts end = ap (λ b. b || is_start starts end) (eq-eqb end end refl)
@@ -97,11 +102,11 @@ stepped_laid : (e : Execution) (starts : List ℕ) → IsLaidOut e.program start
 stepped_laid e starts laid p i next here is (Ok after) h =
     let on = read_on (version_at e.program).0 e.program p.place i next is in
     flow_laid e starts laid p i next here is on.0 on.1 after.flow h.0
-stepped_laid e starts laid p i next here is (Err f) h = tt
+stepped_laid e starts laid p i next here is (Err f) h = refl
 
-executed_laid : (e : Execution) (starts : List ℕ) → IsLaidOut e.program starts → (p : Position) → is_start starts p.place ≡ true
+pub executed_laid : (e : Execution) (starts : List ℕ) → IsLaidOut e.program starts → (p : Position) → is_start starts p.place ≡ true
     → (r : Result (Instr × ℕ) CodeFault) → instruction_at e.program p.place ≡ r → AsksAtMost Any 3 (LaidOn starts e p) (executed e p r)
-executed_laid e starts laid p here (Err f) is = tt
+executed_laid e starts laid p here (Err f) is = refl
 executed_laid e starts laid p here (Ok (i, next)) is =
     at_most-then Any 3 0 (Goes e p i) (LaidOn starts e p) (remaining_questions (known_itself e p.writes) (effect (context_at e p) i.opcode i.immediates)) (λ r. Gives (stepped e p next r))
     (executed_asks e p i) (λ r h. stepped_laid e starts laid p i next here is r h)

@@ -1,16 +1,18 @@
--- That the fields of a call which breaks no rule of calls are within their sizes.
-use Rattle.std.proofs.Common.{◌≡◌, ℕ, ◌^◌, ◌<◌, ◌≤◌, Bool, true, false, ◌&&◌, ◌||◌, eqb, ltb, List, [], ◌∷◌, length, All, Option, None, Some, Result, Ok, Err, refl, inl, inr, arith}
-use Rattle.std.specs.Prelude.{if◌then◌else◌, not}
+-- Of a call that breaks no rule of calls: its fields are within their sizes, and a creation brings programs.
+use Rattle.std.proofs.Common.{◌≡◌, ℕ, ◌^◌, ◌<◌, ◌≤◌, Bool, true, false, ◌&&◌, ◌||◌, eqb, ltb, List, [], ◌∷◌, length, All, Option, None, Some, Result, Ok, Err, refl, sym, ap, ◌∙◌, inl, inr, arith}
+use Rattle.std.specs.Prelude.{if◌then◌else◌, is_ok, not}
 use Rattle.std.proofs.lemmas.Bool.{eqb-true, ltb-false}
 use Rattle.std.proofs.lemmas.List.Elements.{All-nil, All-cons}
 use Rattle.teal_value.proofs.Binding.{chosen}
 use Rattle.teal_check.specs.declared.fault.CheckFault.{CheckFault}
 use Rattle.teal_check.specs.WellFormed.{WellFormed, checked}
 use Rattle.avm_items.specs.declared.call_data.CallData.{CallData}
+use Rattle.avm_items.specs.CallFields.{creates}
 use Rattle.avm_items.specs.CallReading.{IsAddress, IsString, IsWord, HasFields}
 use Rattle.avm_call.specs.declared.call_fault.CallFault.{CallFault}
 use Rattle.avm_call.specs.declared.call_fault.CallFault.TheVariants as fault
-use Rattle.avm_call.specs.CallRules.{total_length, is_empty, brings_programs, lacks_programs, has_programs, field_fault, program_fault, or_fault, programs_fault, call_fault}
+use Rattle.avm_call.specs.Ends.{is_program}
+use Rattle.avm_call.specs.CallRules.{total_length, updates, is_empty, brings_programs, lacks_programs, has_programs, field_fault, program_fault, or_fault, programs_fault, call_fault}
 
 -- what the types of the fields say
 pub record HasSizes (c : CallData) : Type 0 where
@@ -53,6 +55,19 @@ checked_short bytes w e =
 program_short : (bytes : List ℕ) (r : Result WellFormed CheckFault) → checked bytes ≡ r → program_fault r ≡ None → length bytes ≤ 1024
 program_short bytes (Ok w) is e = checked_short bytes w is
 program_short bytes (Err f) is e = absurd cc
+
+program_passes : (r : Result WellFormed CheckFault) → program_fault r ≡ None → is_ok r ≡ true
+program_passes (Ok w) e = refl
+program_passes (Err f) e = absurd cc
+
+-- what a creation brings
+pub creation_programs : (c : CallData) → call_fault c ≡ None → creates c ≡ true → (is_program c.approval ≡ true) × (is_program c.clear ≡ true)
+creation_programs c e new =
+    let programs = or_fault (program_fault (checked c.approval)) (program_fault (checked c.clear)) in
+    let brings : brings_programs c ≡ true = ap (λ b. b || updates c.completion) new in
+    let pass : programs ≡ None = sym (ap (λ b. if b then programs else None) brings) ∙ (none_of_both (field_fault c) (programs_fault c) e).1 in
+    let parts = none_of_both (program_fault (checked c.approval)) (program_fault (checked c.clear)) pass in
+    (program_passes (checked c.approval) parts.0, program_passes (checked c.clear) parts.1)
 
 both_empty : (a b : Bool) → not (a && b) ≡ false → (a ≡ true) × (b ≡ true)
 both_empty true true e = (refl, refl)
