@@ -1,6 +1,7 @@
 //! Which calls a block of a profile may have.
 
 ghost use Rattle.std.specs.Prelude.{◌≡◌};
+ghost use Rattle.avm_call.specs.CallRules.{needed_profile};
 ghost use Rattle.avm_block.specs.AcceptedCalls.{is_accepted, is_within};
 
 use avm_call::Call;
@@ -8,7 +9,8 @@ use avm_ledger::Profile;
 
 /// Whether a block of this profile may have the call.
 pub fn accepts(profile: Profile, call: &Call) -> bool
-    ensures { result ≡ is_accepted profile call.now }
+    ensures accepted { result ≡ is_accepted profile call.now }
+    ensures within { result ≡ is_within (needed_profile call.now) profile }
 {
     let _fields = call.fields();
     is_within(call.needs(), profile)

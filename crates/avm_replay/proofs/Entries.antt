@@ -1,5 +1,5 @@
 -- Calls of entries, one after another.
-use Rattle.std.proofs.Common.{◌≡◌, ◌∙◌, ap, sym, subst, refl, ℕ, ◌+◌, ◌<◌, ◌≤◌, Bool, true, false, nat_le, List, [], ◌∷◌, ◌++◌, length, map, filter, take, drop, None, Some, slice_index_or, arith}
+use Rattle.std.proofs.Common.{◌≡◌, ◌∙◌, ap, sym, subst, refl, ℕ, ◌+◌, ◌<◌, ◌≤◌, Bool, true, false, nat_le, List, [], ◌∷◌, ◌++◌, length, take, drop, None, slice_index_or, arith}
 use Rattle.std.proofs.lemmas.List.{drop_more, length-take-le, map-append, take-append-drop, take_more}
 use Rattle.std.proofs.Math.Seq.{take-length}
 use Rattle.avm_ledger.specs.declared.header.Header.{Header}
@@ -13,11 +13,17 @@ use Rattle.avm_block.specs.BlockReading.{AreEntries}
 use Rattle.avm_replay.specs.Past.{entries_until}
 use Rattle.avm_replay.specs.Verdicts.{Compares, IsFirstWrong}
 
-outcomes-append : (l : Ledger) (h : Header) (cs : List CallData) (c : CallData) → outcomes l h (cs ++ c ∷ []) ≡ outcomes l h cs ++ outcome_on (replayed l h cs) c h ∷ []
+pub heads : {A : Type 0} {x y : A} {xs ys : List A} → x ∷ xs ≡ y ∷ ys → x ≡ y
+heads e = cc
+
+pub tails : {A : Type 0} {x y : A} {xs ys : List A} → x ∷ xs ≡ y ∷ ys → xs ≡ ys
+tails e = cc
+
+pub outcomes-append : (l : Ledger) (h : Header) (cs : List CallData) (c : CallData) → outcomes l h (cs ++ c ∷ []) ≡ outcomes l h cs ++ outcome_on (replayed l h cs) c h ∷ []
 outcomes-append l h [] c = refl
 outcomes-append l h (b ∷ bs) c = ap (λ os. outcome_on l b h ∷ os) (outcomes-append (ledger_after l b h) h bs c)
 
-replayed-append : (l : Ledger) (h : Header) (cs : List CallData) (c : CallData) → replayed l h (cs ++ c ∷ []) ≡ ledger_after (replayed l h cs) c h
+pub replayed-append : (l : Ledger) (h : Header) (cs : List CallData) (c : CallData) → replayed l h (cs ++ c ∷ []) ≡ ledger_after (replayed l h cs) c h
 replayed-append l h [] c = refl
 replayed-append l h (b ∷ bs) c = replayed-append (ledger_after l b h) h bs c
 

@@ -1,22 +1,14 @@
 -- A block has one verdict.
-use Rattle.std.proofs.Common.{◌≡◌, ◌≢◌, ◌∙◌, ap, sym, subst, refl, ℕ, suc, ◌+◌, List, [], ◌∷◌, ◌++◌, length, map, arith}
-use Rattle.std.proofs.lemmas.List.{map-append}
+use Rattle.std.proofs.Common.{◌≡◌, ◌≢◌, ◌∙◌, ap, sym, subst, refl, ℕ, suc, ◌+◌, List, [], ◌∷◌, ◌++◌, length}
 use Rattle.avm_ledger.specs.declared.header.Header.{Header}
 use Rattle.avm_ledger.specs.Ledgers.{Ledger}
-use Rattle.avm_items.specs.declared.call_data.CallData.{CallData}
 use Rattle.avm_call.specs.declared.outcome.Outcome.{Outcome}
 use Rattle.avm_call.specs.Replay.{ledger_after, outcome_on, outcomes, replayed}
 use Rattle.avm_block.specs.declared.entry.Entry.{Entry}
-use Rattle.avm_block.specs.Blocks.{Block, calls_in, outcomes_in}
-use Rattle.avm_replay.specs.declared.verdict.Verdict.{Verdict}
+use Rattle.avm_block.specs.Blocks.{calls_in, outcomes_in}
 use Rattle.avm_replay.specs.declared.verdict.Verdict.TheVariants as verdict
-use Rattle.avm_replay.specs.Verdicts.{IsFirstWrong, Judges, OneVerdict}
-
-heads : {A : Type 0} {x y : A} {xs ys : List A} → x ∷ xs ≡ y ∷ ys → x ≡ y
-heads e = cc
-
-tails : {A : Type 0} {x y : A} {xs ys : List A} → x ∷ xs ≡ y ∷ ys → xs ≡ ys
-tails e = cc
+use Rattle.avm_replay.proofs.Entries.{heads, tails}
+use Rattle.avm_replay.specs.Verdicts.{IsFirstWrong, OneVerdict}
 
 -- what stands at the seam of two parts of all entries ends as it says, where all do
 right_at_seam : (l : Ledger) (h : Header) (before : List Entry) (e : Entry) (behind : List Entry)

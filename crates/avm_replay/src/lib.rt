@@ -4,9 +4,11 @@
 #![tactic(auto)]
 
 mod past;
+mod plain;
 mod replayer;
 mod verdict;
 
 pub use past::{StateError, StateFault, state_at};
+pub use plain::{PlainBlockError, PlainBlockFault, plain_block};
 pub use replayer::{one_verdict, replay};
 pub use verdict::Verdict;

@@ -1,4 +1,4 @@
-use Rattle.std.proofs.Common.{◌≡◌, ◌∙◌, ap, sym, rules, arith, drop}
+use Rattle.std.proofs.Common.{◌∙◌, ap, sym, arith}
 use Rattle.avm_call.specs.Replay.{replayed}
 use Rattle.avm_block.specs.Blocks.{calls_in}
 use Rattle.avm_replay.proofs.Entries.{none_further, one_further}

@@ -1,5 +1,5 @@
-use Rattle.std.proofs.Common.{◌≡◌, ◌+◌, ◌∙◌, ap, sym, subst, refl, None, rules, arith, length, take}
-use Rattle.avm_replay.specs.Verdicts.{Compares, IsFirstWrong}
+use Rattle.std.proofs.Common.{◌+◌, ◌∙◌, ap, sym, subst, refl, arith}
+use Rattle.avm_replay.specs.Verdicts.{IsFirstWrong}
 use Rattle.avm_replay.proofs.Entries.{agrees_more, agrees_with_all, first_wrong_at}
 use Rattle.avm_replay.proofs.replayer.first_wrong.Goals as goal
 

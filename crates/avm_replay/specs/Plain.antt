@@ -1,0 +1,51 @@
+-- Blocks of calls made one after another.
+use Rattle.std.specs.Prelude.{◌≡◌, ℕ, ◌+◌, nat_lt, if◌then◌else◌, List, [], ◌∷◌, length, map, All, Option, Some, None, option_map}
+use Rattle.teal_value.specs.declared.failure.Failure.{Failure}
+use Rattle.teal_value.specs.declared.failure.Failure.TheVariants as failure
+use Rattle.avm_ledger.specs.declared.header.Header.{Header}
+use Rattle.avm_ledger.specs.declared.header.Profile.{Profile}
+use Rattle.avm_ledger.specs.Ledgers.{Ledger}
+use Rattle.avm_items.specs.declared.call_data.CallData.{CallData}
+use Rattle.avm_call.specs.CallRules.{needed_profile}
+use Rattle.avm_call.specs.Places.{HasPlace}
+use Rattle.avm_call.specs.Replay.{outcomes, replayed}
+use Rattle.avm_block.specs.declared.entry.Entry.{Entry}
+use Rattle.avm_block.specs.AcceptedCalls.{is_within}
+use Rattle.avm_block.specs.Blocks.{Block, Replays, calls_in, calls_of, outcomes_in}
+use Rattle.avm_replay.specs.declared.plain.PlainBlockFault.{PlainBlockFault}
+use Rattle.avm_replay.specs.declared.plain.PlainBlockFault.TheVariants as fault
+
+-- the number of the first of these calls that needs a newer profile, where the first of them has this number
+abbrev pub first_beyond : Profile → ℕ → List CallData → Option ℕ
+first_beyond profile number [] = None
+first_beyond profile number (call ∷ calls) =
+    if is_within (needed_profile call) profile then first_beyond profile (number + 1) calls else Some number
+
+-- why these calls make no block under a header
+abbrev pub plain_fault : Header → List CallData → Option PlainBlockFault
+plain_fault header calls = if nat_lt 4096 (length calls) then Some fault.TooMany else option_map fault.Profile (first_beyond header.profile 1 calls)
+
+-- It is this fault, or want of memory.
+abbrev pub IsFaultOf : Option PlainBlockFault → Failure PlainBlockFault → Type 0
+IsFaultOf found failure.Memory = Unit {0}
+IsFaultOf found (failure.Fault f) = found ≡ Some f
+
+-- so many timestamps, one after another
+abbrev pub timestamps_from : ℕ → List CallData → List ℕ
+timestamps_from first [] = []
+timestamps_from first (call ∷ calls) = first ∷ timestamps_from (first + 1) calls
+
+-- The block has these calls in this order, by the timestamps 1, 2, 3 and so on, and it replays over the ledger.
+pub record IsPlainBlock (l : Ledger) (header : Header) (calls : List CallData) (b : Block) : Type 0 where
+  pub same_header : b.header ≡ header
+  pub same_calls : calls_of b ≡ calls
+  pub timestamps : map (λ (e : Entry). e.timestamp) b.entries ≡ timestamps_from 1 calls
+  pub replays : Replays l b
+
+-- the entries of calls that were made on a ledger, which led to another
+pub record AreMade (old : Ledger) (header : Header) (calls : List CallData) (entries : List Entry) (new : Ledger) : Type 0 where
+  pub same_calls : calls_in entries ≡ calls
+  pub timestamps : map (λ (e : Entry). e.timestamp) entries ≡ timestamps_from 1 calls
+  pub places : All (λ (e : Entry). HasPlace e.outcome) entries
+  pub ends : outcomes old header calls ≡ outcomes_in entries
+  pub after : new ≡ replayed old header calls

@@ -1,0 +1,95 @@
+//! Blocks of calls made one after another, on one thread.
+
+ghost use Rattle.std.specs.Prelude.{◌≡◌, ◌≤◌, ◌+◌, true, All, IfErr, IfOk, IfSome, None, length, vec_len};
+ghost use Rattle.avm_ops.specs.Objects.{IsFull};
+ghost use Rattle.avm_block.specs.AcceptedCalls.{is_accepted};
+ghost use Rattle.avm_replay.specs.Plain.{AreMade, IsFaultOf, IsPlainBlock, first_beyond, plain_fault};
+
+use avm_block::{Block, Entry, MAX_ENTRIES, accepts, outcome_has_place};
+use avm_call::Call;
+use avm_ledger::{Header, Ledger, Profile};
+use avm_ops::{BoxedOp, Op, OpSet};
+use avm_run::call_on;
+use std::alloc::{AllocError, Global};
+use teal_value::Failure;
+
+/// Why calls make no block.
+#[derive(Clone, Copy, Debug, PartialEq, Eq)]
+pub enum PlainBlockFault {
+    /// There are more than a block has entries.
+    TooMany,
+    /// The call of this number, counted from 1, needs a newer profile than the header's.
+    Profile { number: usize },
+}
+
+/// A [`PlainBlockFault`], or want of memory.
+pub type PlainBlockError = Failure<PlainBlockFault>;
+
+/// The block of these calls over a ledger, in this order, by the timestamps 1, 2, 3 and so on.
+pub fn plain_block(
+    alloc: Global,
+    ledger: &Ledger,
+    header: &Header,
+    calls: Vec<Call>,
+    ops: &OpSet,
+) -> Result<Block, PlainBlockError>
+    requires full { IsFull ⟦<BoxedOp as Op>⟧.opcode ops.now }
+    ensures accepted { IfOk result (λ _. plain_fault header.now calls.items ≡ None) }
+    ensures block { IfOk result (IsPlainBlock ledger.now header.now calls.items) }
+    ensures refused { IfErr result (IsFaultOf (plain_fault header.now calls.items)) }
+{
+    if calls.len() > MAX_ENTRIES {
+        return Err(Failure::Fault(PlainBlockFault::TooMany));
+    }
+    if let Some(number) = first_beyond(header.profile, &calls) {
+        return Err(Failure::Fault(PlainBlockFault::Profile { number }));
+    }
+    let base = ledger.digest(alloc)?;
+    let mut after = ledger.clone()?;
+    let entries = entries_of(alloc, &mut after, header, &calls, ops)?;
+    let digest = after.digest(alloc)?;
+    Ok(Block::new(base, *header, entries, digest))
+}
+
+/// The number of the first call that a block of the profile may not have.
+fn first_beyond(profile: Profile, calls: &[Call]) -> Option<usize>
+    requires few { length calls.now ≤ MAX_ENTRIES }
+    ensures beyond { result ≡ first_beyond profile 1 calls.now }
+    ensures accepted { result ≡ None → All (λ call. is_accepted profile call ≡ true) calls.now }
+{
+    let mut number = 0;
+    for call in calls {
+        number += 1;
+        if !accepts(profile, call) {
+            return Some(number);
+        }
+    }
+    None
+}
+
+/// Makes calls on a ledger, one after another, and gives them as entries.
+fn entries_of(
+    alloc: Global,
+    ledger: &mut Ledger,
+    header: &Header,
+    calls: &[Call],
+    ops: &OpSet,
+) -> Result<Vec<Entry>, AllocError>
+    requires full { IsFull ⟦<BoxedOp as Op>⟧.opcode ops.now }
+    requires few { length calls.now ≤ MAX_ENTRIES }
+    ensures { IfOk result (λ entries. AreMade ledger.old header.now calls.now entries.items ledger.new) }
+{
+    let mut entries = Vec::new(alloc);
+    let mut timestamp = 0;
+    for call in calls {
+        timestamp += 1;
+        outcome_has_place(ledger, call, header);
+        let outcome = call_on(alloc, ledger, call, header, ops)?;
+        entries.push(Entry {
+            timestamp,
+            call: call.clone()?,
+            outcome,
+        })?;
+    }
+    Ok(entries)
+}
