@@ -1,18 +1,10 @@
-//! Worked examples that go through several crates, with values from outside the program.
+//! The tools on worked examples that go through several crates, with values from outside the program.
 #![tactic(auto)]
 
-#[cfg(test)]
-mod calls;
 #[cfg(test)]
 mod checking;
 #[cfg(test)]
 mod commands;
-#[cfg(test)]
-mod ledger_bytes;
-#[cfg(test)]
-mod ledgers;
-#[cfg(test)]
-mod objects;
 #[cfg(test)]
 mod small_sources;
 #[cfg(test)]

@@ -1,0 +1,7 @@
+//! Single instructions and whole calls through a set of all objects, with values from outside the program.
+#![tactic(auto)]
+
+#[cfg(test)]
+mod calls;
+#[cfg(test)]
+mod objects;

@@ -1,0 +1,7 @@
+//! Ledgers that are changed, and the bytes of ledgers and calls, with values from outside the program.
+#![tactic(auto)]
+
+#[cfg(test)]
+mod ledger_bytes;
+#[cfg(test)]
+mod ledgers;
