@@ -3,11 +3,12 @@
 
 ghost use Rattle.avm_ops.specs.Objects.{IsFull};
 
+use crate::steps;
 use avm_call::{Call, CallFault, Cause, Outcome, Why};
 use avm_items::{Addresses, CallData, Completion, Item, ItemValue, item_of};
 use avm_ledger::{Header, Ledger, Profile, Schema, State};
 use avm_ops::{BoxedOp, Op, OpSet};
-use avm_run::{Advance, CallRun, RunFault, Step, call_on, call_plain};
+use avm_run::{Advance, CallRun, RunFault, call_on, call_plain};
 use std::alloc::Global;
 use std::test::Fail;
 use teal_check::check;
@@ -15,23 +16,23 @@ use teal_value::{Address, ByteString, ByteStrings, Failure, Fault, StateKey, Uin
 
 const NOBODY: Address = Address([0; 32]);
 
-const NO_ENTRY: Schema = Schema { uints: 0, bytes: 0 };
+pub const NO_ENTRY: Schema = Schema { uints: 0, bytes: 0 };
 
-const ONE_UINT: Schema = Schema { uints: 1, bytes: 0 };
+pub const ONE_UINT: Schema = Schema { uints: 1, bytes: 0 };
 
 const TWO_UINTS: Schema = Schema { uints: 2, bytes: 0 };
 
 /// `int 1`, `int 0` and `err`.
-const APPROVES: &str = "0220010122";
+pub const APPROVES: &str = "0220010122";
 
 const REJECTS: &str = "0220010022";
 
-const FAULTS: &str = "0200";
+pub const FAULTS: &str = "0200";
 
 /// Adds 1 to the number under the key `n` of the global state, and approves.
-const COUNTS: &str = "022001012601016e28286422086722";
+pub const COUNTS: &str = "022001012601016e28286422086722";
 
-fn header(profile: Profile) -> Header {
+pub fn header(profile: Profile) -> Header {
     Header {
         profile,
         round: 0,
@@ -48,7 +49,7 @@ fn bytes_of(alloc: Global, digits: &str) -> Result<ByteString, Fail> {
 
 /// A call without arguments by the zero address; the programs and the schema of the global state are those of a creation
 /// or an update.
-fn fields(
+pub fn fields(
     alloc: Global,
     application: u64,
     completion: Completion,
@@ -76,7 +77,7 @@ fn fields(
     })
 }
 
-fn checked(alloc: Global, fields: CallData) -> Result<Call, Fail> {
+pub fn checked(alloc: Global, fields: CallData) -> Result<Call, Fail> {
     match Call::check(alloc, fields) {
         Ok(call) => Ok(call),
         Err(_) => Err("these fields make a call".into()),
@@ -630,55 +631,6 @@ fn runs_ask_once(alloc: Global, ops: &OpSet) -> Result<bool, Fail>
     )
 }
 
-/// How many steps a run makes that is supplied with a ledger's items, and how it ends.
-fn steps_of(
-    alloc: Global,
-    ops: &OpSet,
-    ledger: &Ledger,
-    call: &Call,
-) -> Result<Option<(u32, Outcome)>, Fail>
-    requires full { IsFull ⟦<BoxedOp as Op>⟧.opcode ops.now }
-{
-    let mut run = CallRun::start(alloc, call, &header(Profile::Two))?;
-    let mut moved = 0;
-    for _turn in 0..32u32 {
-        match run.step_one(alloc, ops) {
-            Ok(Step::Moved) => moved += 1,
-            Ok(Step::Need(item)) => {
-                let value = item_of(ledger, &item)?;
-                if run.supply(item, value) != Ok(()) {
-                    return Ok(None);
-                }
-            }
-            Ok(Step::Done(finished)) => return Ok(Some((moved, finished.outcome()))),
-            Err(_fault) => return Ok(None),
-        }
-    }
-    Ok(None)
-}
-
-/// A run steps to the start of its program and then over one instruction after another, `return` among them; a fault is
-/// no step, and where no program runs there is none.
-fn runs_step_by_instruction(alloc: Global, ops: &OpSet) -> Result<bool, Fail>
-    requires full { IsFull ⟦<BoxedOp as Op>⟧.opcode ops.now }
-{
-    let ledger = Ledger::new(alloc);
-    let none = (NO_ENTRY, NO_ENTRY);
-    let one = (ONE_UINT, NO_ENTRY);
-    let approved = steps_of(alloc, ops, &ledger, &creation(alloc, APPROVES, none)?)?;
-    let returned = steps_of(alloc, ops, &ledger, &creation(alloc, "022001012243", none)?)?;
-    let faulted = steps_of(alloc, ops, &ledger, &creation(alloc, FAULTS, none)?)?;
-    let counted = steps_of(alloc, ops, &ledger, &creation(alloc, COUNTS, one)?)?;
-    let refused = steps_of(alloc, ops, &ledger, &call_of(alloc, 1, Completion::NoOp)?)?;
-    Ok(
-        approved == Some((3, Outcome::Approved))
-            && returned == Some((4, Outcome::Approved))
-            && faulted == Some((1, Outcome::Faulted(Fault::Err, 1)))
-            && counted == Some((10, Outcome::Approved))
-            && refused == Some((0, Outcome::Refused(Why::NoApp))),
-    )
-}
-
 /// The fault of fields that are no call, or the profile that a call needs.
 fn answer_of(alloc: Global, fields: CallData) -> Result<Result<Profile, CallFault>, Fail> {
     match Call::check(alloc, fields) {
@@ -780,7 +732,7 @@ pub fn first_wrong(alloc: Global, ops: &OpSet) -> Result<Option<&'static str>, F
     if !runs_ask_once(alloc, ops)? || !calls_are_checked(alloc)? {
         return Ok(Some("runs and checked calls"));
     }
-    if !runs_step_by_instruction(alloc, ops)? {
+    if !steps::runs_step_by_instruction(alloc, ops)? {
         return Ok(Some("steps of runs"));
     }
     Ok(None)

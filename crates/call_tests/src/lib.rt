@@ -5,3 +5,5 @@
 mod calls;
 #[cfg(test)]
 mod objects;
+#[cfg(test)]
+mod steps;

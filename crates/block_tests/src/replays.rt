@@ -1,0 +1,346 @@
+//! Blocks of calls, made and replayed through a set of all objects.
+
+ghost use Rattle.avm_ops.specs.Objects.{IsFull};
+
+use crate::examples::{
+    CREATED, CREATION, EMPTY, NO_CALL, NO_CALL_IN_PROFILE_3, OTHER_OUTCOME, OTHER_STATE,
+};
+use avm_arith::ArithOp;
+use avm_block::{Block, MAX_ENTRIES, decode, encode};
+use avm_call::{Call, Cause, Outcome, Why};
+use avm_flow_ops::FlowOp;
+use avm_items::{Addresses, CallData, Completion};
+use avm_ledger::{Header, Ledger, Profile, Schema};
+use avm_ops::{BoxedOp, Op, OpSet, Ops};
+use avm_replay::{PlainBlockFault, StateFault, Verdict, plain_block, replay, state_at};
+use avm_state_ops::StateOp;
+use std::alloc::Global;
+use std::test::Fail;
+use teal_value::{Address, ByteString, ByteStrings, Failure, Fault, Uints};
+
+const NOBODY: Address = Address([0; 32]);
+
+const NO_ENTRY: Schema = Schema { uints: 0, bytes: 0 };
+
+const ONE_UINT: Schema = Schema { uints: 1, bytes: 0 };
+
+/// `int 1`, in both versions.
+const APPROVES: &str = "0220010122";
+
+const APPROVES_IN_VERSION_3: &str = "0320010122";
+
+/// Adds 1 to the number under the key `n` of the global state, and approves.
+const COUNTS: &str = "022001012601016e28286422086722";
+
+/// Puts a number and errs.
+const PUTS_AND_ERRS: &str = "022001012601016e28226700";
+
+fn header(profile: Profile) -> Header {
+    Header {
+        profile,
+        round: 0,
+        latest_timestamp: 0,
+        min_fee: 0,
+        min_balance: 0,
+        max_life: 0,
+    }
+}
+
+fn bytes_of(alloc: Global, digits: &str) -> Result<ByteString, Fail> {
+    Ok(ByteString::from_vec(hex::decode(alloc, digits)?))
+}
+
+fn ledger_of(alloc: Global, digits: &str) -> Result<Ledger, Fail> {
+    match Ledger::read(alloc, hex::decode(alloc, digits)?.as_slice()) {
+        Ok(ledger) => Ok(ledger),
+        Err(_) => Err("these bytes are a ledger".into()),
+    }
+}
+
+fn block_of(alloc: Global, digits: &str) -> Result<Block, Fail> {
+    Ok(decode(alloc, hex::decode(alloc, digits)?.as_slice())?)
+}
+
+/// A call by the zero address; the programs and the global schema are those of a creation.
+fn call_of(
+    alloc: Global,
+    application: u64,
+    completion: Completion,
+    approval: &str,
+    clear: &str,
+    global_schema: Schema,
+) -> Result<Call, Fail> {
+    let fields = CallData {
+        sender: NOBODY,
+        fee: 0,
+        first_valid: 0,
+        last_valid: 0,
+        note: ByteString::new(alloc),
+        lease: [0; 32],
+        rekey_to: NOBODY,
+        application,
+        completion,
+        arguments: ByteStrings::from_vec(Vec::new(alloc)),
+        accounts: Addresses::from_vec(Vec::new(alloc)),
+        foreign_applications: Uints::from_vec(Vec::new(alloc)),
+        approval: bytes_of(alloc, approval)?,
+        clear: bytes_of(alloc, clear)?,
+        global_schema,
+        local_schema: NO_ENTRY,
+    };
+    match Call::check(alloc, fields) {
+        Ok(call) => Ok(call),
+        Err(_) => Err("these fields make a call".into()),
+    }
+}
+
+fn creation_of(alloc: Global, program: &str) -> Result<Call, Fail> {
+    call_of(alloc, 0, Completion::NoOp, program, program, NO_ENTRY)
+}
+
+/// A block of these calls over the empty ledger.
+fn made(
+    alloc: Global,
+    ops: &OpSet,
+    profile: Profile,
+    calls: Vec<Call>,
+) -> Result<Result<Block, PlainBlockFault>, Fail>
+    requires full { IsFull ⟦<BoxedOp as Op>⟧.opcode ops.now }
+{
+    let ledger = Ledger::new(alloc);
+    match plain_block(alloc, &ledger, &header(profile), calls, ops) {
+        Ok(block) => Ok(Ok(block)),
+        Err(Failure::Fault(fault)) => Ok(Err(fault)),
+        Err(Failure::Memory) => Err("memory is refused".into()),
+    }
+}
+
+/// Whether the block of these calls has these bytes.
+fn has_bytes(
+    alloc: Global,
+    ops: &OpSet,
+    profile: Profile,
+    calls: Vec<Call>,
+    digits: &str,
+) -> Result<bool, Fail>
+    requires full { IsFull ⟦<BoxedOp as Op>⟧.opcode ops.now }
+{
+    match made(alloc, ops, profile, calls)? {
+        Ok(block) => {
+            let bytes = encode(alloc, &block)?;
+            Ok(hex::decode(alloc, digits)?.as_slice() == bytes.as_slice())
+        }
+        Err(_fault) => Ok(false),
+    }
+}
+
+fn blocks_are_made(alloc: Global, ops: &OpSet) -> Result<bool, Fail>
+    requires full { IsFull ⟦<BoxedOp as Op>⟧.opcode ops.now }
+{
+    let none = has_bytes(alloc, ops, Profile::Two, Vec::new(alloc), NO_CALL)?;
+    let none_in_3 = has_bytes(
+        alloc,
+        ops,
+        Profile::Three,
+        Vec::new(alloc),
+        NO_CALL_IN_PROFILE_3,
+    )?;
+    let mut one = Vec::new(alloc);
+    one.push(creation_of(alloc, APPROVES)?)?;
+    Ok(none && none_in_3 && has_bytes(alloc, ops, Profile::Two, one, CREATION)?)
+}
+
+/// The fault of a block of profile 2 with so many approved creations, and then one of version 3.
+fn fault_behind(alloc: Global, ops: &OpSet, count: usize) -> Result<Option<PlainBlockFault>, Fail>
+    requires full { IsFull ⟦<BoxedOp as Op>⟧.opcode ops.now }
+{
+    let call = creation_of(alloc, APPROVES)?;
+    let mut calls = Vec::new(alloc);
+    for _time in 0..count {
+        calls.push(call.clone()?)?;
+    }
+    calls.push(creation_of(alloc, APPROVES_IN_VERSION_3)?)?;
+    Ok(made(alloc, ops, Profile::Two, calls)?.err())
+}
+
+fn calls_are_refused(alloc: Global, ops: &OpSet) -> Result<bool, Fail>
+    requires full { IsFull ⟦<BoxedOp as Op>⟧.opcode ops.now }
+{
+    Ok(
+        fault_behind(alloc, ops, MAX_ENTRIES)? == Some(PlainBlockFault::TooMany)
+            && fault_behind(alloc, ops, 1)? == Some(PlainBlockFault::Profile { number: 2 }),
+    )
+}
+
+/// A verdict without the ledger of one that agrees.
+#[derive(Clone, Copy, Debug, PartialEq, Eq)]
+enum Found {
+    Agrees,
+    WrongBase,
+    WrongOutcome(usize, Outcome),
+    WrongState,
+}
+
+/// What a replay of a block over a ledger finds; where it agrees, the ledger after has these bytes.
+fn verdict_on(
+    alloc: Global,
+    ops: &OpSet,
+    ledger: &Ledger,
+    block: &Block,
+    after: &str,
+) -> Result<Found, Fail>
+    requires full { IsFull ⟦<BoxedOp as Op>⟧.opcode ops.now }
+{
+    match replay(alloc, ledger, block, ops)? {
+        Verdict::Agrees(ledger) => {
+            let bytes = ledger.canonical(alloc)?;
+            if hex::decode(alloc, after)?.as_slice() != bytes.as_slice() {
+                return Err("the ledger after has other bytes".into());
+            }
+            Ok(Found::Agrees)
+        }
+        Verdict::WrongBase => Ok(Found::WrongBase),
+        Verdict::WrongOutcome { entry, found } => Ok(Found::WrongOutcome(entry, found)),
+        Verdict::WrongState => Ok(Found::WrongState),
+    }
+}
+
+fn blocks_are_replayed(alloc: Global, ops: &OpSet) -> Result<bool, Fail>
+    requires full { IsFull ⟦<BoxedOp as Op>⟧.opcode ops.now }
+{
+    let cases = [
+        (EMPTY, NO_CALL, EMPTY, Found::Agrees),
+        (EMPTY, NO_CALL_IN_PROFILE_3, EMPTY, Found::Agrees),
+        (EMPTY, CREATION, CREATED, Found::Agrees),
+        (CREATED, CREATION, "", Found::WrongBase),
+        (
+            EMPTY,
+            OTHER_OUTCOME,
+            "",
+            Found::WrongOutcome(1, Outcome::Approved),
+        ),
+        (EMPTY, OTHER_STATE, "", Found::WrongState),
+    ];
+    for (ledger, block, after, wanted) in cases {
+        let ledger = ledger_of(alloc, ledger)?;
+        let block = block_of(alloc, block)?;
+        if verdict_on(alloc, ops, &ledger, &block, after)? != wanted {
+            return Ok(false);
+        }
+    }
+    Ok(true)
+}
+
+/// The bytes of the ledger at a timestamp of the creation's block.
+fn past_has(alloc: Global, ops: &OpSet, timestamp: u64, digits: &str) -> Result<bool, Fail>
+    requires full { IsFull ⟦<BoxedOp as Op>⟧.opcode ops.now }
+{
+    let ledger = ledger_of(alloc, EMPTY)?;
+    let block = block_of(alloc, CREATION)?;
+    let past = state_at(alloc, &ledger, &block, timestamp, ops)?;
+    Ok(hex::decode(alloc, digits)?.as_slice() == past.canonical(alloc)?.as_slice())
+}
+
+fn past_ledgers_are_found(alloc: Global, ops: &OpSet) -> Result<bool, Fail>
+    requires full { IsFull ⟦<BoxedOp as Op>⟧.opcode ops.now }
+{
+    let other = ledger_of(alloc, CREATED)?;
+    let block = block_of(alloc, CREATION)?;
+    let refused = match state_at(alloc, &other, &block, 1, ops) {
+        Err(Failure::Fault(StateFault::WrongBase)) => true,
+        _ => false,
+    };
+    Ok(
+        refused
+            && past_has(alloc, ops, 0, EMPTY)?
+            && past_has(alloc, ops, 1, CREATED)?
+            && past_has(alloc, ops, u64::MAX, CREATED)?,
+    )
+}
+
+/// Creations, calls, an opting in and the clearing of a program that errs: the block of such calls replays.
+fn long_block_replays(alloc: Global, ops: &OpSet) -> Result<bool, Fail>
+    requires full { IsFull ⟦<BoxedOp as Op>⟧.opcode ops.now }
+{
+    let no_op = Completion::NoOp;
+    let cases = [
+        (0, no_op, COUNTS, PUTS_AND_ERRS, ONE_UINT, Outcome::Approved),
+        (1, no_op, "", "", NO_ENTRY, Outcome::Approved),
+        (9, no_op, "", "", NO_ENTRY, Outcome::Refused(Why::NoApp)),
+        (
+            0,
+            no_op,
+            COUNTS,
+            COUNTS,
+            NO_ENTRY,
+            Outcome::Faulted(Fault::Schema, 13),
+        ),
+        (1, Completion::OptIn, "", "", NO_ENTRY, Outcome::Approved),
+        (
+            1,
+            Completion::OptIn,
+            "",
+            "",
+            NO_ENTRY,
+            Outcome::Refused(Why::AlreadyIn),
+        ),
+        (
+            1,
+            Completion::ClearState,
+            "",
+            "",
+            NO_ENTRY,
+            Outcome::ClearedAnyway(Cause::Faulted(Fault::Err, 11)),
+        ),
+    ];
+    let mut calls = Vec::new(alloc);
+    for (application, completion, approval, clear, schema, _outcome) in cases {
+        calls.push(call_of(alloc, application, completion, approval, clear, schema)?)?;
+    }
+    let Ok(block) = made(alloc, ops, Profile::Two, calls)? else {
+        return Ok(false);
+    };
+    if block.entries().len() != cases.len() {
+        return Ok(false);
+    }
+    for (entry, case) in block.entries().iter().zip(cases.iter()) {
+        if entry.outcome != case.5 {
+            return Ok(false);
+        }
+    }
+    let read = decode(alloc, encode(alloc, &block)?.as_slice())?;
+    match replay(alloc, &Ledger::new(alloc), &read, ops)? {
+        Verdict::Agrees(_after) => Ok(true),
+        _ => Ok(false),
+    }
+}
+
+#[test]
+fn blocks_through_a_full_set(rt: HostRuntime) -> Result<(), Fail> {
+    let alloc = rt.alloc();
+    let mut ops: OpSet = Ops::new(alloc)?;
+    for code in 0..256usize {
+        let code = code as u8;
+        let op: Box<dyn Op> = if let Some(op) = ArithOp::of(code) {
+            Box::new(alloc, op)?
+        } else if let Some(op) = FlowOp::of(code) {
+            Box::new(alloc, op)?
+        } else if let Some(op) = StateOp::of(code) {
+            Box::new(alloc, op)?
+        } else {
+            continue;
+        };
+        if ops.push(BoxedOp { op }).is_err() {
+            return Err("an object of its code is there".into());
+        }
+    }
+    if ops.missing().is_some() {
+        return Err("an opcode has no object".into());
+    }
+    assert!(rt; blocks_are_made(alloc, &ops)?);
+    assert!(rt; calls_are_refused(alloc, &ops)?);
+    assert!(rt; blocks_are_replayed(alloc, &ops)?);
+    assert!(rt; past_ledgers_are_found(alloc, &ops)?);
+    assert!(rt; long_block_replays(alloc, &ops)?);
+    Ok(())
+}

@@ -1,0 +1,70 @@
+//! Runs of calls, step by step.
+
+ghost use Rattle.avm_ops.specs.Objects.{IsFull};
+
+use crate::calls::{APPROVES, COUNTS, FAULTS, NO_ENTRY, ONE_UINT, checked, fields, header};
+use avm_call::{Call, Outcome, Why};
+use avm_items::{Completion, item_of};
+use avm_ledger::{Ledger, Profile, Schema};
+use avm_ops::{BoxedOp, Op, OpSet};
+use avm_run::{CallRun, Step};
+use std::alloc::Global;
+use std::test::Fail;
+use teal_value::Fault;
+
+/// How many steps a run makes that is supplied with a ledger's items, and how it ends.
+fn steps_of(
+    alloc: Global,
+    ops: &OpSet,
+    ledger: &Ledger,
+    call: &Call,
+) -> Result<Option<(u32, Outcome)>, Fail>
+    requires full { IsFull ⟦<BoxedOp as Op>⟧.opcode ops.now }
+{
+    let mut run = CallRun::start(alloc, call, &header(Profile::Two))?;
+    let mut moved = 0;
+    for _turn in 0..32u32 {
+        match run.step_one(alloc, ops) {
+            Ok(Step::Moved) => moved += 1,
+            Ok(Step::Need(item)) => {
+                let value = item_of(ledger, &item)?;
+                if run.supply(item, value) != Ok(()) {
+                    return Ok(None);
+                }
+            }
+            Ok(Step::Done(finished)) => return Ok(Some((moved, finished.outcome()))),
+            Err(_fault) => return Ok(None),
+        }
+    }
+    Ok(None)
+}
+
+/// A run steps to the start of its program and then over one instruction after another, `return` among them; a fault is
+/// no step, and where no program runs there is none.
+pub fn runs_step_by_instruction(alloc: Global, ops: &OpSet) -> Result<bool, Fail>
+    requires full { IsFull ⟦<BoxedOp as Op>⟧.opcode ops.now }
+{
+    let cases: [(u64, &str, Schema, u32, Outcome); 5] = [
+        (0, APPROVES, NO_ENTRY, 3, Outcome::Approved),
+        (0, "022001012243", NO_ENTRY, 4, Outcome::Approved),
+        (0, FAULTS, NO_ENTRY, 1, Outcome::Faulted(Fault::Err, 1)),
+        (0, COUNTS, ONE_UINT, 10, Outcome::Approved),
+        (1, "", NO_ENTRY, 0, Outcome::Refused(Why::NoApp)),
+    ];
+    let ledger = Ledger::new(alloc);
+    for (application, program, schema, moved, outcome) in cases {
+        let fields = fields(
+            alloc,
+            application,
+            Completion::NoOp,
+            program,
+            program,
+            schema,
+        )?;
+        let call = checked(alloc, fields)?;
+        if steps_of(alloc, ops, &ledger, &call)? != Some((moved, outcome)) {
+            return Ok(false);
+        }
+    }
+    Ok(true)
+}
