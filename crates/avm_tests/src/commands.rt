@@ -1,6 +1,14 @@
 //! Commands over readers and writers in memory: the text and the exit status.
 
+ghost use Rattle.avm_ops.specs.Objects.{IsFull};
+
+use crate::block_commands::{replay, state};
+use crate::full_set::{add, full_set};
+use avm_arith::ArithOp;
+use avm_flow_ops::FlowOp;
 use avm_node::answer;
+use avm_ops::{BoxedOp, Op, OpSet, Ops};
+use avm_state_ops::StateOp;
 use std::io::{self, Read};
 use std::process::Abort;
 use std::test::Fail;
@@ -13,56 +21,66 @@ const LIMIT: u64 = 16_777_216;
 const SOURCE: &str = "#pragma version 2\nint 1\n";
 
 /// The words are answered to the reader's bytes with this text and status.
-fn answers<R: Read>(
+pub fn answers<R: Read>(
     rt: &(impl Abort + AllocGlobal),
+    ops: &OpSet,
     words: &[&str],
     reader: &mut R,
     text: &str,
     status: u8,
-) -> Result<(), Fail> {
+) -> Result<(), Fail>
+    requires full { IsFull ⟦<BoxedOp as Op>⟧.opcode ops.now }
+{
     let mut written = Vec::new(rt.alloc());
-    let found = answer(rt.alloc(), words, reader, &mut written);
+    let found = answer(rt.alloc(), words, reader, &mut written, ops);
     assert_eq!(rt; found, Some(status));
     assert_eq!(rt; written.as_slice(), text.as_bytes());
     Ok(())
 }
 
-#[test]
-fn asm(rt: HostRuntime) -> Result<(), Fail> {
+fn asm(rt: &(impl Abort + AllocGlobal), ops: &OpSet) -> Result<(), Fail>
+    requires full { IsFull ⟦<BoxedOp as Op>⟧.opcode ops.now }
+{
     let words = ["asm"];
-    answers(&rt, &words, &mut SOURCE.as_bytes(), "0220010122\n", 0)?;
+    answers(rt, ops, &words, &mut SOURCE.as_bytes(), "0220010122\n", 0)?;
     answers(
-        &rt,
+        rt,
+        ops,
         &words,
         &mut "#pragma version 2\nint x\n".as_bytes(),
         "refused asm 2 BadNumber\n",
         1,
     )?;
     answers(
-        &rt,
+        rt,
+        ops,
         &words,
         &mut "".as_bytes(),
         "refused asm 1 NoPragma\n",
         1,
     )?;
     let mut no_text: &[u8] = b"#pragma version 2\nbyte \"\xff\"\n";
-    answers(&rt, &words, &mut no_text, "refused input\n", 1)
+    answers(rt, ops, &words, &mut no_text, "refused input\n", 1)
 }
 
 /// Inputs of digits, and the output and the status of a command.
 fn all_answered(
     rt: &(impl Abort + AllocGlobal),
+    ops: &OpSet,
     word: &str,
     answers_to: &[(&str, &str, u8)],
-) -> Result<(), Fail> {
+) -> Result<(), Fail>
+    requires full { IsFull ⟦<BoxedOp as Op>⟧.opcode ops.now }
+{
     for (input, text, status) in answers_to {
-        answers(rt, &[word], &mut input.as_bytes(), *text, *status)?;
+        answers(rt, ops, &[word], &mut input.as_bytes(), *text, *status)?;
     }
     Ok(())
 }
 
-#[test]
-fn dis(rt: HostRuntime) -> Result<(), Fail> {
+fn dis(rt: &(impl Abort + AllocGlobal), ops: &OpSet) -> Result<(), Fail>
+    requires full { IsFull ⟦<BoxedOp as Op>⟧.opcode ops.now }
+{
     let sum = "#pragma version 2\nintcblock 1\nintc_0\n";
     let opted_in =
         "#pragma version 2\nintcblock 1\ntxn OnCompletion\nintc_0\n==\nbnz label1\nerr\nlabel1:\nintc_0\n";
@@ -84,11 +102,12 @@ fn dis(rt: HostRuntime) -> Result<(), Fail> {
         ("0122\n", "refused check Version\n", 1),
         ("", "refused check Length\n", 1),
     ];
-    all_answered(&rt, "dis", &listings)
+    all_answered(rt, ops, "dis", &listings)
 }
 
-#[test]
-fn check(rt: HostRuntime) -> Result<(), Fail> {
+fn check(rt: &(impl Abort + AllocGlobal), ops: &OpSet) -> Result<(), Fail>
+    requires full { IsFull ⟦<BoxedOp as Op>⟧.opcode ops.now }
+{
     let replies = [
         ("0220010122\n", "ok instructions 2 cost 2\n", 0),
         ("02\n", "ok instructions 0 cost 0\n", 0),
@@ -115,12 +134,13 @@ fn check(rt: HostRuntime) -> Result<(), Fail> {
             1,
         ),
     ];
-    all_answered(&rt, "check", &replies)
+    all_answered(rt, ops, "check", &replies)
 }
 
 /// Blank lines are skipped and counted, and the first refusal in the order of the input is answered.
-#[test]
-fn lines_of_digits(rt: HostRuntime) -> Result<(), Fail> {
+fn lines_of_digits(rt: &(impl Abort + AllocGlobal), ops: &OpSet) -> Result<(), Fail>
+    requires full { IsFull ⟦<BoxedOp as Op>⟧.opcode ops.now }
+{
     let replies = [
         (
             "\n \t\n\r\n0220010122\r\n \n",
@@ -139,14 +159,15 @@ fn lines_of_digits(rt: HostRuntime) -> Result<(), Fail> {
         ("02\n0g", "refused lines\n", 1),
         ("0122\n02\n", "refused check Version\n", 1),
     ];
-    all_answered(&rt, "check", &replies)?;
+    all_answered(rt, ops, "check", &replies)?;
     let mut no_text: &[u8] = b"02\xff\n";
-    answers(&rt, &["dis"], &mut no_text, "refused hex 1\n", 1)
+    answers(rt, ops, &["dis"], &mut no_text, "refused hex 1\n", 1)
 }
 
-#[test]
-fn usage(rt: HostRuntime) -> Result<(), Fail> {
-    let lines: [&[&str]; 9] = [
+fn usage(rt: &(impl Abort + AllocGlobal), ops: &OpSet) -> Result<(), Fail>
+    requires full { IsFull ⟦<BoxedOp as Op>⟧.opcode ops.now }
+{
+    let lines: [&[&str]; 13] = [
         &[],
         &["help"],
         &["--help"],
@@ -156,33 +177,57 @@ fn usage(rt: HostRuntime) -> Result<(), Fail> {
         &["dis", "-h"],
         &["check", "program"],
         &["propose", "--workers", "1"],
+        &["replay", "--at", "1"],
+        &["state"],
+        &["state", "--at", "x"],
+        &["state", "--at", "18446744073709551616"],
     ];
     for words in lines {
         let mut reader = SOURCE.as_bytes();
-        answers(&rt, words, &mut reader, USAGE, 2)?;
+        answers(rt, ops, words, &mut reader, USAGE, 2)?;
         assert_eq!(rt; reader.len(), SOURCE.len());
     }
     Ok(())
 }
 
-#[test]
-fn longest_input(rt: HostRuntime) -> Result<(), Fail> {
+fn longest_input(rt: &(impl Abort + AllocGlobal), ops: &OpSet) -> Result<(), Fail>
+    requires full { IsFull ⟦<BoxedOp as Op>⟧.opcode ops.now }
+{
     let words = ["asm"];
     let blanks = LIMIT - SOURCE.len() as u64;
     let mut longest = SOURCE.as_bytes().chain(io::repeat(b' ').take(blanks));
-    answers(&rt, &words, &mut longest, "0220010122\n", 0)?;
+    answers(rt, ops, &words, &mut longest, "0220010122\n", 0)?;
     let mut longer = SOURCE.as_bytes().chain(io::repeat(b' ').take(blanks + 1));
-    answers(&rt, &words, &mut longer, "refused input\n", 1)?;
+    answers(rt, ops, &words, &mut longer, "refused input\n", 1)?;
     let program = "0220010122\n";
     let blanks = LIMIT - program.len() as u64;
     let mut longest = program.as_bytes().chain(io::repeat(b' ').take(blanks));
     answers(
-        &rt,
+        rt,
+        ops,
         &["check"],
         &mut longest,
         "ok instructions 2 cost 2\n",
         0,
     )?;
     let mut longer = program.as_bytes().chain(io::repeat(b' ').take(blanks + 1));
-    answers(&rt, &["check"], &mut longer, "refused input\n", 1)
+    answers(rt, ops, &["check"], &mut longer, "refused input\n", 1)
+}
+
+#[test]
+fn commands_answer(rt: HostRuntime) -> Result<(), Fail> {
+    let ops = full_set!(rt.alloc());
+    asm(&rt, &ops)?;
+    dis(&rt, &ops)?;
+    check(&rt, &ops)?;
+    lines_of_digits(&rt, &ops)?;
+    usage(&rt, &ops)?;
+    replay(&rt, &ops)?;
+    state(&rt, &ops)
+}
+
+#[test]
+fn longest_inputs_are_read(rt: HostRuntime) -> Result<(), Fail> {
+    let ops = full_set!(rt.alloc());
+    longest_input(&rt, &ops)
 }

@@ -1,6 +1,13 @@
 //! Every short text of a few characters that begin or end something, behind the pragma.
 
+ghost use Rattle.avm_ops.specs.Objects.{IsFull};
+
+use crate::full_set::{add, full_set};
+use avm_arith::ArithOp;
+use avm_flow_ops::FlowOp;
 use avm_node::answer;
+use avm_ops::{BoxedOp, Op, OpSet, Ops};
+use avm_state_ops::StateOp;
 use std::process::Abort;
 use std::test::Fail;
 
@@ -71,12 +78,19 @@ fn reply_for(answer: &str) -> (&'static str, u8) {
     }
 }
 
-fn is_answered(rt: &(impl Abort + AllocGlobal), text: &str, expected: &str) -> Result<(), Fail> {
+fn is_answered(
+    rt: &(impl Abort + AllocGlobal),
+    ops: &OpSet,
+    text: &str,
+    expected: &str,
+) -> Result<(), Fail>
+    requires full { IsFull ⟦<BoxedOp as Op>⟧.opcode ops.now }
+{
     let alloc = rt.alloc();
     let source = format!(in alloc; "#pragma version 2\n{text}")?;
     let (reply, status) = reply_for(expected);
     let mut written = Vec::new(alloc);
-    let found = answer(alloc, &["asm"], &mut source.as_bytes(), &mut written);
+    let found = answer(alloc, &["asm"], &mut source.as_bytes(), &mut written, ops);
     assert_eq!(rt; found, Some(status));
     assert_eq!(rt; written.as_slice(), reply.as_bytes());
     Ok(())
@@ -84,13 +98,14 @@ fn is_answered(rt: &(impl Abort + AllocGlobal), text: &str, expected: &str) -> R
 
 #[test]
 fn all_up_to_three_characters(rt: HostRuntime) -> Result<(), Fail> {
-    is_answered(&rt, "", "P0")?;
+    let ops = full_set!(rt.alloc());
+    is_answered(&rt, &ops, "", "P0")?;
     for (beginning, answers) in ANSWERS {
         let mut characters = CHARACTERS.chars();
         for expected in answers.split(' ') {
             let last = characters.next().unwrap_or(' ');
             let text = format!(in rt.alloc(); "{beginning}{last}")?;
-            is_answered(&rt, text.as_str(), expected)?;
+            is_answered(&rt, &ops, text.as_str(), expected)?;
         }
     }
     Ok(())

@@ -1,7 +1,15 @@
 //! Readers and writers that fail in mid-stream.
 
+ghost use Rattle.avm_ops.specs.Objects.{IsFull};
+
+use crate::full_set::{add, full_set};
+use avm_arith::ArithOp;
+use avm_flow_ops::FlowOp;
 use avm_node::answer;
+use avm_ops::{BoxedOp, Op, OpSet, Ops};
+use avm_state_ops::StateOp;
 use std::io::{self, ErrorKind, Read, Write};
+use std::process::Abort;
 use std::test::Fail;
 
 const SOURCE: &str = "#pragma version 2\nint 1\n";
@@ -55,15 +63,16 @@ impl Write for FailingWriter {
 }
 
 /// A read that fails or is interrupted, wherever it is, leaves nothing written.
-#[test]
-fn failed_reads(rt: HostRuntime) -> Result<(), Fail> {
+fn failed_reads(rt: &(impl Abort + AllocGlobal), ops: &OpSet) -> Result<(), Fail>
+    requires full { IsFull ⟦<BoxedOp as Op>⟧.opcode ops.now }
+{
     for kind in [ErrorKind::Other, ErrorKind::Interrupted] {
         for (word, input, _) in COMMANDS {
             for count in 0..=input.len() {
                 let bytes = &input.as_bytes()[..count];
                 let mut reader = FailingReader { bytes, kind };
                 let mut written = Vec::new(rt.alloc());
-                let status = answer(rt.alloc(), &[word], &mut reader, &mut written);
+                let status = answer(rt.alloc(), &[word], &mut reader, &mut written, ops);
                 assert_eq!(rt; status, Some(3));
                 assert!(rt; written.is_empty());
             }
@@ -73,18 +82,26 @@ fn failed_reads(rt: HostRuntime) -> Result<(), Fail> {
 }
 
 /// A write that fails ends the command, and what was written is the front of its answer.
-#[test]
-fn failed_writes(rt: HostRuntime) -> Result<(), Fail> {
+fn failed_writes(rt: &(impl Abort + AllocGlobal), ops: &OpSet) -> Result<(), Fail>
+    requires full { IsFull ⟦<BoxedOp as Op>⟧.opcode ops.now }
+{
     for (word, input, output) in COMMANDS {
         for room in 0..output.len() {
             let mut writer = FailingWriter {
                 taken: Vec::new(rt.alloc()),
                 room,
             };
-            let status = answer(rt.alloc(), &[word], &mut input.as_bytes(), &mut writer);
+            let status = answer(rt.alloc(), &[word], &mut input.as_bytes(), &mut writer, ops);
             assert_eq!(rt; status, Some(3));
             assert_eq!(rt; writer.taken.as_slice(), &output.as_bytes()[..room]);
         }
     }
     Ok(())
+}
+
+#[test]
+fn failures_are_told(rt: HostRuntime) -> Result<(), Fail> {
+    let ops = full_set!(rt.alloc());
+    failed_reads(&rt, &ops)?;
+    failed_writes(&rt, &ops)
 }
