@@ -1,9 +1,9 @@
 //! Blocks.
 
 ghost use Rattle.std.specs.Prelude.{◌≡◌, ◌≤◌, true, All, IfOk, vec_len};
+ghost use Rattle.avm_call.specs.Places.{HasPlace};
 ghost use Rattle.avm_block.specs.AcceptedCalls.{is_accepted};
 ghost use Rattle.avm_block.specs.Blocks.{RisesAbove};
-ghost use Rattle.avm_call.specs.Places.{HasPlace};
 ghost use Rattle.avm_block.specs.BlockReading.{IsBlock};
 
 use crate::call_sizes::entries_fit;
