@@ -1,3 +1,4 @@
 pub mod Entries
 pub mod Verdicts
 pub mod MadeCalls
+pub mod WorkedVerdicts

@@ -1,3 +1,4 @@
 pub mod Verdicts
 pub mod Past
 pub mod Plain
+pub mod WorkedVerdicts

@@ -7,6 +7,7 @@ mod past;
 mod plain;
 mod replayer;
 mod verdict;
+pub mod worked;
 
 pub use past::{StateError, StateFault, state_at};
 pub use plain::{PlainBlockError, PlainBlockFault, plain_block};
