@@ -334,7 +334,8 @@ assembles_back bytes w are e =
       record {
         assembles = assembled_as (listing w) m (listing_means w l) (omega (arith, program_length m, short));
         is_program = program_is_checked m meant short (omega (arith, cost, f.2));
-        instructions = ap (λ is. record { version = w.version; instructions = is }) same;
+        version = refl;
+        instructions = same;
         cost = cost ∙ sym f.3;
         lists = ap (λ ls. text_of_lines (pragma_line w.version ∷ ls)) lines;
       },

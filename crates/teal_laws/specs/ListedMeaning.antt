@@ -1,5 +1,5 @@
 -- What a program means, as a text does: its instructions, branches by the numbers of their targets.
-use Rattle.std.specs.Prelude.{ℕ, ◌+◌, ◌<◌, ◌≤◌, List, [], ◌∷◌, map, Option, Some, None}
+use Rattle.std.specs.Prelude.{◌≡◌, ℕ, ◌+◌, ◌<◌, ◌≤◌, List, [], ◌∷◌, map, Option, Some, None}
 use Rattle.teal_table.specs.declared.opcode.Opcode.{Opcode}
 use Rattle.teal_table.specs.declared.shape.Version.{Version}
 use Rattle.teal_code.specs.declared.instr.Immediates.{Immediates}
@@ -33,3 +33,8 @@ IsMeant version count number (Branch o target) = ((n : ℕ) → IsOf version (re
 abbrev pub AreMeant : Version → ℕ → ℕ → List Meant → Type 0
 AreMeant version count number [] = Unit {0}
 AreMeant version count number (m ∷ ms) = IsMeant version count number m × AreMeant version count (number + 1) ms
+
+-- Two programs have the same instructions where their opcodes and immediates are equal one by one, whatever their spelling,
+-- and branches lead to instructions of the same number.
+abbrev pub SameInstructions : WellFormed → WellFormed → Type 0
+SameInstructions p q = map meant_of p.placed ≡ map meant_of q.placed
