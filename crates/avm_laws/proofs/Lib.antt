@@ -24,3 +24,4 @@ pub mod FinishedCalls
 pub mod KnownValues
 pub mod Apart
 pub mod CheckedCalls
+pub mod LedgerLooks

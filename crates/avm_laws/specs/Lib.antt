@@ -4,3 +4,4 @@ pub mod FinishedCalls
 pub mod KnownValues
 pub mod Rules
 pub mod Spellings
+pub mod LedgerLooks

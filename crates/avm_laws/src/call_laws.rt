@@ -2,6 +2,7 @@
 
 ghost use Rattle.avm_laws.specs.Calls.{AsksForNoneGone, AsksForWhatIsUsed, ChangesWhatItRead, EndsAlike, HandsOnItsChanges, HasWhatWasWritten, IsAskedForAnswers, LosesNoWrite};
 ghost use Rattle.avm_laws.specs.KnownValues.{KnowsTheLedger};
+ghost use Rattle.avm_laws.specs.LedgerLooks.{CallsAreTheLedgers, LedgersAreLooks};
 
 /// At each step of a call's program the ledger with its own writes has what was written, the counts with the keys.
 pub fn writes_are_items()
@@ -35,4 +36,11 @@ pub fn reads_decide()
 /// What a run knows of an item, by its own writes or by what it read, is the item's value in the ledger with its own writes.
 pub fn runs_know_the_ledger()
     ensures { KnowsTheLedger }
+{}
+
+/// A call over a look-up that has what a ledger has is the call over the ledger, whatever keys and counts of deleted
+/// applications the look-up still has, as a store of versions may.
+pub fn calls_over_looks()
+    ensures ledgers { LedgersAreLooks }
+    ensures calls { CallsAreTheLedgers }
 {}
