@@ -35,6 +35,15 @@ const COUNTS: &str = "022001012601016e28286422086722";
 /// Puts a number and errs.
 const PUTS_AND_ERRS: &str = "022001012601016e28226700";
 
+/// Puts a uint under a key, and then bytes.
+const UINT_THEN_BYTES: &str = "022001012601016e28226728286722";
+
+/// Puts a uint under a key, takes it out, and puts it again.
+const PUTS_AGAIN: &str = "022001012601016e282267286928226722";
+
+/// Approves a creation; else puts a uint into the sender's local state, and rejects.
+const PUTS_AND_REJECTS: &str = "02200200012601016e311840000223432228236622";
+
 fn header(profile: Profile) -> Header {
     Header {
         profile,
@@ -61,14 +70,14 @@ fn block_of(alloc: Global, digits: &str) -> Result<Block, Fail> {
     Ok(decode(alloc, hex::decode(alloc, digits)?.as_slice())?)
 }
 
-/// A call by the zero address; the programs and the global schema are those of a creation.
+/// A call by the zero address; the programs and the schema of each state are those of a creation.
 fn call_of(
     alloc: Global,
     application: u64,
     completion: Completion,
     approval: &str,
     clear: &str,
-    global_schema: Schema,
+    schema: Schema,
 ) -> Result<Call, Fail> {
     let fields = CallData {
         sender: NOBODY,
@@ -85,8 +94,8 @@ fn call_of(
         foreign_applications: Uints::from_vec(Vec::new(alloc)),
         approval: bytes_of(alloc, approval)?,
         clear: bytes_of(alloc, clear)?,
-        global_schema,
-        local_schema: NO_ENTRY,
+        global_schema: schema,
+        local_schema: schema,
     };
     match Call::check(alloc, fields) {
         Ok(call) => Ok(call),
@@ -258,59 +267,100 @@ fn past_ledgers_are_found(alloc: Global, ops: &OpSet) -> Result<bool, Fail>
     )
 }
 
-/// Creations, calls, an opting in and the clearing of a program that errs: the block of such calls replays.
+/// A call of a block: the application, the completion, the programs and the schema that it brings, and how it ends.
+type Case = (u64, Completion, &'static str, &'static str, Schema, Outcome);
+
+/// Creations, calls, optings in, clearings and a deletion: the block of such calls replays.
+const CASES: [Case; 16] = [
+    (0, NO_OP, COUNTS, PUTS_AND_ERRS, ONE_UINT, Outcome::Approved),
+    (1, NO_OP, "", "", NO_ENTRY, Outcome::Approved),
+    (9, NO_OP, "", "", NO_ENTRY, Outcome::Refused(Why::NoApp)),
+    (0, NO_OP, COUNTS, COUNTS, NO_ENTRY, NO_ROOM),
+    (0, NO_OP, UINT_THEN_BYTES, COUNTS, ONE_UINT, NO_ROOM),
+    (0, NO_OP, PUTS_AGAIN, COUNTS, ONE_UINT, Outcome::Approved),
+    (
+        0,
+        NO_OP,
+        PUTS_AND_REJECTS,
+        COUNTS,
+        ONE_UINT,
+        Outcome::Approved,
+    ),
+    (3, Completion::OptIn, "", "", NO_ENTRY, Outcome::Rejected),
+    (1, Completion::OptIn, "", "", NO_ENTRY, Outcome::Approved),
+    (
+        1,
+        Completion::OptIn,
+        "",
+        "",
+        NO_ENTRY,
+        Outcome::Refused(Why::AlreadyIn),
+    ),
+    (1, Completion::ClearState, "", "", NO_ENTRY, ERRED),
+    (
+        1,
+        Completion::ClearState,
+        "",
+        "",
+        NO_ENTRY,
+        Outcome::Refused(Why::NotIn),
+    ),
+    (1, Completion::OptIn, "", "", NO_ENTRY, Outcome::Approved),
+    (
+        1,
+        Completion::DeleteApplication,
+        "",
+        "",
+        NO_ENTRY,
+        Outcome::Approved,
+    ),
+    (1, NO_OP, "", "", NO_ENTRY, Outcome::Refused(Why::NoApp)),
+    (
+        1,
+        Completion::ClearState,
+        "",
+        "",
+        NO_ENTRY,
+        Outcome::ClearedAnyway(Cause::Gone),
+    ),
+];
+
+const NO_OP: Completion = Completion::NoOp;
+
+const NO_ROOM: Outcome = Outcome::Faulted(Fault::Schema, 13);
+
+const ERRED: Outcome = Outcome::ClearedAnyway(Cause::Faulted(Fault::Err, 11));
+
+fn calls_of_cases(alloc: Global) -> Result<Vec<Call>, Fail> {
+    let mut calls = Vec::new(alloc);
+    for (application, completion, approval, clear, schema, _outcome) in CASES {
+        calls.push(call_of(alloc, application, completion, approval, clear, schema)?)?;
+    }
+    Ok(calls)
+}
+
+/// Whether the entries of a block end as the cases say.
+fn ends_so(block: &Block) -> bool {
+    if block.entries().len() != CASES.len() {
+        return false;
+    }
+    for (entry, case) in block.entries().iter().zip(CASES.iter()) {
+        if entry.outcome != case.5 {
+            return false;
+        }
+    }
+    true
+}
+
 fn long_block_replays(alloc: Global, ops: &OpSet) -> Result<bool, Fail>
     requires full { IsFull ⟦<BoxedOp as Op>⟧.opcode ops.now }
 {
-    let no_op = Completion::NoOp;
-    let cases = [
-        (0, no_op, COUNTS, PUTS_AND_ERRS, ONE_UINT, Outcome::Approved),
-        (1, no_op, "", "", NO_ENTRY, Outcome::Approved),
-        (9, no_op, "", "", NO_ENTRY, Outcome::Refused(Why::NoApp)),
-        (
-            0,
-            no_op,
-            COUNTS,
-            COUNTS,
-            NO_ENTRY,
-            Outcome::Faulted(Fault::Schema, 13),
-        ),
-        (1, Completion::OptIn, "", "", NO_ENTRY, Outcome::Approved),
-        (
-            1,
-            Completion::OptIn,
-            "",
-            "",
-            NO_ENTRY,
-            Outcome::Refused(Why::AlreadyIn),
-        ),
-        (
-            1,
-            Completion::ClearState,
-            "",
-            "",
-            NO_ENTRY,
-            Outcome::ClearedAnyway(Cause::Faulted(Fault::Err, 11)),
-        ),
-    ];
-    let mut calls = Vec::new(alloc);
-    for (application, completion, approval, clear, schema, _outcome) in cases {
-        calls.push(call_of(alloc, application, completion, approval, clear, schema)?)?;
-    }
-    let Ok(block) = made(alloc, ops, Profile::Two, calls)? else {
+    let Ok(block) = made(alloc, ops, Profile::Two, calls_of_cases(alloc)?)? else {
         return Ok(false);
     };
-    if block.entries().len() != cases.len() {
-        return Ok(false);
-    }
-    for (entry, case) in block.entries().iter().zip(cases.iter()) {
-        if entry.outcome != case.5 {
-            return Ok(false);
-        }
-    }
     let read = decode(alloc, encode(alloc, &block)?.as_slice())?;
     match replay(alloc, &Ledger::new(alloc), &read, ops)? {
-        Verdict::Agrees(_after) => Ok(true),
+        Verdict::Agrees(_after) => Ok(ends_so(&read)),
         _ => Ok(false),
     }
 }
