@@ -1,0 +1,4 @@
+pub mod Indexes
+pub mod Attempts
+pub mod Chains
+pub mod Shards

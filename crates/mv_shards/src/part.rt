@@ -1,0 +1,107 @@
+//! A part of the items with their versions, as a shard keeps them.
+
+ghost use Rattle.std.specs.Prelude.{◌≡◌, ◌≤◌, ◌<◌, ◌⊎◌, ◌↔◌, IfErr, IfOk, IsErrOf, IsSome, None, OnErr, OnOk};
+ghost use Rattle.teal_value.specs.declared.failure.Failure.TheVariants.{Fault};
+ghost use Rattle.avm_items.specs.Items.{value_in};
+ghost use Rattle.avm_items.specs.LedgerItems.{at};
+ghost use Rattle.mv_chain.specs.Versions.{newest_at, oldest_timestamp};
+ghost use Rattle.mv_shards.specs.declared.read_fault.ReadFault.TheVariants.{Pruned};
+ghost use Rattle.mv_shards.specs.Chains.{AreChains, IsGrown, IsReadable, IsRoomier, chain_in, versions_of};
+ghost use Rattle.mv_shards.specs.Shards.{IsFirstRead, IsMarkedRead, IsPart, IsPruned, IsReadAgain, seen};
+
+use crate::attempt::Attempt;
+use crate::chains::{make_chain, mark};
+use crate::read_fault::{ReadError, ReadFault};
+use avm_items::{Item, ItemValue, item_of};
+use avm_ledger::Ledger;
+use mv_chain::Chain;
+use std::alloc::{AllocError, Global};
+use std::collections::BTreeMap;
+use std::sync::Arc;
+use teal_value::Failure;
+
+/// The chains of items.
+pub(crate) type Chains = BTreeMap<Item, Chain<ItemValue>>;
+
+/// The versions of a part of the items. What has no chain has the base's version alone.
+#[derive(Drop)]
+pub(crate) struct Part {
+    pub(crate) alloc: Global,
+    pub(crate) index: u8,
+    pub(crate) low: u64,
+    pub(crate) base: Arc<Ledger>,
+    pub(crate) chains: Chains,
+}
+
+/// Gives an item a chain, if it has none.
+pub(crate) fn place(
+    alloc: Global,
+    chains: &mut Chains,
+    base: &Ledger,
+    item: &Item,
+) -> Result<(), AllocError>
+    ensures grown { IsGrown (at base.now) chains.old.entries chains.new.entries }
+    ensures roomier { OnOk result (IsRoomier chains.old.entries chains.new.entries) }
+    ensures there { OnOk result (IsSome (chain_in chains.new.entries item.now)) }
+{
+    if chains.contains_key(item) {
+        return Ok(());
+    }
+    let first = item_of(base, item)?;
+    make_chain(alloc, chains, item, first)
+}
+
+/// A copy of the newest value not above a timestamp.
+fn value_at(chains: &Chains, item: &Item, timestamp: u64) -> Result<ItemValue, AllocError>
+    requires { IsReadable timestamp chains.now.entries item.now }
+    ensures { IfOk result (λ value. (first : _) (d : _) → value ≡ (newest_at timestamp (versions_of first chains.now.entries item.now) d).value) }
+{
+    match chains.get(item) {
+        Some(chain) => chain.read_at(timestamp).clone(),
+        None => unreachable!(),
+    }
+}
+
+/// Reads an item for the first time in an attempt, and marks the version that is found.
+fn first_read(
+    alloc: Global,
+    chains: &mut Chains,
+    base: &Ledger,
+    attempt: &mut Attempt,
+    item: Item,
+) -> Result<ItemValue, AllocError>
+    requires old_enough { oldest_timestamp (versions_of (at base.now) chains.old.entries item) ≤ attempt.old.timestamp }
+    ensures ok { IfOk result (λ value. IsMarkedRead (at base.now) chains.old.entries chains.new.entries attempt.old attempt.new item value) }
+    ensures versions { OnErr result ((x : _) → versions_of (at base.now) chains.new.entries x ≡ versions_of (at base.now) chains.old.entries x) }
+    ensures attempt { OnErr result (attempt.new ≡ attempt.old) }
+    ensures kept { (low : _) → AreChains (at base.now) low chains.old.entries → AreChains (at base.now) low chains.new.entries }
+{
+    place(alloc, chains, base, &item)?;
+    let value = value_at(chains, &item, attempt.timestamp)?;
+    attempt.reads.insert(item.copied(), value.clone()?)?;
+    mark(chains, &item, attempt.timestamp);
+    Ok(value)
+}
+
+/// Reads an item at the attempt's timestamp, and marks the version that is found. An item that the attempt has read gives
+/// its value again.
+pub(crate) fn read(
+    part: &mut Part,
+    attempt: &mut Attempt,
+    item: Item,
+) -> Result<ItemValue, ReadError>
+    requires { IsPart part.old }
+    ensures kept { IsPart part.new }
+    ensures ok { IfOk result (λ value. IsFirstRead (seen part.old) (seen part.new) attempt.old attempt.new item value ⊎ IsReadAgain (seen part.old) (seen part.new) attempt.old attempt.new item value) }
+    ensures part { OnErr result (seen part.new ≡ seen part.old) }
+    ensures attempt { OnErr result (attempt.new ≡ attempt.old) }
+    ensures pruned { IsErrOf result (Fault Pruned) ↔ IsPruned (seen part.old) attempt.old item }
+{
+    if let Some(value) = attempt.reads.get(&item) {
+        return Ok(value.clone()?);
+    }
+    if attempt.timestamp < part.low {
+        return Err(Failure::Fault(ReadFault::Pruned));
+    }
+    Ok(first_read(part.alloc, &mut part.chains, &part.base, attempt, item)?)
+}
