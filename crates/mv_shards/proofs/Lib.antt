@@ -1,3 +1,4 @@
 pub mod Touched
 pub mod OneChain
 pub mod FirstReads
+pub mod Places

@@ -2,3 +2,4 @@ pub mod Indexes
 pub mod Attempts
 pub mod Chains
 pub mod Shards
+pub mod Helds

@@ -8,12 +8,14 @@
 
 mod attempt;
 mod chains;
+mod held;
 mod index;
 mod part;
 mod read_fault;
 mod shard;
 
 pub use attempt::Attempt;
+pub use held::Held;
 pub use index::{SHARD_COUNT, shard_of};
 pub use read_fault::{ReadError, ReadFault};
 pub use shard::Shard;

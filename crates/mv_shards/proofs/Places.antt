@@ -1,0 +1,27 @@
+-- Parts at their places, and what is seen of them.
+use Rattle.std.proofs.Common.{◌≡◌, ◌<◌, ℕ, zero, suc, List, [], ◌∷◌, length, get_or, Option, None, Some, refl, sym, ap, ◌∙◌, arith}
+use Rattle.std.specs.Prelude.{map, set}
+use Rattle.mv_shards.specs.declared.part.Part.{Part}
+use Rattle.mv_shards.specs.Shards.{seen}
+use Rattle.mv_shards.specs.Helds.{seen_all, seen_or_none}
+
+pub seen_at : (parts : List (Option Part)) (i : ℕ) → get_or (seen_all parts) i None ≡ seen_or_none (get_or parts i None)
+seen_at [] i = refl
+seen_at (p ∷ ps) zero = refl
+seen_at (p ∷ ps) (suc i) = seen_at ps i
+
+pub seen_set : (parts : List (Option Part)) (i : ℕ) (p : Option Part) → seen_all (set parts i p) ≡ set (seen_all parts) i (seen_or_none p)
+seen_set [] i p = refl
+seen_set (q ∷ ps) zero p = refl
+seen_set (q ∷ ps) (suc i) p = ap (λ s. seen_or_none q ∷ s) (seen_set ps i p)
+
+-- a part that is seen as what stood at its place changes nothing that is seen
+pub seen_same : (parts : List (Option Part)) (i : ℕ) (p q : Part) → get_or parts i None ≡ Some p → seen q ≡ seen p → seen_all (set parts i (Some q)) ≡ seen_all parts
+seen_same [] i p q found same = refl
+seen_same (r ∷ ps) zero p q found same = ap (λ s. Some s ∷ seen_all ps) same ∙ ap (λ o. seen_or_none o ∷ seen_all ps) (sym found)
+seen_same (r ∷ ps) (suc i) p q found same = ap (λ s. seen_or_none r ∷ s) (seen_same ps i p q found same)
+
+pub found_at : {A : Type 0} (xs : List (Option A)) (i : ℕ) (d : Option A) (x : A) → i < length xs → get_or xs i d ≡ Some x → get_or xs i None ≡ Some x
+found_at [] i d x within found = absurd (omega arith)
+found_at (y ∷ ys) zero d x within found = found
+found_at (y ∷ ys) (suc i) d x within found = found_at ys i d x (omega arith) found

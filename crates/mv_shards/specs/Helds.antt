@@ -1,0 +1,50 @@
+-- Shards that are held together, each at the place of its index.
+use Rattle.std.specs.Prelude.{◌≡◌, ℕ, ◌<◌, ◌≤◌, ◌⊎◌, List, [], ◌∷◌, length, map, get_or, set, Option, None, Some, IsSome}
+use Rattle.avm_items.specs.declared.item.Item.{Item}
+use Rattle.avm_items.specs.declared.item_value.ItemValue.{ItemValue}
+use Rattle.mv_shards.specs.declared.part.Part.{Part}
+use Rattle.mv_shards.specs.Attempts.{CallAttempt}
+use Rattle.mv_shards.specs.Indexes.{shard_count, shard_of}
+use Rattle.mv_shards.specs.Shards.{IsFirstRead, IsPart, IsReadAgain, Shard, seen}
+
+-- a place for each shard
+abbrev pub Places : Type 0
+Places = List (Option Shard)
+
+-- the shard that an item is in, where it is held
+abbrev pub shard_for : Places → Item → Option Shard
+shard_for places x = get_or places (shard_of x) None
+
+-- the item's shard is held
+abbrev pub IsHeld : Places → Item → Type 0
+IsHeld places x = IsSome (shard_for places x)
+
+-- no shard is held from an index on
+abbrev pub AreFree : Places → ℕ → Type 0
+AreFree places index = (i : ℕ) → index ≤ i → get_or places i None ≡ None
+
+-- a read of the item's shard; all others stay
+pub record IsHeldRead (old new : Places) (before after : CallAttempt) (x : Item) (v : ItemValue) : Type 0 where
+  pub shard : Shard
+  pub read_shard : Shard
+  pub found : shard_for old x ≡ Some shard
+  pub read : IsFirstRead shard read_shard before after x v ⊎ IsReadAgain shard read_shard before after x v
+  pub others : new ≡ set old (shard_of x) (Some read_shard)
+
+-- ---- as they are kept
+
+abbrev pub seen_or_none : Option Part → Option Shard
+seen_or_none None = None
+seen_or_none (Some p) = Some (seen p)
+
+abbrev pub seen_all : List (Option Part) → Places
+seen_all = map seen_or_none
+
+-- a part at a place
+abbrev pub IsAt : ℕ → Option Part → Type 0
+IsAt i None = Unit {0}
+IsAt i (Some p) = (p.index ≡ i) × IsPart p
+
+pub record AreAtPlaces (parts : List (Option Part)) : Type 0 where
+  pub count : length parts ≡ shard_count
+  pub each : (i : ℕ) → IsAt i (get_or parts i None)
