@@ -1,7 +1,7 @@
 //! Maps from items to their values.
 
 ghost use Rattle.std.specs.Prelude.{◌≡◌, [], IfErr, IfOk, filter, is_some, length, not};
-ghost use Rattle.std.specs.Map.Iter.{GivesInOrder};
+ghost use Rattle.std.specs.Map.Iter.{GivesInOrder, ShowsInOrder, deref_pair};
 ghost use Rattle.std.specs.Option.{option_copied};
 ghost use Rattle.avm_items.specs.declared.item.Item.{Item as ItemOf};
 ghost use Rattle.avm_items.specs.declared.item_value.ItemValue.{ItemValue as ValueOf};
@@ -16,7 +16,7 @@ use crate::ledger_items::is_value_in;
 use avm_ledger::Ledger;
 use std::alloc::{AllocError, Global};
 use std::collections::BTreeMap;
-use std::collections::btree_map::IntoIter;
+use std::collections::btree_map::{IntoIter, Iter};
 use std::marker::Model;
 use teal_value::{StateKey, Value};
 
@@ -63,6 +63,15 @@ impl ItemMap {
         ensures { result ≡ is_some (state_of (value_in self.now item.now)) }
     {
         matches!(self.values.get(item), Some(ItemValue::Local(_)))
+    }
+
+    /// The items with their values, by rising item.
+    pub fn iter(&self) -> Iter<'_, Item, ItemValue>
+        ensures rest { result ≡ self.now }
+        ensures runs { ShowsInOrder (deref_pair {K = ItemOf} {X = ValueOf}) }
+        ensures order { IsInItemOrder self.now }
+    {
+        self.values.iter()
     }
 
     /// The items with their values, by rising item, without a copy.

@@ -1,6 +1,12 @@
 -- Parts at their places, and what is seen of them.
-use Rattle.std.proofs.Common.{◌≡◌, ◌<◌, ℕ, zero, suc, List, [], ◌∷◌, length, get_or, Option, None, Some, refl, sym, ap, ◌∙◌, arith}
-use Rattle.std.specs.Prelude.{map, set}
+use Rattle.std.proofs.Common.{◌≡◌, ◌<◌, ℕ, zero, suc, List, [], ◌∷◌, length, get_or, Option, None, Some, refl, sym, ap, ◌∙◌, subst, arith}
+use Rattle.std.specs.Prelude.{IsSome, map, set}
+use Rattle.avm_items.specs.declared.item.Item.{Item}
+use Rattle.avm_items.specs.declared.item_value.ItemValue.{ItemValue}
+use Rattle.mv_chain.specs.Versions.{Versions}
+use Rattle.mv_shards.specs.Chains.{chain_in}
+use Rattle.mv_shards.specs.Writing.{chains_for, chains_or}
+use Rattle.mv_shards.specs.Indexes.{shard_of}
 use Rattle.mv_shards.specs.declared.part.Part.{Part}
 use Rattle.mv_shards.specs.Shards.{seen}
 use Rattle.mv_shards.specs.Helds.{seen_all, seen_or_none}
@@ -25,3 +31,19 @@ pub found_at : {A : Type 0} (xs : List (Option A)) (i : ℕ) (d : Option A) (x :
 found_at [] i d x within found = absurd (omega arith)
 found_at (y ∷ ys) zero d x within found = found
 found_at (y ∷ ys) (suc i) d x within found = found_at ys i d x (omega arith) found
+
+pub found_by_some : {A : Type 0} (xs : List (Option A)) (i : ℕ) (d : Option A) (x : A) → IsSome (get_or xs i None) → get_or xs i d ≡ Some x → get_or xs i None ≡ Some x
+found_by_some [] i d x there found = absurd cc
+found_by_some (y ∷ ys) zero d x there found = found
+found_by_some (y ∷ ys) (suc i) d x there found = found_by_some ys i d x there found
+
+pub here_at : (ps : List (Option Part)) (n : ℕ) (x : Item) (d : Option Part) (p : Part) → n ≡ shard_of x → IsSome (get_or ps (shard_of x) None) → get_or ps n d ≡ Some p → get_or ps n None ≡ Some p
+here_at ps n x d p is there found = found_by_some ps n d p (subst (λ i. IsSome (get_or ps i None)) (sym is) there) found
+
+-- an item that has a chain is of a part that is there
+pub readable_held : (ps : List (Option Part)) (x : Item) (c : Versions ItemValue) → chain_in (chains_for ps x) x ≡ Some c → IsSome (get_or ps (shard_of x) None)
+readable_held ps x c found = by (get_or ps (shard_of x) None) found
+  where
+    by : (o : Option Part) → chain_in (chains_or o) x ≡ Some c → IsSome o
+    by None never = absurd cc
+    by (Some p) found = refl

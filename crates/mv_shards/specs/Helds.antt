@@ -48,3 +48,7 @@ IsAt i (Some p) = (p.index ≡ i) × IsPart p
 pub record AreAtPlaces (parts : List (Option Part)) : Type 0 where
   pub count : length parts ≡ shard_count
   pub each : (i : ℕ) → IsAt i (get_or parts i None)
+
+-- the part that an item is in is there
+abbrev pub IsHeldIn : List (Option Part) → Item → Type 0
+IsHeldIn parts x = IsSome (get_or parts (shard_of x) None)

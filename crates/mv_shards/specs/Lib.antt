@@ -3,3 +3,4 @@ pub mod Attempts
 pub mod Chains
 pub mod Shards
 pub mod Helds
+pub mod Writing

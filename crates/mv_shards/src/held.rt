@@ -8,9 +8,10 @@ ghost use Rattle.mv_shards.specs.Indexes.{shard_count};
 ghost use Rattle.mv_shards.specs.Helds.{AreFree, IsHeld, IsHeldRead};
 
 use crate::attempt::Attempt;
-use crate::index::{SHARD_COUNT, shard_of};
-use crate::part::{Part, read};
+use crate::index::shard_of;
+use crate::part::read;
 use crate::read_fault::ReadError;
+use crate::room::Parts;
 use crate::shard::Shard;
 use avm_items::{Item, ItemValue};
 use std::marker::Model;
@@ -18,7 +19,7 @@ use std::marker::Model;
 /// Some of the shards, each at the place of its index.
 #[derive(Drop)]
 pub struct Held {
-    parts: [Option<Part>; 16],
+    parts: Parts,
 }
 
 impl Model for Held {

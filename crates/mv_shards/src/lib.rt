@@ -12,7 +12,9 @@ mod held;
 mod index;
 mod part;
 mod read_fault;
+mod room;
 mod shard;
+mod writing;
 
 pub use attempt::Attempt;
 pub use held::Held;

@@ -1,0 +1,115 @@
+//! Room for all that a commit marks and writes, in the shards that are held.
+
+ghost use Rattle.std.specs.Prelude.{◌≡◌, ◌<◌, IfOk, IsSome, OnOk};
+ghost use Rattle.std.specs.List.{AllByRecursion};
+ghost use Rattle.avm_items.specs.Items.{IsInItemOrder};
+ghost use Rattle.mv_shards.specs.Indexes.{shard_count, shard_of as shard_index};
+ghost use Rattle.mv_shards.specs.Chains.{HasRoom, chain_in};
+ghost use Rattle.mv_shards.specs.Helds.{IsHeldIn};
+ghost use Rattle.mv_shards.specs.Writing.{AreGrown, AreRoomier, chains_for};
+
+use crate::chains::make_space;
+use crate::index::shard_of;
+use crate::part::{Part, place};
+use avm_items::{Item, ItemMap, ItemValue};
+use std::alloc::{AllocError, Global};
+
+/// The shards that are held, each at the place of its index.
+pub(crate) type Parts = [Option<Part>; 16];
+
+/// Gives an item a chain in its shard, if it has none.
+fn place_item(parts: &mut Parts, item: &Item) -> Result<(), AllocError>
+    requires { IsHeldIn parts.old item.now }
+    ensures grown { AreGrown parts.old parts.new }
+    ensures roomier { OnOk result (AreRoomier parts.old parts.new) }
+    ensures there { OnOk result (IsSome (chain_in (chains_for parts.new item.now) item.now)) }
+{
+    match &mut parts[usize::from(shard_of(item))] {
+        Some(part) => place(part.alloc, &mut part.chains, &part.base, item),
+        None => unreachable!(),
+    }
+}
+
+/// Makes room for one more version of an item, which has a chain.
+fn space_item(parts: &mut Parts, item: &Item) -> Result<(), AllocError>
+    requires held { IsHeldIn parts.old item.now }
+    requires there { IsSome (chain_in (chains_for parts.old item.now) item.now) }
+    ensures grown { AreGrown parts.old parts.new }
+    ensures roomier { OnOk result (AreRoomier parts.old parts.new) }
+    ensures room { OnOk result (HasRoom (chains_for parts.new item.now) item.now) }
+{
+    match &mut parts[usize::from(shard_of(item))] {
+        Some(part) => make_space(&mut part.chains, item),
+        None => unreachable!(),
+    }
+}
+
+/// Gives an item a chain in its shard, if it has none, and room for one more version there.
+fn room_item(parts: &mut Parts, item: &Item) -> Result<(), AllocError>
+    requires { IsHeldIn parts.old item.now }
+    ensures grown { AreGrown parts.old parts.new }
+    ensures roomier { OnOk result (AreRoomier parts.old parts.new) }
+    ensures room { OnOk result (HasRoom (chains_for parts.new item.now) item.now) }
+{
+    place_item(parts, item)?;
+    space_item(parts, item)
+}
+
+/// Gives each item that was read a chain in its shard.
+fn place_reads(parts: &mut Parts, reads: &ItemMap) -> Result<(), AllocError>
+    requires { AllByRecursion (λ e. IsHeldIn parts.old e.0) reads.now }
+    ensures grown { AreGrown parts.old parts.new }
+    ensures roomier { OnOk result (AreRoomier parts.old parts.new) }
+    ensures there { OnOk result (AllByRecursion (λ e. IsSome (chain_in (chains_for parts.new e.0) e.0)) reads.now) }
+{
+    for (item, _value) in reads.iter() {
+        place_item(parts, item)?;
+    }
+    Ok(())
+}
+
+/// Gives each item that is to be written a chain with room in its shard.
+fn room_writes(parts: &mut Parts, writes: &ItemMap) -> Result<(), AllocError>
+    requires { AllByRecursion (λ e. IsHeldIn parts.old e.0) writes.now }
+    ensures grown { AreGrown parts.old parts.new }
+    ensures roomier { OnOk result (AreRoomier parts.old parts.new) }
+    ensures room { OnOk result (AllByRecursion (λ e. HasRoom (chains_for parts.new e.0) e.0) writes.now) }
+    ensures order { OnOk result (IsInItemOrder writes.now) }
+{
+    for (item, _value) in writes.iter() {
+        room_item(parts, item)?;
+    }
+    Ok(())
+}
+
+/// Copies of the writes, by rising item.
+fn copies_of(alloc: Global, writes: &ItemMap) -> Result<Vec<(Item, ItemValue)>, AllocError>
+    ensures { IfOk result (λ copies. copies.items ≡ writes.now) }
+{
+    let mut copies = Vec::with_capacity(alloc, writes.len())?;
+    for (item, value) in writes.iter() {
+        copies.push((item.copied(), value.clone()?))?;
+    }
+    Ok(copies)
+}
+
+/// Gives each item that was read a chain in its shard, and each item that is to be written a chain with room, and
+/// copies the writes. What is seen of the shards stays, also where memory is refused.
+pub(crate) fn make_room(
+    alloc: Global,
+    parts: &mut Parts,
+    reads: &ItemMap,
+    writes: &ItemMap,
+) -> Result<Vec<(Item, ItemValue)>, AllocError>
+    requires reads { AllByRecursion (λ e. IsHeldIn parts.old e.0) reads.now }
+    requires writes { AllByRecursion (λ e. IsHeldIn parts.old e.0) writes.now }
+    ensures grown { AreGrown parts.old parts.new }
+    ensures there { OnOk result (AllByRecursion (λ e. IsSome (chain_in (chains_for parts.new e.0) e.0)) reads.now) }
+    ensures room { OnOk result (AllByRecursion (λ e. HasRoom (chains_for parts.new e.0) e.0) writes.now) }
+    ensures copies { IfOk result (λ copies. copies.items ≡ writes.now) }
+    ensures order { OnOk result (IsInItemOrder writes.now) }
+{
+    place_reads(parts, reads)?;
+    room_writes(parts, writes)?;
+    copies_of(alloc, writes)
+}
