@@ -6,3 +6,4 @@ pub mod Steps
 pub mod Rooms
 pub mod Writes
 pub mod AfterRoom
+pub mod SeenWrites

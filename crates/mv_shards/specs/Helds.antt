@@ -1,5 +1,7 @@
 -- Shards that are held together, each at the place of its index.
 use Rattle.std.specs.Prelude.{◌≡◌, ℕ, ◌<◌, ◌≤◌, ◌⊎◌, List, [], ◌∷◌, length, map, get_or, set, Option, None, Some, IsSome}
+use Rattle.std.specs.List.{AllByRecursion}
+use Rattle.avm_items.specs.Items.{ItemMap}
 use Rattle.avm_items.specs.declared.item.Item.{Item}
 use Rattle.avm_items.specs.declared.item_value.ItemValue.{ItemValue}
 use Rattle.mv_shards.specs.declared.part.Part.{Part}
@@ -18,6 +20,10 @@ shard_for places x = get_or places (shard_of x) None
 -- the item's shard is held
 abbrev pub IsHeld : Places → Item → Type 0
 IsHeld places x = IsSome (shard_for places x)
+
+-- the shards of all these items are held
+abbrev pub AreHeld : Places → ItemMap → Type 0
+AreHeld places items = AllByRecursion (λ e. IsHeld places e.0) items
 
 -- no shard is held from an index on
 abbrev pub AreFree : Places → ℕ → Type 0

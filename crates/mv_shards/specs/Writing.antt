@@ -54,13 +54,13 @@ IsLowAt t (Some s) = s.low ≤ t
 abbrev pub AreLow : ℕ → Places → Type 0
 AreLow t places = (i : ℕ) → IsLowAt t (get_or places i None)
 
+abbrev pub versions_or_none : Option Shard → Item → List (Version ItemValue)
+versions_or_none None x = []
+versions_or_none (Some s) x = versions_held s x
+
 -- the versions that the item's shard has, where it is held
 abbrev pub versions_for : Places → Item → List (Version ItemValue)
 versions_for places x = versions_or_none (shard_for places x) x
-  where
-    versions_or_none : Option Shard → Item → List (Version ItemValue)
-    versions_or_none None x = []
-    versions_or_none (Some s) x = versions_held s x
 
 -- no item that is written has a version at a timestamp
 abbrev pub AreAbsent : ℕ → Places → ItemMap → Type 0
