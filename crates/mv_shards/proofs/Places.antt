@@ -1,5 +1,5 @@
 -- Parts at their places, and what is seen of them.
-use Rattle.std.proofs.Common.{◌≡◌, ◌<◌, ℕ, zero, suc, List, [], ◌∷◌, length, get_or, Option, None, Some, refl, sym, ap, ◌∙◌, subst, arith}
+use Rattle.std.proofs.Common.{◌≡◌, ◌<◌, ◌≤◌, ◌-◌, ℕ, zero, suc, List, [], ◌∷◌, length, get_or, Option, None, Some, refl, sym, ap, ◌∙◌, subst, arith}
 use Rattle.std.specs.Prelude.{IsSome, map, set}
 use Rattle.avm_items.specs.declared.item.Item.{Item}
 use Rattle.avm_items.specs.declared.item_value.ItemValue.{ItemValue}
@@ -9,7 +9,7 @@ use Rattle.mv_shards.specs.Writing.{chains_for, chains_or}
 use Rattle.mv_shards.specs.Indexes.{shard_of}
 use Rattle.mv_shards.specs.declared.part.Part.{Part}
 use Rattle.mv_shards.specs.Shards.{seen}
-use Rattle.mv_shards.specs.Helds.{seen_all, seen_or_none}
+use Rattle.mv_shards.specs.Helds.{AreAtPlaces, AreFree, AreFreeFrom, IsAt, IsLastTaken, seen_all, seen_or_none}
 
 pub seen_at : (parts : List (Option Part)) (i : ℕ) → get_or (seen_all parts) i None ≡ seen_or_none (get_or parts i None)
 seen_at [] i = refl
@@ -47,3 +47,28 @@ readable_held ps x c found = by (get_or ps (shard_of x) None) found
     by : (o : Option Part) → chain_in (chains_or o) x ≡ Some c → IsSome o
     by None never = absurd cc
     by (Some p) found = refl
+
+pub free_seen : (parts : List (Option Part)) (n m : ℕ) → m ≡ n → AreFreeFrom parts n → AreFree (seen_all parts) m
+free_seen parts n m is free i above = seen_at parts i ∙ ap seen_or_none (free i (subst (λ k. k ≤ i) is above))
+
+pub taken_seen : (parts : List (Option Part)) (i : ℕ) → IsSome (get_or parts i None) → IsSome (get_or (seen_all parts) i None)
+taken_seen parts i there = subst IsSome (sym (seen_at parts i)) (by (get_or parts i None) there)
+  where
+    by : (o : Option Part) → IsSome o → IsSome (seen_or_none o)
+    by None there = absurd cc
+    by (Some p) there = refl
+
+index_at : (i : ℕ) (o : Option Part) (p : Part) → IsAt i o → o ≡ Some p → p.index ≡ i
+index_at i None p is found = absurd cc
+index_at i (Some q) p is found = let same : q ≡ p = cc in subst (λ (r : Part). r.index ≡ i) same is.0
+
+pub taken_last : (parts : List (Option Part)) (n m : ℕ) (d : Option Part) (p : Part) (q : Option Part) → AreAtPlaces parts → n ≡ m - 1 → 0 < m → AreFreeFrom parts m → IsSome (get_or parts n None) → get_or parts n d ≡ Some p → q ≡ None
+    → IsLastTaken (seen_all parts) (seen_all (set parts n q)) (seen p)
+taken_last parts n m d p q k is above free there found taken =
+    let here = found_by_some parts n d p there found in
+    let index = index_at n (get_or parts n None) p (k.each n) here in
+    record {
+      held = ap (λ i. get_or (seen_all parts) i None) index ∙ seen_at parts n ∙ ap seen_or_none here;
+      last = free_seen parts m (suc p.index) (omega (arith, index)) free;
+      others = seen_set parts n q ∙ ap (λ o. set (seen_all parts) n (seen_or_none o)) taken ∙ ap (λ i. set (seen_all parts) i None) (sym index);
+    }

@@ -1,5 +1,5 @@
 -- Shards that are held together, each at the place of its index.
-use Rattle.std.specs.Prelude.{◌≡◌, ℕ, ◌<◌, ◌≤◌, ◌⊎◌, List, [], ◌∷◌, length, map, get_or, set, Option, None, Some, IsSome}
+use Rattle.std.specs.Prelude.{◌≡◌, ℕ, suc, ◌<◌, ◌≤◌, ◌⊎◌, List, [], ◌∷◌, length, map, get_or, set, Option, None, Some, IsSome}
 use Rattle.std.specs.List.{AllByRecursion}
 use Rattle.avm_items.specs.Items.{ItemMap}
 use Rattle.avm_items.specs.declared.item.Item.{Item}
@@ -28,6 +28,18 @@ AreHeld places items = AllByRecursion (λ e. IsHeld places e.0) items
 -- no shard is held from an index on
 abbrev pub AreFree : Places → ℕ → Type 0
 AreFree places index = (i : ℕ) → index ≤ i → get_or places i None ≡ None
+
+-- a shard is held from an index on
+pub record IsTakenFrom (places : Places) (index : ℕ) : Type 0 where
+  pub place : ℕ
+  pub from : index ≤ place
+  pub held : IsSome (get_or places place None)
+
+-- the last of the shards that are held, taken away
+pub record IsLastTaken (old new : Places) (shard : Shard) : Type 0 where
+  pub held : get_or old shard.index None ≡ Some shard
+  pub last : AreFree old (suc shard.index)
+  pub others : new ≡ set old shard.index None
 
 -- a read of the item's shard; all others stay
 pub record IsHeldRead (old new : Places) (before after : CallAttempt) (x : Item) (v : ItemValue) : Type 0 where
@@ -58,3 +70,7 @@ pub record AreAtPlaces (parts : List (Option Part)) : Type 0 where
 -- the part that an item is in is there
 abbrev pub IsHeldIn : List (Option Part) → Item → Type 0
 IsHeldIn parts x = IsSome (get_or parts (shard_of x) None)
+
+-- there is no part from an index on
+abbrev pub AreFreeFrom : List (Option Part) → ℕ → Type 0
+AreFreeFrom parts index = (i : ℕ) → index ≤ i → get_or parts i None ≡ None

@@ -1,15 +1,15 @@
 //! Shards that are held together.
 
-ghost use Rattle.std.specs.Prelude.{◌≡◌, ◌<◌, ◌⊎◌, ◌↔◌, None, Some, IfErr, IfOk, IfNone, IfSome, IsErrOf, IsOk, OnErr, OnOk, get_or, set};
+ghost use Rattle.std.specs.Prelude.{◌≡◌, ◌<◌, ◌⊎◌, ◌↔◌, None, Some, IfErr, IfOk, IfNone, IfSome, IsErrOf, IsOk, IsSome, IsTrue, OnErr, OnOk, get_or, set, ◌-◌};
 ghost use Rattle.std.proofs.Common.{replicate};
 ghost use Rattle.teal_value.specs.declared.failure.Failure.TheVariants.{Fault};
 ghost use Rattle.mv_shards.specs.declared.read_fault.ReadFault.TheVariants.{Pruned};
 ghost use Rattle.mv_shards.specs.Indexes.{shard_count};
-ghost use Rattle.mv_shards.specs.Helds.{AreFree, AreHeld, IsHeld, IsHeldRead};
+ghost use Rattle.mv_shards.specs.Helds.{AreFree, AreFreeFrom, AreHeld, IsHeld, IsHeldRead, IsLastTaken, IsTakenFrom};
 ghost use Rattle.mv_shards.specs.Writing.{AreAbsent, AreLow, AreWritten};
 
 use crate::attempt::Attempt;
-use crate::index::shard_of;
+use crate::index::{SHARD_COUNT, shard_of};
 use crate::part::read;
 use crate::read_fault::ReadError;
 use crate::room::Parts;
@@ -48,6 +48,48 @@ impl Held {
         }
     }
 
+    /// Holds a shard too. Shards are added by rising index, as they are locked: one that is not above all that are
+    /// held is handed back.
+    pub fn add(&mut self, shard: Shard) -> Result<(), Shard>
+        ensures ok { OnOk result (AreFree self.old shard.index × (self.new ≡ set self.old shard.index (Some shard))) }
+        ensures err { OnErr result (IsTakenFrom self.old shard.index × (self.new ≡ self.old)) }
+        ensures back { IfErr result (λ back. back ≡ shard) }
+    {
+        let place = usize::from(shard.index());
+        if place < end_of(&self.parts) {
+            return Err(shard);
+        }
+        self.parts[place] = Some(shard.part);
+        Ok(())
+    }
+
+    /// Gives the last of the shards that are held back.
+    pub fn take(&mut self) -> Option<Shard>
+        ensures last { IfSome result (IsLastTaken self.old self.new) }
+        ensures none { IfNone result (AreFree self.old 0 × (self.new ≡ self.old)) }
+    {
+        let end = end_of(&self.parts);
+        if end == 0 {
+            return None;
+        }
+        match self.parts[end - 1].take() {
+            Some(part) => Some(Shard { part }),
+            None => unreachable!(),
+        }
+    }
+
+    /// Whether the shards of all these items are held.
+    pub fn covers(&self, items: &ItemMap) -> bool
+        ensures { IsTrue result ↔ AreHeld self.now items.now }
+    {
+        for (item, _value) in items.iter() {
+            if self.parts[usize::from(shard_of(item))].is_none() {
+                return false;
+            }
+        }
+        true
+    }
+
     /// Reads an item of the item's shard, as [`Shard::read`] does.
     pub fn read(&mut self, attempt: &mut Attempt, item: Item) -> Result<ItemValue, ReadError>
         requires { IsHeld self.old item }
@@ -81,4 +123,18 @@ impl Held {
     {
         write_parts(alloc, &mut self.parts, reads, writes, timestamp)
     }
+}
+
+/// One more than the place of the last part, or 0 where there is none.
+fn end_of(parts: &Parts) -> usize
+    ensures free { AreFreeFrom parts.now result }
+    ensures last { 0 < result → IsSome (get_or parts.now (result - 1) None) }
+{
+    let mut end = 0;
+    for place in 0..SHARD_COUNT {
+        if parts[place].is_some() {
+            end = place + 1;
+        }
+    }
+    end
 }
