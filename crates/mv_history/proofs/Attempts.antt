@@ -1,6 +1,6 @@
 -- Lists of live attempts, and how many are of a call.
 use Rattle.std.proofs.Common.{◌≡◌, ℕ, ◌+◌, ◌≤◌, ◌≢◌, Bool, true, false, if◌then◌else◌, cond, not, nat_lt, ◌==◌, max, Some, List, [], ◌∷◌, ◌++◌, refl, ap, subst, arith}
-use Rattle.std.specs.List.{AllByRecursion}
+use Rattle.std.specs.List.{AllByRecursion, insert}
 use Rattle.mv_history.specs.History.{Entry, entries_with, commit_count}
 use Rattle.mv_history.specs.World.{Attempt, attempt_at, attempts_without, attempts_with_read, live_count, lowest_live, IsLowerBound}
 use Rattle.mv_history.proofs.Lists.{Equals, equal, unequal, equals, all_map}
@@ -23,12 +23,12 @@ module _ {Item Value : Type 0} where
       at_test c (equal k) rest = rest
       at_test c (unequal k) rest = (k, rest)
 
-  pub all_with_read : (P : Attempt Item Value → Type 0) (t : ℕ) (read : Item × Value) (live : List (Attempt Item Value))
-      → ((a : Attempt Item Value) → a.timestamp ≡ t → P a → P (record a { reads = a.reads ++ read ∷ [] })) → AllByRecursion P live → AllByRecursion P (attempts_with_read t read live)
-  all_with_read P t read [] f h = tt
-  all_with_read P t read (a ∷ as') f h = at_test (a.timestamp == t) (equals a.timestamp t) (all_with_read P t read as' f h.1)
+  pub all_with_read : (P : Attempt Item Value → Type 0) (t place : ℕ) (read : Item × Value) (live : List (Attempt Item Value))
+      → ((a : Attempt Item Value) → a.timestamp ≡ t → P a → P (record a { reads = insert a.reads place read })) → AllByRecursion P live → AllByRecursion P (attempts_with_read t place read live)
+  all_with_read P t place read [] f h = tt
+  all_with_read P t place read (a ∷ as') f h = at_test (a.timestamp == t) (equals a.timestamp t) (all_with_read P t place read as' f h.1)
     where
-      at_test : (c : Bool) → Equals a.timestamp t c → AllByRecursion P (attempts_with_read t read as') → AllByRecursion P (if c then record a { reads = a.reads ++ read ∷ [] } ∷ as' else a ∷ attempts_with_read t read as')
+      at_test : (c : Bool) → Equals a.timestamp t c → AllByRecursion P (attempts_with_read t place read as') → AllByRecursion P (if c then record a { reads = insert a.reads place read } ∷ as' else a ∷ attempts_with_read t place read as')
       at_test c (equal k) rest = (f a k h.0, h.1)
       at_test c (unequal k) rest = (h.0, rest)
 
@@ -58,11 +58,11 @@ module _ {Item Value : Type 0} where
   live_count-push n a [] = omega arith
   live_count-push n a (b ∷ bs) = omega (arith, live_count-push n a bs)
 
-  pub live_count-with_read : (n t : ℕ) (read : Item × Value) (live : List (Attempt Item Value)) → live_count n (attempts_with_read t read live) ≡ live_count n live
-  live_count-with_read n t read [] = refl
-  live_count-with_read n t read (a ∷ as') = at_test (a.timestamp == t) (live_count-with_read n t read as')
+  pub live_count-with_read : (n t place : ℕ) (read : Item × Value) (live : List (Attempt Item Value)) → live_count n (attempts_with_read t place read live) ≡ live_count n live
+  live_count-with_read n t place read [] = refl
+  live_count-with_read n t place read (a ∷ as') = at_test (a.timestamp == t) (live_count-with_read n t place read as')
     where
-      at_test : (c : Bool) → live_count n (attempts_with_read t read as') ≡ live_count n as' → live_count n (if c then record a { reads = a.reads ++ read ∷ [] } ∷ as' else a ∷ attempts_with_read t read as') ≡ live_count n (a ∷ as')
+      at_test : (c : Bool) → live_count n (attempts_with_read t place read as') ≡ live_count n as' → live_count n (if c then record a { reads = insert a.reads place read } ∷ as' else a ∷ attempts_with_read t place read as') ≡ live_count n (a ∷ as')
       at_test true rest = refl
       at_test false rest = ap (λ k. (if a.number == n then 1 else 0) + k) rest
 
