@@ -1,9 +1,10 @@
 -- The facts hold in every world that events lead to, and make it serial.
 use Rattle.std.proofs.Common.{◌≡◌, ℕ, suc, inl, inr, ◌≤◌, Bool, true, false, if◌then◌else◌, ◌&&◌, ◌==◌, min, max, Some, List, [], ◌∷◌, ◌++◌, refl, sym, ap, ◌∙◌, subst, arith}
 use Rattle.mv_history.specs.History.{Entry, Meaning, IsEquality, Agrees, state_after, entries_below, state_below, version_below}
-use Rattle.mv_history.specs.World.{World, Attempt, Mark, greatest_mark, attempt_at, attempts_with_read, low_after_prune, Event, Begin, Read, Commit, Abandon, Prune, Applies, after_event, AllApply, after_events, first_world, IsReachable}
+use Rattle.mv_history.specs.World.{World, Attempt, Mark, greatest_mark, KeepsNeededMarks, attempt_at, attempts_with_read, low_after_prune, Event, Begin, Read, Commit, Abandon, Prune, Applies, after_event, AllApply, after_events, first_world, IsReachable}
 use Rattle.mv_history.specs.Schedule.{IsSchedule, IsConsistent, IsConsistentWorld}
 use Rattle.mv_history.specs.Laws.{EveryEventLeadsOn, EveryPruneApplies, EveryListingOfMarksServes}
+use Rattle.mv_history.specs.Facts.{EveryConsistentWorldIsSerial, EveryReachableWorldIsConsistent, NoMarkIsAboveTheClock}
 use Rattle.mv_history.specs.Serial.{IsSerial, EveryInterleavingIsSerial}
 use Rattle.mv_history.proofs.Lists.{Equals, equal, unequal, equals, all_map}
 use Rattle.mv_history.proofs.Replay.{ReplaysProperly, replays, replayed_state, proper_below, all_below}
@@ -147,9 +148,18 @@ every_prune_applies_lem Item Value Outcome Proper same means base w t = record {
 
 -- another list of marks is what a prune at 0 leaves
 pub every_listing_of_marks_serves_lem : (Item Value Outcome : Type 0) (Proper : (Item → Value) → Type 0) → EveryListingOfMarksServes Item Value Outcome Proper
-every_listing_of_marks_serves_lem Item Value Outcome Proper same means base w reachable marks same_marks =
+every_listing_of_marks_serves_lem Item Value Outcome Proper same means base w reachable marks kept =
     subst (λ low. IsReachable same Proper means base (record w { low = low; marks = marks })) low_stays
-    (reachable_after same Proper means base w (Prune 0 marks) (record { kept_or_dropped = λ x version. inl (same_marks x version); needed = λ x t above. same_marks x (version_below same base w.entries (suc t) x).0 }) reachable)
+    (reachable_after same Proper means base w (Prune 0 marks) (subst (λ low. KeepsNeededMarks same base low w.entries w.marks marks) (sym low_stays) kept) reachable)
   where
     low_stays : low_after_prune w 0 ≡ w.low
     low_stays = omega (arith, lowest_live-at_most (min 0 w.clock) w.live)
+
+pub every_consistent_world_is_serial_lem : (Item Value Outcome : Type 0) (Proper : (Item → Value) → Type 0) → EveryConsistentWorldIsSerial Item Value Outcome Proper
+every_consistent_world_is_serial_lem Item Value Outcome Proper same means base proper mark w k = serial same Proper means base mark w proper k
+
+pub every_reachable_world_is_consistent_lem : (Item Value Outcome : Type 0) (Proper : (Item → Value) → Type 0) → EveryReachableWorldIsConsistent Item Value Outcome Proper
+every_reachable_world_is_consistent_lem Item Value Outcome Proper same equality means base w reachable = consistent same Proper means base equality w reachable
+
+pub no_mark_is_above_the_clock_lem : (Item Value Outcome : Type 0) (Proper : (Item → Value) → Type 0) → NoMarkIsAboveTheClock Item Value Outcome Proper
+no_mark_is_above_the_clock_lem Item Value Outcome Proper same equality means base w reachable = (consistent same Proper means base equality w reachable).schedule.marks_past
