@@ -2,7 +2,7 @@
 use Rattle.std.proofs.Common.{◌≡◌, ℕ, suc, ◌-◌, ◌<◌, ◌≤◌, ◌≢◌, max, insert, Bool, true, false, if◌then◌else◌, nat_le, List, [], ◌∷◌, length, drop, get_or, refl, sym, ap, ◌∙◌, subst, arith, le-leb}
 use Rattle.std.specs.List.{AllByRecursion}
 use Rattle.mv_chain.specs.declared.Version.{Version}
-use Rattle.mv_chain.specs.Versions.{count_not_above, IsRising, newest_at, marked_at_index, versions_read_at, versions_with, versions_from}
+use Rattle.mv_chain.specs.Versions.{count_not_above, IsChain, IsRising, newest_at, oldest_timestamp, marked_at_index, versions_read_at, versions_with, versions_from}
 use Rattle.mv_chain.specs.Laws.{IsNewestAt, EveryReadFindsTheNewest, EveryReadMarksItsVersionAlone, EveryInstallIsFound, EveryPruneKeepsReads}
 use Rattle.mv_chain.proofs.Places.{AtMost, within, above, at_most}
 
@@ -68,6 +68,22 @@ module _ {V : Type 0} where
       at_tests b c (within h) (above k) rest = refl
       at_tests b c (above h) (within k) rest = let here : v.timestamp < w.timestamp = r.0 in absurd (omega arith)
       at_tests b c (above h) (above k) rest = refl
+
+  from-chain : (low : ℕ) (v : Version V) (ws : List (Version V)) → IsRising v.timestamp ws → IsChain (from low v ws)
+  from-chain low v [] r = tt
+  from-chain low v (w ∷ ws) r = at_test (nat_le w.timestamp low) (from-chain low w ws r.1)
+    where
+      at_test : (c : Bool) → IsChain (from low w ws) → IsChain (if c then from low w ws else v ∷ w ∷ ws)
+      at_test true rest = rest
+      at_test false rest = r
+
+  from-first : (low : ℕ) (v : Version V) (ws : List (Version V)) → v.timestamp ≤ low → oldest_timestamp (from low v ws) ≤ low
+  from-first low v [] h = h
+  from-first low v (w ∷ ws) h = at_test (nat_le w.timestamp low) (at_most w.timestamp low) (λ k. from-first low w ws k)
+    where
+      at_test : (c : Bool) → AtMost w.timestamp low c → (w.timestamp ≤ low → oldest_timestamp (from low w ws) ≤ low) → oldest_timestamp (if c then from low w ws else v ∷ w ∷ ws) ≤ low
+      at_test c (within k) rest = rest k
+      at_test c (above k) rest = h
 
   from-rest : (low : ℕ) (v : Version V) (ws : List (Version V)) → IsRising v.timestamp ws → AllByRecursion (λ version. low < version.timestamp) (drop 1 (from low v ws))
   from-rest low v [] r = tt
@@ -188,6 +204,8 @@ pub every_prune_keeps_reads_lem : (V : Type 0) → EveryPruneKeepsReads V
 every_prune_keeps_reads_lem V low [] c = absurd c
 every_prune_keeps_reads_lem V low (v ∷ vs) c =
     record {
+      chain = rw (versions_from-from low v vs c) (from-chain low v vs c);
+      first_not_above = λ h. rw (versions_from-from low v vs c) (from-first low v vs h);
       rest_above = rw (versions_from-from low v vs c) (from-rest low v vs c);
       reads = λ t d h k. ap (λ us. newest_at t us d) (versions_from-from low v vs c) ∙ newest_at-from low t v vs d h k ∙ sym (newest_at-found t v vs d k);
     }

@@ -33,8 +33,10 @@ EveryInstallIsFound V =
     (n t : ℕ) (value : V) (vs : List (Version V)) (d : Version V) → IsChain vs → oldest_timestamp vs ≤ n → oldest_timestamp vs ≤ t
     → AllByRecursion (λ version. version.timestamp ≢ n) vs → IsReadAfterInstall n t value vs d
 
--- pruning at a low mark leaves one version at most that is not above it, and changes no read from it on
+-- pruning at a low mark leaves a chain in which only the first version is not above it, and changes no read from it on
 pub record IsPrunedTo {V : Type 0} (low : ℕ) (vs : List (Version V)) : Type 0 where
+  pub chain : IsChain (versions_from low vs)
+  pub first_not_above : oldest_timestamp vs ≤ low → oldest_timestamp (versions_from low vs) ≤ low
   pub rest_above : AllByRecursion (λ version. low < version.timestamp) (drop 1 (versions_from low vs))
   pub reads : (t : ℕ) (d : Version V) → low ≤ t → oldest_timestamp vs ≤ t → newest_at t (versions_from low vs) d ≡ newest_at t vs d
 
