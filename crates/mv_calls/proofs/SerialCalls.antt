@@ -17,6 +17,7 @@ use Rattle.avm_laws.proofs.Given.{item_same, item_total}
 use Rattle.avm_laws.proofs.LedgerLooks.{ledgers_are_looks}
 use Rattle.mv_history.specs.History.{IsRising, Replays, entries_below, lookup_after, state_below}
 use Rattle.mv_history.specs.World.{Abandon, AllApply, Applies, Begin, Commit, Prune, Read, after_event, after_events, first_world, fresh_attempt}
+use Rattle.mv_history.specs.Facts.{EveryConsistentWorldIsSerial}
 use Rattle.mv_history.specs.Serial.{EveryInterleavingIsSerial, IsSerial}
 use Rattle.mv_history.proofs.Attempts.{all_with_read, all_without, found_attempt}
 use Rattle.mv_history.proofs.Lists.{Compared, less, not_less, compared, all_map, all_push}
@@ -24,7 +25,7 @@ use Rattle.mv_history.proofs.Replay.{none_left}
 use Rattle.mv_history.proofs.Versions.{all_with}
 use Rattle.mv_calls.specs.CallHistory.{CallAttempt, CallEntry, CallEvent, CallWorld, call_of, calls_made, meaning_of, same_item, with_call}
 use Rattle.mv_calls.specs.Laws.{AreCallsOf, IsReplayOf, ItemsHaveAnEquality}
-use Rattle.mv_calls.specs.SerialCalls.{AreSerialCalls, BeginsACall, EveryInterleavingOfCallsIsSerial, ledger_of}
+use Rattle.mv_calls.specs.SerialCalls.{AreOfCalls, AreSerialCalls, BeginsACall, EveryConsistentWorldOfCallsIsSerial, EveryInterleavingOfCallsIsSerial, ledger_of}
 use Rattle.mv_calls.proofs.Histories.{histories_are_replays, reads_agree}
 
 pub items_have_an_equality : ItemsHaveAnEquality
@@ -91,19 +92,19 @@ module _ (calls : List CallData) where
 look_as : (l : Ledger) (look other : Item → ItemValue) → ((x : Item) → other x ≡ look x) → IsLookOf l look → IsLookOf l other
 look_as l look other same is = record { orderly = is.orderly; same = λ x kept. same x ∙ is.same x kept }
 
-module _ (base : Ledger) (header : Header) (calls : List CallData) (orderly : IsOrderly base) (w : CallWorld) (are : AreCalls calls w) (serial : IsSerial same_item IsOfLedger (meaning_of header calls) (at base) w) where
+module _ (base : Ledger) (header : Header) (calls : List CallData) (orderly : IsOrderly base) (w : CallWorld) (are : AreOfCalls calls w.entries) (serial : IsSerial same_item IsOfLedger (meaning_of header calls) (at base) w) where
   replay_all : IsReplayOf base (at base) header calls w.entries (calls_made calls w.entries)
-  replay_all = histories_are_replays base (at base) header calls w.entries (calls_made calls w.entries) (ledgers_are_looks base orderly) serial.replays (are_calls_of calls w.entries are.entries)
+  replay_all = histories_are_replays base (at base) header calls w.entries (calls_made calls w.entries) (ledgers_are_looks base orderly) serial.replays (are_calls_of calls w.entries are)
 
   replay_below : (t : ℕ) → IsReplayOf base (at base) header calls (entries_below t w.entries) (calls_made calls (entries_below t w.entries))
   replay_below t =
       histories_are_replays base (at base) header calls (entries_below t w.entries) (calls_made calls (entries_below t w.entries)) (ledgers_are_looks base orderly)
-      (replays_below calls header t 0 w.entries (at base) serial.rising serial.replays) (are_calls_of calls (entries_below t w.entries) (all_of_below calls t w.entries are.entries))
+      (replays_below calls header t 0 w.entries (at base) serial.rising serial.replays) (are_calls_of calls (entries_below t w.entries) (all_of_below calls t w.entries are))
 
   serial_calls : AreSerialCalls base header calls w
   serial_calls = record {
     rising = serial.rising;
-    are_calls = are.entries;
+    are_calls = are;
     outcomes = replay_all.ends;
     newest = look_as (ledger_of base header calls w.entries) _ (state_below same_item (at base) w.entries (suc w.clock)) serial.newest replay_all.after;
     past = λ t. look_as (ledger_of base header calls (entries_below (suc t) w.entries)) _ (state_below same_item (at base) w.entries (suc t)) (serial.past t) (replay_below (suc t)).after;
@@ -115,5 +116,9 @@ module _ (base : Ledger) (header : Header) (calls : List CallData) (orderly : Is
 pub every_interleaving_of_calls_is_serial_lem : EveryInterleavingIsSerial Item ItemValue Outcome IsOfLedger → EveryInterleavingOfCallsIsSerial
 every_interleaving_of_calls_is_serial_lem theorem base header calls orderly w lead =
     serial_calls base header calls orderly w
-    (subst (AreCalls calls) lead.lead_here (after_all calls base header lead.events first_world lead.begin_calls lead.apply (record { entries = tt; live = tt })))
+    (subst (AreCalls calls) lead.lead_here (after_all calls base header lead.events first_world lead.begin_calls lead.apply (record { entries = tt; live = tt }))).entries
     (theorem same_item items_have_an_equality (meaning_of header calls) (at base) (base, ledgers_are_looks base orderly) w (record { events = lead.events; apply = lead.apply; leads_here = lead.lead_here }))
+
+pub every_consistent_world_of_calls_is_serial_lem : EveryConsistentWorldIsSerial Item ItemValue Outcome IsOfLedger → EveryConsistentWorldOfCallsIsSerial
+every_consistent_world_of_calls_is_serial_lem theorem base header calls orderly mark w consistent are =
+    serial_calls base header calls orderly w are (theorem same_item (meaning_of header calls) (at base) (base, ledgers_are_looks base orderly) mark w consistent)

@@ -9,11 +9,13 @@ use Rattle.std.specs.List.{AllByRecursion}
 use Rattle.avm_ledger.specs.declared.header.Header.{Header}
 use Rattle.avm_ledger.specs.Ledgers.{Ledger}
 use Rattle.avm_items.specs.declared.call_data.CallData.{CallData}
+use Rattle.avm_items.specs.declared.item.Item.{Item}
 use Rattle.avm_items.specs.LedgerItems.{at, AgreesWithReads}
 use Rattle.avm_call.specs.Replay.{outcomes, replayed}
 use Rattle.avm_laws.specs.Orderly.{IsOrderly}
 use Rattle.avm_laws.specs.LedgerLooks.{IsLookOf, IsOfLedger}
 use Rattle.mv_history.specs.History.{IsRising, commit_count, entries_below, state_below}
+use Rattle.mv_history.specs.Schedule.{IsConsistent}
 use Rattle.mv_history.specs.World.{AllApply, Begin, after_events, first_world, live_count}
 use Rattle.mv_calls.specs.CallHistory.{CallEntry, CallEvent, CallWorld, call_of, calls_made, meaning_of, same_item}
 use Rattle.mv_calls.specs.Laws.{ledger_with}
@@ -30,6 +32,10 @@ pub record CallsLeadTo (base : Ledger) (header : Header) (calls : List CallData)
   pub apply : AllApply same_item IsOfLedger (meaning_of header calls) (at base) first_world events
   pub lead_here : after_events same_item (at base) first_world events ≡ w
 
+-- each entry has the number of a call
+abbrev pub AreOfCalls : List CallData → List CallEntry → Type 0
+AreOfCalls calls es = AllByRecursion (λ (e : CallEntry). IsSome (call_of calls e.number)) es
+
 -- the ledger after the calls of entries, made one after another
 abbrev pub ledger_of : Ledger → Header → List CallData → List CallEntry → Ledger
 ledger_of base header calls es = replayed base header (calls_made calls es)
@@ -38,7 +44,7 @@ ledger_of base header calls es = replayed base header (calls_made calls es)
 pub record AreSerialCalls (base : Ledger) (header : Header) (calls : List CallData) (w : CallWorld) : Type 0 where
   pub rising : IsRising 0 w.entries
   -- each entry is of a call, and ends as the call does after those below it
-  pub are_calls : AllByRecursion (λ (e : CallEntry). IsSome (call_of calls e.number)) w.entries
+  pub are_calls : AreOfCalls calls w.entries
   pub outcomes : outcomes base header (calls_made calls w.entries) ≡ map (λ (e : CallEntry). e.outcome) w.entries
   -- the newest versions are the ledger that the calls leave, and the versions not above a timestamp the ledger of those
   -- not above it; the entries' writes put into the first ledger lead there too
@@ -54,3 +60,10 @@ pub record AreSerialCalls (base : Ledger) (header : Header) (calls : List CallDa
 abbrev pub EveryInterleavingOfCallsIsSerial : Type 0
 EveryInterleavingOfCallsIsSerial =
     (base : Ledger) (header : Header) (calls : List CallData) → IsOrderly base → (w : CallWorld) → CallsLeadTo base header calls w → AreSerialCalls base header calls w
+
+-- So is every world in which the facts hold that events keep, whatever keeps its marks.
+abbrev pub EveryConsistentWorldOfCallsIsSerial : Type 0
+EveryConsistentWorldOfCallsIsSerial =
+    (base : Ledger) (header : Header) (calls : List CallData) → IsOrderly base
+    → (mark : Item → ℕ → ℕ) (w : CallWorld) → IsConsistent same_item IsOfLedger (meaning_of header calls) (at base) mark w.clock w.low w.entries w.live → AreOfCalls calls w.entries
+    → AreSerialCalls base header calls w

@@ -11,11 +11,11 @@ ghost use Rattle.avm_call.specs.declared.outcome.Outcome.{Outcome as OutcomeOf};
 ghost use Rattle.avm_laws.specs.LedgerLooks.{IsOfLedger};
 ghost use Rattle.mv_history.specs.Serial.{EveryInterleavingIsSerial};
 ghost use Rattle.mv_calls.specs.Laws.{CallsLeaveLookups, FinishedCallsAreEntries, HistoriesAreReplays, ItemsHaveAnEquality};
-ghost use Rattle.mv_calls.specs.SerialCalls.{EveryInterleavingOfCallsIsSerial};
+ghost use Rattle.mv_calls.specs.SerialCalls.{EveryConsistentWorldOfCallsIsSerial, EveryInterleavingOfCallsIsSerial};
 
 use avm_call::Outcome;
 use avm_items::{Item, ItemValue};
-use mv_history::{ProperLookups, every_interleaving_is_serial};
+use mv_history::{ProperLookups, every_consistent_world_is_serial, every_interleaving_is_serial};
 
 /// The look-ups of ledgers are the proper ones.
 pub struct LedgerLookups;
@@ -33,6 +33,13 @@ pub fn every_interleaving_of_calls_is_serial()
     ensures { EveryInterleavingOfCallsIsSerial }
 {
     order_theorem();
+}
+
+/// So they are in every world in which the facts hold that events keep: what a store keeps in its type is enough.
+pub fn every_consistent_world_of_calls_is_serial()
+    ensures { EveryConsistentWorldOfCallsIsSerial }
+{
+    every_consistent_world_is_serial::<Item, ItemValue, Outcome, LedgerLookups>();
 }
 
 /// The order theorem, at the items, values and outcomes of ledgers.
