@@ -1,5 +1,5 @@
 -- The order theorem for calls on a ledger, from the one over look-ups.
-use Rattle.std.proofs.Common.{◌≡◌, ℕ, suc, ◌+◌, Bool, true, false, if◌then◌else◌, nat_lt, Option, None, Some, List, [], ◌∷◌, refl, sym, ap, ◌∙◌, subst, arith}
+use Rattle.std.proofs.Common.{◌≡◌, ℕ, suc, ◌+◌, Bool, true, false, if◌then◌else◌, nat_lt, Option, None, Some, List, [], ◌∷◌, ◌++◌, refl, sym, ap, ◌∙◌, subst, arith}
 use Rattle.std.specs.Prelude.{IsSome}
 use Rattle.std.specs.List.{AllByRecursion}
 use Rattle.std.specs.Ordering.{is_eq}
@@ -23,9 +23,10 @@ use Rattle.mv_history.proofs.Attempts.{all_with_read, all_without, found_attempt
 use Rattle.mv_history.proofs.Lists.{Compared, less, not_less, compared, all_map, all_push}
 use Rattle.mv_history.proofs.Replay.{none_left}
 use Rattle.mv_history.proofs.Versions.{all_with}
+use Rattle.mv_history.proofs.Worlds.{after_events-push, all_apply-push}
 use Rattle.mv_calls.specs.CallHistory.{CallAttempt, CallEntry, CallEvent, CallWorld, call_of, calls_made, meaning_of, same_item, with_call}
 use Rattle.mv_calls.specs.Laws.{AreCallsOf, IsReplayOf, ItemsHaveAnEquality}
-use Rattle.mv_calls.specs.SerialCalls.{AreOfCalls, AreSerialCalls, BeginsACall, EveryConsistentWorldOfCallsIsSerial, EveryInterleavingOfCallsIsSerial, ledger_of}
+use Rattle.mv_calls.specs.SerialCalls.{AreOfCalls, AreSerialCalls, BeginsACall, EveryConsistentWorldOfCallsIsSerial, EveryEventOfCallsLeadsOn, EveryInterleavingOfCallsIsSerial, ledger_of}
 use Rattle.mv_calls.proofs.Histories.{histories_are_replays, reads_agree}
 
 pub items_have_an_equality : ItemsHaveAnEquality
@@ -122,3 +123,17 @@ every_interleaving_of_calls_is_serial_lem theorem base header calls orderly w le
 pub every_consistent_world_of_calls_is_serial_lem : EveryConsistentWorldIsSerial Item ItemValue Outcome IsOfLedger → EveryConsistentWorldOfCallsIsSerial
 every_consistent_world_of_calls_is_serial_lem theorem base header calls orderly mark w consistent are =
     serial_calls base header calls orderly w are (theorem same_item (meaning_of header calls) (at base) (base, ledgers_are_looks base orderly) mark w consistent)
+
+-- ---- one more event
+
+pub calls_lead_on : EveryEventOfCallsLeadsOn
+calls_lead_on base header calls = (
+  record { events = []; begin_calls = tt; apply = tt; lead_here = refl },
+  λ w event lead begins applies. record {
+    events = lead.events ++ event ∷ [];
+    begin_calls = all_push (BeginsACall calls) lead.events event lead.begin_calls begins;
+    apply = all_apply-push same_item IsOfLedger (meaning_of header calls) (at base) lead.events event first_world lead.apply
+        (subst (λ v. Applies same_item IsOfLedger (meaning_of header calls) (at base) v event) (sym lead.lead_here) applies);
+    lead_here = after_events-push same_item IsOfLedger (meaning_of header calls) (at base) lead.events event first_world ∙ ap (λ v. after_event same_item (at base) v event) lead.lead_here;
+  },
+)

@@ -16,7 +16,7 @@ use Rattle.avm_laws.specs.Orderly.{IsOrderly}
 use Rattle.avm_laws.specs.LedgerLooks.{IsLookOf, IsOfLedger}
 use Rattle.mv_history.specs.History.{IsRising, commit_count, entries_below, state_below}
 use Rattle.mv_history.specs.Schedule.{IsConsistent}
-use Rattle.mv_history.specs.World.{AllApply, Begin, after_events, first_world, live_count}
+use Rattle.mv_history.specs.World.{AllApply, Applies, Begin, after_event, after_events, first_world, live_count}
 use Rattle.mv_calls.specs.CallHistory.{CallEntry, CallEvent, CallWorld, call_of, calls_made, meaning_of, same_item}
 use Rattle.mv_calls.specs.Laws.{ledger_with}
 
@@ -31,6 +31,14 @@ pub record CallsLeadTo (base : Ledger) (header : Header) (calls : List CallData)
   pub begin_calls : AllByRecursion (BeginsACall calls) events
   pub apply : AllApply same_item IsOfLedger (meaning_of header calls) (at base) first_world events
   pub lead_here : after_events same_item (at base) first_world events ≡ w
+
+-- It is so at first, and each event that applies leads on.
+abbrev pub EveryEventOfCallsLeadsOn : Type 0
+EveryEventOfCallsLeadsOn =
+    (base : Ledger) (header : Header) (calls : List CallData)
+    → CallsLeadTo base header calls first_world
+    × ((w : CallWorld) (event : CallEvent) → CallsLeadTo base header calls w → BeginsACall calls event → Applies same_item IsOfLedger (meaning_of header calls) (at base) w event
+    → CallsLeadTo base header calls (after_event same_item (at base) w event))
 
 -- each entry has the number of a call
 abbrev pub AreOfCalls : List CallData → List CallEntry → Type 0

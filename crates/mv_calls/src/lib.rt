@@ -11,7 +11,7 @@ ghost use Rattle.avm_call.specs.declared.outcome.Outcome.{Outcome as OutcomeOf};
 ghost use Rattle.avm_laws.specs.LedgerLooks.{IsOfLedger};
 ghost use Rattle.mv_history.specs.Serial.{EveryInterleavingIsSerial};
 ghost use Rattle.mv_calls.specs.Laws.{CallsLeaveLookups, FinishedCallsAreEntries, HistoriesAreReplays, ItemsHaveAnEquality};
-ghost use Rattle.mv_calls.specs.SerialCalls.{EveryConsistentWorldOfCallsIsSerial, EveryInterleavingOfCallsIsSerial};
+ghost use Rattle.mv_calls.specs.SerialCalls.{EveryConsistentWorldOfCallsIsSerial, EveryEventOfCallsLeadsOn, EveryInterleavingOfCallsIsSerial};
 
 use avm_call::Outcome;
 use avm_items::{Item, ItemValue};
@@ -30,7 +30,8 @@ impl ProperLookups<Item, ItemValue> for LedgerLookups {
 /// the ledger, by rising timestamp, they end as their entries say, and the newest versions are the ledger that they
 /// leave. So are the versions of each earlier timestamp.
 pub fn every_interleaving_of_calls_is_serial()
-    ensures { EveryInterleavingOfCallsIsSerial }
+    ensures serial { EveryInterleavingOfCallsIsSerial }
+    ensures leads { EveryEventOfCallsLeadsOn }
 {
     order_theorem();
 }

@@ -118,23 +118,24 @@ module _ {Item Value Outcome : Type 0} (same : Item → Item → Bool) (Proper :
   reachable_first = record { events = []; apply = tt; leads_here = refl }
 
   -- one more event
+  pub after_events-push : (events : List (Event Item Value Outcome)) (event : Event Item Value Outcome) (w : World Item Value Outcome)
+      → after_events same base w (events ++ event ∷ []) ≡ after_event same base (after_events same base w events) event
+  after_events-push [] event w = refl
+  after_events-push (e ∷ events) event w = after_events-push events event (after_event same base w e)
+
+  pub all_apply-push : (events : List (Event Item Value Outcome)) (event : Event Item Value Outcome) (w : World Item Value Outcome) → AllApply same Proper means base w events
+      → Applies same Proper means base (after_events same base w events) event → AllApply same Proper means base w (events ++ event ∷ [])
+  all_apply-push [] event w h last = (last, tt)
+  all_apply-push (e ∷ events) event w h last = (h.0, all_apply-push events event (after_event same base w e) h.1 last)
+
   pub reachable_after : (w : World Item Value Outcome) (event : Event Item Value Outcome) → Applies same Proper means base w event
       → IsReachable same Proper means base w → IsReachable same Proper means base (after_event same base w event)
   reachable_after w event applies r =
       record {
         events = r.events ++ event ∷ [];
-        apply = apply_push r.events first_world r.apply (subst (λ v. Applies same Proper means base v event) (sym r.leads_here) applies);
-        leads_here = after_push r.events first_world ∙ ap (λ v. after_event same base v event) r.leads_here;
+        apply = all_apply-push r.events event first_world r.apply (subst (λ v. Applies same Proper means base v event) (sym r.leads_here) applies);
+        leads_here = after_events-push r.events event first_world ∙ ap (λ v. after_event same base v event) r.leads_here;
       }
-    where
-      after_push : (events : List (Event Item Value Outcome)) (v : World Item Value Outcome) → after_events same base v (events ++ event ∷ []) ≡ after_event same base (after_events same base v events) event
-      after_push [] v = refl
-      after_push (e ∷ events) v = after_push events (after_event same base v e)
-
-      apply_push : (events : List (Event Item Value Outcome)) (v : World Item Value Outcome) → AllApply same Proper means base v events → Applies same Proper means base (after_events same base v events) event
-          → AllApply same Proper means base v (events ++ event ∷ [])
-      apply_push [] v h last = (last, tt)
-      apply_push (e ∷ events) v h last = (h.0, apply_push events (after_event same base v e) h.1 last)
 
 pub every_interleaving_is_serial_lem : (Item Value Outcome : Type 0) (Proper : (Item → Value) → Type 0) → EveryInterleavingIsSerial Item Value Outcome Proper
 every_interleaving_is_serial_lem Item Value Outcome Proper same equality means base proper w reachable =
