@@ -4,7 +4,7 @@ use Rattle.std.specs.Prelude.{All, unwrap_or, false}
 use Rattle.avm_ledger.specs.declared.application.Application.{Application}
 use Rattle.avm_ledger.specs.declared.header.Header.{Header}
 use Rattle.avm_ledger.specs.Ledgers.{Ledger}
-use Rattle.avm_ledger.specs.LedgerRules.{KeepsRules}
+use Rattle.avm_laws.specs.Orderly.{IsOrderly}
 use Rattle.avm_items.specs.declared.call_data.CallData.{CallData}
 use Rattle.avm_items.specs.declared.item.Item.{Item}
 use Rattle.avm_items.specs.CallFields.{creates, new_keys}
@@ -23,7 +23,7 @@ use Rattle.avm_laws.proofs.Following.{Follows}
 use Rattle.avm_laws.proofs.FollowedRuns.{Stands, run_stands}
 use Rattle.avm_laws.proofs.FollowedCalls.{Leaves, IsKept, IsTarget, OnTarget, admitted_is, prepared_over, call_leaves}
 use Rattle.avm_laws.proofs.Given.{put_gives}
-use Rattle.avm_laws.proofs.KeptOrder.{rules_in_order, next_is_free}
+use Rattle.avm_laws.proofs.KeptOrder.{next_is_free}
 use Rattle.avm_laws.proofs.Pruned.{are_changes, put_pruned, put_written}
 
 -- ---- nothing more is kept
@@ -50,58 +50,58 @@ all_kept call header = record {
   ends = λ p m k. tt;
 }
 
-pub leaves : (l : Ledger) (call : CallData) (header : Header) (K : Ledger → Type 0) (Kp : Position → Ledger → Type 0) → IsKept call header K Kp → KeepsRules l → K l → Leaves l K (result_over (at l) (call_result call header)).1
-leaves l call header K Kp kept keeps here =
-    along-result (at l) (IsThere l) (λ r. Leaves l K r.1) (call_result call header) (call_leaves call header l K Kp kept (rules_in_order l keeps) here (next_is_free l keeps))
+pub leaves : (l : Ledger) (call : CallData) (header : Header) (K : Ledger → Type 0) (Kp : Position → Ledger → Type 0) → IsKept call header K Kp → IsOrderly l → K l → Leaves l K (result_over (at l) (call_result call header)).1
+leaves l call header K Kp kept orderly here =
+    along-result (at l) (IsThere l) (λ r. Leaves l K r.1) (call_result call header) (call_leaves call header l K Kp kept orderly.order here (next_is_free l orderly))
 
-pub after_is : (l : Ledger) (call : CallData) (header : Header) (K : Ledger → Type 0) → KeepsRules l → (left : Leaves l K (result_over (at l) (call_result call header)).1) → ledger_after l call header ≡ left.ledger
-after_is l call header K keeps left = put_pruned l K (result_over (at l) (call_result call header)).1 (rules_in_order l keeps) left
+pub after_is : (l : Ledger) (call : CallData) (header : Header) (K : Ledger → Type 0) → IsOrderly l → (left : Leaves l K (result_over (at l) (call_result call header)).1) → ledger_after l call header ≡ left.ledger
+after_is l call header K orderly left = put_pruned l K (result_over (at l) (call_result call header)).1 orderly.order left
 
-pub sorted_writes : (l : Ledger) (call : CallData) (header : Header) → KeepsRules l → IsInItemOrder (result_over (at l) (call_result call header)).1
-sorted_writes l call header keeps = (leaves l call header Any AnyAt (all_kept call header) keeps tt).sorted
+pub sorted_writes : (l : Ledger) (call : CallData) (header : Header) → IsOrderly l → IsInItemOrder (result_over (at l) (call_result call header)).1
+sorted_writes l call header orderly = (leaves l call header Any AnyAt (all_kept call header) orderly tt).sorted
 
 -- ---- the laws
 
-pub asks_for_none_gone : (l : Ledger) (call : CallData) (header : Header) → KeepsRules l → All (λ x. is_of_gone l x ≡ false) (items_asked (at l) (call_result call header))
-asks_for_none_gone l call header keeps =
-    along-asked (at l) (IsThere l) (λ r. Leaves l Any r.1) (call_result call header) (call_leaves call header l Any AnyAt (all_kept call header) (rules_in_order l keeps) tt (next_is_free l keeps))
+pub asks_for_none_gone : (l : Ledger) (call : CallData) (header : Header) → IsOrderly l → All (λ x. is_of_gone l x ≡ false) (items_asked (at l) (call_result call header))
+asks_for_none_gone l call header orderly =
+    along-asked (at l) (IsThere l) (λ r. Leaves l Any r.1) (call_result call header) (call_leaves call header l Any AnyAt (all_kept call header) orderly.order tt (next_is_free l orderly))
 
-pub hands_on_its_changes : (l : Ledger) (call : CallData) (header : Header) → KeepsRules l → AreChanges l (ledger_after l call header) (changes_on l call header)
-hands_on_its_changes l call header keeps =
-    let left = leaves l call header Any AnyAt (all_kept call header) keeps tt in
+pub hands_on_its_changes : (l : Ledger) (call : CallData) (header : Header) → IsOrderly l → AreChanges l (ledger_after l call header) (changes_on l call header)
+hands_on_its_changes l call header orderly =
+    let left = leaves l call header Any AnyAt (all_kept call header) orderly tt in
     let w = (result_over (at l) (call_result call header)).1 in
-    subst (λ m. AreChanges l m (pruned (at l) w)) (sym (after_is l call header Any keeps left)) (are_changes l Any w left)
+    subst (λ m. AreChanges l m (pruned (at l) w)) (sym (after_is l call header Any orderly left)) (are_changes l Any w left)
 
-pub loses_no_write : (l : Ledger) (call : CallData) (header : Header) → KeepsRules l → ledger_after l call header ≡ put l (result_over (at l) (call_result call header)).1
-loses_no_write l call header keeps =
-    let left = leaves l call header Any AnyAt (all_kept call header) keeps tt in
+pub loses_no_write : (l : Ledger) (call : CallData) (header : Header) → IsOrderly l → ledger_after l call header ≡ put l (result_over (at l) (call_result call header)).1
+loses_no_write l call header orderly =
+    let left = leaves l call header Any AnyAt (all_kept call header) orderly tt in
     let w = (result_over (at l) (call_result call header)).1 in
-    after_is l call header Any keeps left ∙ sym (put_written l Any w (rules_in_order l keeps) left)
+    after_is l call header Any orderly left ∙ sym (put_written l Any w orderly.order left)
 
 -- along the path of a program, the ledger with what has been written
-pub path_stands : (l : Ledger) (call : CallData) (header : Header) (t : Target) (row : Application) (steps : ℕ) (K : Ledger → Type 0) (Kp : Position → Ledger → Type 0) → IsKept call header K Kp → KeepsRules l → K l
+pub path_stands : (l : Ledger) (call : CallData) (header : Header) (t : Target) (row : Application) (steps : ℕ) (K : Ledger → Type 0) (Kp : Position → Ledger → Type 0) → IsKept call header K Kp → IsOrderly l → K l
     → result_over (at l) (admitted call) ≡ Ok t → t.row ≡ Some row → Along (at l) (IsThere l) (λ end. Stands (execution call header t.id row) row l Kp end.0) (path (execution call header t.id row) (prepared call t.id) steps)
-path_stands l call header t row steps K Kp kept keeps here is row_is =
+path_stands l call header t row steps K Kp kept orderly here is row_is =
     let e = execution call header t.id row in
     let w = prepared call t.id in
     let target : IsTarget l call (creates call) t =
     subst (OnTarget (IsTarget l call (creates call))) is (along-result (at l) (IsThere l) (OnTarget (IsTarget l call (creates call))) (admitted call) (admitted_is l call)) in
-    let over = prepared_over call header l K Kp kept (rules_in_order l keeps) here (next_is_free l keeps) t row row_is (creates call) refl target in
+    let over = prepared_over call header l K Kp kept orderly.order here (next_is_free l orderly) t row row_is (creates call) refl target in
     run_stands e row l Kp (kept.steps over.ledger t.id row over.keeps over.current) steps (start e.program w)
     (record { ledger = over.ledger; follows = over.follows; current = over.current; keeps = kept.begins over.ledger t.id row w over.keeps over.current })
 
 -- the ledger with what has been written after some steps
-pub written_over : (l : Ledger) (call : CallData) (header : Header) (t : Target) (row : Application) (steps : ℕ) (K : Ledger → Type 0) (Kp : Position → Ledger → Type 0) → IsKept call header K Kp → KeepsRules l → K l
+pub written_over : (l : Ledger) (call : CallData) (header : Header) (t : Target) (row : Application) (steps : ℕ) (K : Ledger → Type 0) (Kp : Position → Ledger → Type 0) → IsKept call header K Kp → IsOrderly l → K l
     → result_over (at l) (admitted call) ≡ Ok t → t.row ≡ Some row → Stands (execution call header t.id row) row l Kp (result_over (at l) (path (execution call header t.id row) (prepared call t.id) steps)).0
-written_over l call header t row steps K Kp kept keeps here is row_is =
+written_over l call header t row steps K Kp kept orderly here is row_is =
     let e = execution call header t.id row in
-    along-result (at l) (IsThere l) (λ end. Stands e row l Kp end.0) (path e (prepared call t.id) steps) (path_stands l call header t row steps K Kp kept keeps here is row_is)
+    along-result (at l) (IsThere l) (λ end. Stands e row l Kp end.0) (path e (prepared call t.id) steps) (path_stands l call header t row steps K Kp kept orderly here is row_is)
 
-pub put_followed : (new : Known) (l : Ledger) (w : ItemMap) (m : Ledger) → KeepsRules l → Follows new l w m → put l w ≡ m
-put_followed new l w m keeps f = put_gives l m w f.order (record { order = rules_in_order l keeps; sorted = f.sorted; has = λ y c stands. sym (f.has y); stands = f.stands })
+pub put_followed : (new : Known) (l : Ledger) (w : ItemMap) (m : Ledger) → IsOrderly l → Follows new l w m → put l w ≡ m
+put_followed new l w m orderly f = put_gives l m w f.order (record { order = orderly.order; sorted = f.sorted; has = λ y c stands. sym (f.has y); stands = f.stands })
 
-pub has_what_was_written : (l : Ledger) (call : CallData) (header : Header) (t : Target) (row : Application) (steps : ℕ) → KeepsRules l → result_over (at l) (admitted call) ≡ Ok t → t.row ≡ Some row
+pub has_what_was_written : (l : Ledger) (call : CallData) (header : Header) (t : Target) (row : Application) (steps : ℕ) → IsOrderly l → result_over (at l) (admitted call) ≡ Ok t → t.row ≡ Some row
     → (x : Item) → at (put l (written_after l call header t row steps)) x ≡ unwrap_or (value_in (written_after l call header t row steps) x) (at l x)
-has_what_was_written l call header t row steps keeps is row_is x =
-    let o = written_over l call header t row steps Any AnyAt (all_kept call header) keeps tt is row_is in
-    ap (λ m. at m x) (put_followed (new_keys call t.id) l (written_after l call header t row steps) o.ledger keeps o.follows) ∙ o.follows.has x
+has_what_was_written l call header t row steps orderly is row_is x =
+    let o = written_over l call header t row steps Any AnyAt (all_kept call header) orderly tt is row_is in
+    ap (λ m. at m x) (put_followed (new_keys call t.id) l (written_after l call header t row steps) o.ledger orderly o.follows) ∙ o.follows.has x

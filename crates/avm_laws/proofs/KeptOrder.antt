@@ -1,5 +1,5 @@
--- A ledger that keeps the rules is in order, and no application has the next id.
-use Rattle.std.proofs.Common.{◌≡◌, ℕ, true, Option, None, Some, refl, arith}
+-- A ledger that keeps the rules is in order, and no application has the next id or one above it.
+use Rattle.std.proofs.Common.{◌≡◌, ℕ, ◌≤◌, true, Option, None, Some, refl, arith}
 use Rattle.std.specs.Ordering.{nat_cmp}
 use Rattle.std.specs.BTreeMap.{is_at}
 use Rattle.std.specs.FinMap.{nat_cmp-IsAntisymmetric}
@@ -9,6 +9,7 @@ use Rattle.avm_ledger.specs.declared.application.StoredApplication.{StoredApplic
 use Rattle.avm_ledger.specs.Ledgers.{Ledger, application_at, IsInOrder}
 use Rattle.avm_ledger.specs.LedgerRules.{IsApplicationBelow, KeepsRules}
 use Rattle.avm_ledger.proofs.Maps.{is_Equal}
+use Rattle.avm_laws.specs.Orderly.{IsOrderly}
 
 same_id : (x y : ℕ) → is_at (nat_cmp x) y ≡ true → x ≡ y
 same_id x y e = nat_cmp-IsAntisymmetric x y (is_Equal (nat_cmp x y) e)
@@ -18,16 +19,19 @@ pub application_rules : (l : Ledger) (id : ℕ) (app : StoredApplication) → Ke
 application_rules l id app keeps is =
     All-contains (IsApplicationBelow l.next_id) l.applications (id, app) keeps.applications (Contains-from_lookup {eq = λ x y. is_at (nat_cmp x) y} same_id id app l.applications is)
 
-pub rules_in_order : (l : Ledger) → KeepsRules l → IsInOrder l
+rules_in_order : (l : Ledger) → KeepsRules l → IsInOrder l
 rules_in_order l keeps = record {
   applications = keeps.rising_ids;
   global_states = λ id app is. (application_rules l id app keeps is).state.rising;
   local_states = keeps.rising_accounts;
 }
 
-pub next_is_free : (l : Ledger) → KeepsRules l → application_at l l.next_id ≡ None
-next_is_free l keeps = by (application_at l l.next_id) refl
+pub orderly : (l : Ledger) → KeepsRules l → IsOrderly l
+orderly l keeps = record { order = rules_in_order l keeps; below = λ id h. by id h (application_at l id) refl }
   where
-    by : (a : Option StoredApplication) → application_at l l.next_id ≡ a → a ≡ None
-    by None is = refl
-    by (Some app) is = absurd (omega (arith, (application_rules l l.next_id app keeps is).below))
+    by : (id : ℕ) → l.next_id ≤ id → (a : Option StoredApplication) → application_at l id ≡ a → a ≡ None
+    by id h None is = refl
+    by id h (Some app) is = absurd (omega (arith, (application_rules l id app keeps is).below))
+
+pub next_is_free : (l : Ledger) → IsOrderly l → application_at l l.next_id ≡ None
+next_is_free l o = o.below l.next_id (omega arith)

@@ -37,7 +37,7 @@ use Rattle.avm_laws.proofs.FollowedRuns.{StepsKeep, led, row_stands}
 use Rattle.avm_laws.proofs.FollowedCalls.{IsKept}
 use Rattle.avm_laws.proofs.FittingRows.{Fits, Fit, effect_fits, stored_fits}
 use Rattle.avm_laws.proofs.ProgramValues.{read_fits, uints_fit, byte_strings_fit}
-use Rattle.avm_laws.proofs.KeptOrder.{application_rules}
+use Rattle.avm_laws.proofs.KeptOrder.{application_rules, orderly}
 use Rattle.avm_laws.proofs.SoundPuts.{sound_put, led_sound}
 use Rattle.avm_laws.proofs.CallChanges.{leaves, after_is, written_over, put_followed}
 
@@ -192,14 +192,14 @@ sound_kept call header may = record {
 
 pub every_call_keeps_the_rules : (l : Ledger) (call : CallData) (header : Header) → IsSound l → MayCall call header → IsSound (ledger_after l call header)
 every_call_keeps_the_rules l call header s may =
-    let left = leaves l call header IsSound SoundAt (sound_kept call header may) s.rules s in
-    subst IsSound (sym (after_is l call header IsSound s.rules left)) left.keeps
+    let left = leaves l call header IsSound SoundAt (sound_kept call header may) (orderly l s.rules) s in
+    subst IsSound (sym (after_is l call header IsSound (orderly l s.rules) left)) left.keeps
 
 pub writes_keep_the_rules : (l : Ledger) (call : CallData) (header : Header) (t : Target) (row : Application) (steps : ℕ) → IsSound l → MayCall call header → result_over (at l) (admitted call) ≡ Ok t → t.row ≡ Some row
     → IsSound (put l (written_after l call header t row steps))
 writes_keep_the_rules l call header t row steps s may is row_is =
-    let o = written_over l call header t row steps IsSound SoundAt (sound_kept call header may) s.rules s is row_is in
-    subst IsSound (sym (put_followed (new_keys call t.id) l (written_after l call header t row steps) o.ledger s.rules o.follows)) o.keeps.0
+    let o = written_over l call header t row steps IsSound SoundAt (sound_kept call header may) (orderly l s.rules) s is row_is in
+    subst IsSound (sym (put_followed (new_keys call t.id) l (written_after l call header t row steps) o.ledger (orderly l s.rules) o.follows)) o.keeps.0
 
 pub replays_keep_the_rules : (l : Ledger) (header : Header) (calls : List CallData) → IsSound l → All (λ call. MayCall call header) calls → IsSound (replayed l header calls)
 replays_keep_the_rules l header [] s may = s

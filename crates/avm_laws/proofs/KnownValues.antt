@@ -2,7 +2,7 @@
 use Rattle.std.proofs.Common.{◌≡◌, ℕ, false, Option, None, Some, Ok, refl, sym, ap, ◌∙◌, subst}
 use Rattle.std.specs.Prelude.{is_none, unwrap_or}
 use Rattle.avm_ledger.specs.Ledgers.{Ledger, application_at}
-use Rattle.avm_ledger.specs.LedgerRules.{KeepsRules}
+use Rattle.avm_laws.specs.Orderly.{IsOrderly}
 use Rattle.avm_items.specs.declared.item.Item.{Item}
 use Rattle.avm_items.specs.declared.item.Item.TheVariants as item
 use Rattle.avm_items.specs.declared.item_value.ItemValue.{ItemValue}
@@ -30,21 +30,21 @@ pub record OverLedger (l : Ledger) (e : Environment) : Type 0 where
   pub follows : Follows (new_keys e.call e.current) l e.writes ledger
   pub is : put l e.writes ≡ ledger
 
-over_ledger : (l : Ledger) (e : Environment) → KeepsRules l → AgreesWithReads l e.reads → IsOfRun e → OverLedger l e
-over_ledger l e keeps agrees run =
+over_ledger : (l : Ledger) (e : Environment) → IsOrderly l → AgreesWithReads l e.reads → IsOfRun e → OverLedger l e
+over_ledger l e orderly agrees run =
     let known = value_in e.reads in
     let t : Target = record { id = e.current; row = Some run.row } in
     let program = execution e.call e.header e.current run.row in
     let begins = path program (prepared e.call e.current) run.steps in
     let admits : result_over (at l) (admitted e.call) ≡ Ok t =
     (alike l known (admitted e.call) (Ok t) agrees (along-asked (at l) (IsThere l) (OnTarget (IsTarget l e.call (creates e.call))) (admitted e.call) (admitted_is l e.call)) run.admits).result in
-    let there = path_stands l e.call e.header t run.row run.steps Any AnyAt (all_kept e.call e.header) keeps tt admits refl in
+    let there = path_stands l e.call e.header t run.row run.steps Any AnyAt (all_kept e.call e.header) orderly tt admits refl in
     let comes : result_over (at l) begins ≡ run.reached =
     (alike l known begins run.reached agrees (along-asked (at l) (IsThere l) (λ end. Stands program run.row l AnyAt end.0) begins there) run.comes).result in
-    let o = written_over l e.call e.header t run.row run.steps Any AnyAt (all_kept e.call e.header) keeps tt admits refl in
+    let o = written_over l e.call e.header t run.row run.steps Any AnyAt (all_kept e.call e.header) orderly tt admits refl in
     let writes = ap (λ end. end.0.writes) comes ∙ sym run.writes in
     let follows : Follows (new_keys e.call e.current) l e.writes o.ledger = subst (λ w. Follows (new_keys e.call e.current) l w o.ledger) writes o.follows in
-    record { ledger = o.ledger; follows = follows; is = put_followed (new_keys e.call e.current) l e.writes o.ledger keeps follows }
+    record { ledger = o.ledger; follows = follows; is = put_followed (new_keys e.call e.current) l e.writes o.ledger orderly follows }
 
 -- ---- what is known
 
@@ -70,7 +70,7 @@ looked_at l e o agrees (item.Counts id) h = row_known l e o agrees id h
 looked_at l e o agrees (item.Key id key) h = row_known l e o agrees id h
 looked_at l e o agrees (item.Local who id) h = refl
 
-pub knows_the_ledger : (l : Ledger) (e : Environment) (x : Item) (v : ItemValue) → KeepsRules l → AgreesWithReads l e.reads → IsOfRun e → known_to e x ≡ Some v → MayBeLookedAt (known_to e) x → at (put l e.writes) x ≡ v
-knows_the_ledger l e x v keeps agrees run is may =
-    let o = over_ledger l e keeps agrees run in
+pub knows_the_ledger : (l : Ledger) (e : Environment) (x : Item) (v : ItemValue) → IsOrderly l → AgreesWithReads l e.reads → IsOfRun e → known_to e x ≡ Some v → MayBeLookedAt (known_to e) x → at (put l e.writes) x ≡ v
+knows_the_ledger l e x v orderly agrees run is may =
+    let o = over_ledger l e orderly agrees run in
     ap (λ m. at m x) o.is ∙ known_there l e o agrees x v (looked_at l e o agrees x may) is

@@ -1,10 +1,7 @@
 -- Calls over look-ups of a ledger.
-use Rattle.std.proofs.Common.{◌≡◌, ◌∙◌, ap, sym, refl, false, ◌&&◌, List, [], ◌∷◌, All}
+use Rattle.std.proofs.Common.{◌≡◌, ap, sym, refl, false, ◌&&◌, List, [], ◌∷◌, All}
 use Rattle.std.proofs.lemmas.List.Elements.{All-head, All-tail}
-use Rattle.avm_ledger.specs.declared.header.Header.{Header}
 use Rattle.avm_ledger.specs.Ledgers.{Ledger}
-use Rattle.avm_ledger.specs.LedgerRules.{KeepsRules}
-use Rattle.avm_items.specs.declared.call_data.CallData.{CallData}
 use Rattle.avm_items.specs.declared.item.Item.{Item}
 use Rattle.avm_items.specs.Items.{Look}
 use Rattle.avm_items.specs.LedgerItems.{at, is_of_gone}
@@ -12,7 +9,7 @@ use Rattle.avm_items.specs.Locality.{AlikeOn}
 use Rattle.avm_items.specs.Asks.{items_asked}
 use Rattle.avm_items.proofs.Questions.{alike_results}
 use Rattle.avm_call.specs.Calls.{call_result}
-use Rattle.avm_laws.specs.LedgerLooks.{CallsAreTheLedgers, IsLookOf, LedgersAreLooks, is_of_deleted, was_given}
+use Rattle.avm_laws.specs.LedgerLooks.{CallsAreTheLedgers, IsLookOf, LedgersAreLooks, was_given}
 use Rattle.avm_laws.proofs.CallChanges.{asks_for_none_gone}
 
 standing : (l : Ledger) (look : Look) → IsLookOf l look → (x : Item) → is_of_gone l x ≡ false → at l x ≡ look x
@@ -26,8 +23,8 @@ alike l look is (x ∷ xs) all = (
 )
 
 pub ledgers_are_looks : LedgersAreLooks
-ledgers_are_looks l keeps = record { rules = keeps; same = λ x there. refl }
+ledgers_are_looks l orderly = record { orderly = orderly; same = λ x there. refl }
 
 pub calls_are_the_ledgers : CallsAreTheLedgers
 calls_are_the_ledgers l look call header is =
-    sym (alike_results (at l) look (call_result call header) (alike l look is (items_asked (at l) (call_result call header)) (asks_for_none_gone l call header is.rules)))
+    sym (alike_results (at l) look (call_result call header) (alike l look is (items_asked (at l) (call_result call header)) (asks_for_none_gone l call header is.orderly)))

@@ -25,3 +25,4 @@ pub mod KnownValues
 pub mod Apart
 pub mod CheckedCalls
 pub mod LedgerLooks
+pub mod LaterLedgers

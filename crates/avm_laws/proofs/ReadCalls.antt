@@ -9,7 +9,7 @@ use Rattle.std.specs.declared.cmp.Ordering.TheVariants.{Less}
 use Rattle.std.proofs.lemmas.List.Elements.{All-nil, All-cons, All-contains, All-head, All-tail, Contains-append_left, Contains-append_right, Contains-push}
 use Rattle.avm_ledger.specs.declared.header.Header.{Header}
 use Rattle.avm_ledger.specs.Ledgers.{Ledger}
-use Rattle.avm_ledger.specs.LedgerRules.{KeepsRules}
+use Rattle.avm_laws.specs.Orderly.{IsOrderly}
 use Rattle.avm_ledger.proofs.Maps.{is_Equal, above_tied, below_none}
 use Rattle.avm_items.specs.declared.call_data.CallData.{CallData}
 use Rattle.avm_items.specs.declared.item.Item.{Item}
@@ -41,8 +41,8 @@ IsReadAt l known x = value_before known x ≡ at l x
 
 pub record Alike {A : Type 0} (l : Ledger) (known : Known) (t : Ask A) (a : A) : Type 0 where
   pub result : result_over (at l) t ≡ a
-  asked : asked_while_known known t ≡ items_asked (at l) t
-  read : All (IsReadAt l known) (items_asked (at l) t)
+  pub asked : asked_while_known known t ≡ items_asked (at l) t
+  pub read : All (IsReadAt l known) (items_asked (at l) t)
 
 gives_same : {A : Type 0} {a b : A} → ◌≡◌ {A = Answer A} (Ok a) (Ok b) → a ≡ b
 gives_same e = cc
@@ -64,12 +64,12 @@ pub alike : {A : Type 0} (l : Ledger) (known : Known) (t : Ask A) (a : A) → Ha
 alike l known (Gives b) a has there e = record { result = gives_same e; asked = refl; read = All-nil (IsReadAt l known) }
 alike l known (Asks x k) a has there e = alike_at l known x k a has (λ v. alike l known (k v) a has) there (known x) refl e
 
-call_alike : (l : Ledger) (reads : ItemMap) (call : CallData) (header : Header) (r : CallResult) → KeepsRules l → AgreesWithReads l reads → answer_from (value_in reads) (call_result call header) ≡ Ok r → Alike l (value_in reads) (call_result call header) r
-call_alike l reads call header r keeps agrees e = alike l (value_in reads) (call_result call header) r agrees (asks_for_none_gone l call header keeps) e
+call_alike : (l : Ledger) (reads : ItemMap) (call : CallData) (header : Header) (r : CallResult) → IsOrderly l → AgreesWithReads l reads → answer_from (value_in reads) (call_result call header) ≡ Ok r → Alike l (value_in reads) (call_result call header) r
+call_alike l reads call header r orderly agrees e = alike l (value_in reads) (call_result call header) r agrees (asks_for_none_gone l call header orderly) e
 
-pub ends_alike : (l : Ledger) (reads : ItemMap) (call : CallData) (header : Header) (r : CallResult) → KeepsRules l → AgreesWithReads l reads → answer_from (value_in reads) (call_result call header) ≡ Ok r
+pub ends_alike : (l : Ledger) (reads : ItemMap) (call : CallData) (header : Header) (r : CallResult) → IsOrderly l → AgreesWithReads l reads → answer_from (value_in reads) (call_result call header) ≡ Ok r
     → result_over (at l) (call_result call header) ≡ r
-ends_alike l reads call header r keeps agrees e = (call_alike l reads call header r keeps agrees e).result
+ends_alike l reads call header r orderly agrees e = (call_alike l reads call header r orderly agrees e).result
 
 -- ---- questions that are left
 
@@ -94,9 +94,9 @@ used : {A : Type 0} (l : Ledger) (known : Known) (t : Ask A) (y : Item) → HasR
 used l known (Gives a) y has there e = absurd cc
 used l known (Asks x k) y has there e = used_at l known x k y has (λ v. used l known (k v) y has) there (known x) refl e
 
-pub asks_for_what_is_used : (l : Ledger) (reads : ItemMap) (call : CallData) (header : Header) (x : Item) → KeepsRules l → AgreesWithReads l reads → answer_from (value_in reads) (call_result call header) ≡ Err x
+pub asks_for_what_is_used : (l : Ledger) (reads : ItemMap) (call : CallData) (header : Header) (x : Item) → IsOrderly l → AgreesWithReads l reads → answer_from (value_in reads) (call_result call header) ≡ Err x
     → Contains (items_asked (at l) (call_result call header)) x
-asks_for_what_is_used l reads call header x keeps agrees e = used l (value_in reads) (call_result call header) x agrees (asks_for_none_gone l call header keeps) e
+asks_for_what_is_used l reads call header x orderly agrees e = used l (value_in reads) (call_result call header) x agrees (asks_for_none_gone l call header orderly) e
 
 -- ---- what it changes
 
@@ -108,7 +108,7 @@ later e es below x v there true tied =
 later e es below x v there false apart = there
 
 -- writes pruned alike, where two ledgers have the same values of the items written
-pruned_alike : (before look : Look) (w : ItemMap) → IsInItemOrder w → Accounted (λ x. before x ≡ look x) w → pruned before w ≡ pruned look w
+pub pruned_alike : (before look : Look) (w : ItemMap) → IsInItemOrder w → Accounted (λ x. before x ≡ look x) w → pruned before w ≡ pruned look w
 unfolding IsStrictlySortedBy
 pruned_alike before look [] s all = refl
 pruned_alike before look (e ∷ es) s all =
@@ -116,21 +116,21 @@ pruned_alike before look (e ∷ es) s all =
     let rest = pruned_alike before look es s.1 (λ x v there. all x v (later e es s.0 x v there (is_eq (item_cmp x e.0)) refl)) in
     λ i. cond (not (is_same_value (same i) e.1)) (e ∷ rest i) (rest i)
 
-pub changes_what_it_read : (l : Ledger) (reads : ItemMap) (call : CallData) (header : Header) (r : CallResult) → KeepsRules l → AgreesWithReads l reads → AreAskedFor reads call header → answer_from (value_in reads) (call_result call header) ≡ Ok r
+pub changes_what_it_read : (l : Ledger) (reads : ItemMap) (call : CallData) (header : Header) (r : CallResult) → IsOrderly l → AgreesWithReads l reads → AreAskedFor reads call header → answer_from (value_in reads) (call_result call header) ≡ Ok r
     → pruned (value_before (value_in reads)) r.1 ≡ changes_on l call header
-changes_what_it_read l reads call header r keeps agrees asked e =
+changes_what_it_read l reads call header r orderly agrees asked e =
     let known = value_in reads in
     let t = call_result call header in
-    let same = call_alike l reads call header r keeps agrees e in
+    let same = call_alike l reads call header r orderly agrees e in
     let w = (result_over (at l) t).1 in
     ap (λ x. pruned (value_before known) x.1) (sym same.result)
-    ∙ pruned_alike (value_before known) (at l) w (sorted_writes l call header keeps)
-    (if-result (at l) (IsReadAt l known) (λ x. Accounted (IsReadAt l known) x.1) t same.read (call_accounted l (IsReadAt l known) absent (next_is_free l keeps) call header))
+    ∙ pruned_alike (value_before known) (at l) w (sorted_writes l call header orderly)
+    (if-result (at l) (IsReadAt l known) (λ x. Accounted (IsReadAt l known) x.1) t same.read (call_accounted l (IsReadAt l known) absent (next_is_free l orderly) call header))
   where
     agreed : (x : Item) (v : ItemValue) → value_in reads x ≡ Some v → at l x ≡ v
     agreed x v is =
-        let same = call_alike l reads call header r keeps agrees e in
-        agrees x v is (All-contains (IsThere l) (items_asked (at l) (call_result call header)) x (asks_for_none_gone l call header keeps) (subst (λ xs. Contains xs x) same.asked (asked x v is)))
+        let same = call_alike l reads call header r orderly agrees e in
+        agrees x v is (All-contains (IsThere l) (items_asked (at l) (call_result call header)) x (asks_for_none_gone l call header orderly) (subst (λ xs. Contains xs x) same.asked (asked x v is)))
 
     absent : (x : Item) → at l x ≡ value.Absent → IsReadAt l (value_in reads) x
     absent x none = by (value_in reads x) (agreed x)

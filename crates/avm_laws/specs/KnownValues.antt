@@ -2,7 +2,6 @@
 use Rattle.std.specs.Prelude.{◌≡◌, ℕ, Option, Some, Ok}
 use Rattle.avm_ledger.specs.declared.application.Application.{Application}
 use Rattle.avm_ledger.specs.Ledgers.{Ledger}
-use Rattle.avm_ledger.specs.LedgerRules.{KeepsRules}
 use Rattle.avm_items.specs.declared.item.Item.{Item}
 use Rattle.avm_items.specs.declared.item.Item.TheVariants as item
 use Rattle.avm_items.specs.declared.item_value.ItemValue.{ItemValue}
@@ -14,6 +13,7 @@ use Rattle.avm_items.specs.Asks.{answer_from}
 use Rattle.avm_call.specs.declared.outcome.Ended.{Ended}
 use Rattle.avm_call.specs.Runs.{Position, path}
 use Rattle.avm_call.specs.Calls.{admitted, prepared, execution}
+use Rattle.avm_laws.specs.Orderly.{IsOrderly}
 
 -- What a run knows: over the items read, the call is admitted to a program, and the path of the program has come to a position
 -- with these writes.
@@ -35,9 +35,9 @@ MayBeLookedAt known (item.Counts id) = KnowsRow known id
 MayBeLookedAt known (item.Key id key) = KnowsRow known id
 MayBeLookedAt known _ = Unit {0}
 
--- What a run knows of an item is its value in the ledger with the run's own writes, on every ledger that keeps the rules and
--- has what was read, where the keys and the counts of an application that is gone may have been read as anything.
+-- What a run knows of an item is its value in the ledger with the run's own writes, on every ledger in order that has what was
+-- read, where the keys and the counts of an application that is gone may have been read as anything.
 abbrev pub KnowsTheLedger : Type 0
 KnowsTheLedger =
-    (l : Ledger) (e : Environment) (x : Item) (v : ItemValue) → KeepsRules l → AgreesWithReads l e.reads → IsOfRun e → known_to e x ≡ Some v → MayBeLookedAt (known_to e) x
+    (l : Ledger) (e : Environment) (x : Item) (v : ItemValue) → IsOrderly l → AgreesWithReads l e.reads → IsOfRun e → known_to e x ≡ Some v → MayBeLookedAt (known_to e) x
     → at (put l e.writes) x ≡ v

@@ -1,8 +1,7 @@
 -- Which look-ups are a ledger's, as those of a store of versions are: what a deleted application leaves there may stay.
-use Rattle.std.specs.Prelude.{◌≡◌, ℕ, false, Bool, ◌&&◌, nat_lt}
+use Rattle.std.specs.Prelude.{◌≡◌, false, Bool, ◌&&◌, nat_lt}
 use Rattle.avm_ledger.specs.declared.header.Header.{Header}
 use Rattle.avm_ledger.specs.Ledgers.{Ledger}
-use Rattle.avm_ledger.specs.LedgerRules.{KeepsRules}
 use Rattle.avm_items.specs.declared.call_data.CallData.{CallData}
 use Rattle.avm_items.specs.declared.item.Item.{Item}
 use Rattle.avm_items.specs.declared.item.Item.TheVariants as item
@@ -10,6 +9,7 @@ use Rattle.avm_items.specs.Items.{Look}
 use Rattle.avm_items.specs.LedgerItems.{at, is_of_gone}
 use Rattle.avm_items.specs.Asks.{result_over}
 use Rattle.avm_call.specs.Calls.{call_result}
+use Rattle.avm_laws.specs.Orderly.{IsOrderly}
 
 -- the id of an application that was given to one
 abbrev pub was_given : Ledger → Item → Bool
@@ -23,7 +23,7 @@ is_of_deleted l x = is_of_gone l x && was_given l x
 
 -- It has the ledger's value of each item, but for keys and counts of applications that were deleted.
 pub record IsLookOf (l : Ledger) (look : Look) : Type 0 where
-  pub rules : KeepsRules l
+  pub orderly : IsOrderly l
   pub same : (x : Item) → is_of_deleted l x ≡ false → look x ≡ at l x
 
 -- a look-up that is some ledger's
@@ -32,7 +32,7 @@ IsOfLedger look = (l : Ledger) × IsLookOf l look
 
 -- The ledger's own look-up is one,
 abbrev pub LedgersAreLooks : Type 0
-LedgersAreLooks = (l : Ledger) → KeepsRules l → IsLookOf l (at l)
+LedgersAreLooks = (l : Ledger) → IsOrderly l → IsLookOf l (at l)
 
 -- and a call over each is the call over the ledger.
 abbrev pub CallsAreTheLedgers : Type 0

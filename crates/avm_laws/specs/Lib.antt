@@ -1,4 +1,5 @@
 pub mod Ledgers
+pub mod Orderly
 pub mod Calls
 pub mod FinishedCalls
 pub mod KnownValues

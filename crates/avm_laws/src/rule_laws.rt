@@ -1,5 +1,6 @@
 //! That calls keep the rules of ledgers.
 
+ghost use Rattle.avm_laws.specs.Orderly.{EveryCallKeepsOrder, ReplaysKeepOrder, RulesMakeOrderly};
 ghost use Rattle.avm_laws.specs.Rules.{CheckedCallsBringPrograms, EmptyIsSound, EveryCallKeepsTheRules, ReadCallsAreOfBytes, ReadLedgersAreSound, ReplaysKeepTheRules, WritesKeepTheRules};
 
 /// At each step of a call's program the ledger with its own writes keeps the rules: values are within 64 bits and 64 bytes,
@@ -28,4 +29,12 @@ pub fn calls_are_of_bytes()
 /// A call that breaks no rule of calls brings what it has to.
 pub fn checked_calls_bring_programs()
     ensures { CheckedCallsBringPrograms }
+{}
+
+/// Every call keeps a ledger in order and its next id free, whatever the call is, and brings no deleted application
+/// back. A ledger that keeps the rules is such a one.
+pub fn every_call_keeps_order()
+    ensures call { EveryCallKeepsOrder }
+    ensures calls { ReplaysKeepOrder }
+    ensures rules { RulesMakeOrderly }
 {}

@@ -2,7 +2,7 @@
 use Rattle.std.proofs.Common.{◌≡◌, ℕ, suc, ◌-◌, ◌<◌, ◌≤◌, ◌≢◌, max, insert, Bool, true, false, if◌then◌else◌, nat_le, List, [], ◌∷◌, length, drop, get_or, refl, sym, ap, ◌∙◌, subst, arith, le-leb}
 use Rattle.std.specs.List.{AllByRecursion}
 use Rattle.mv_chain.specs.declared.Version.{Version}
-use Rattle.mv_chain.specs.Versions.{count_not_above, IsRising, newest_at, marked_at_index, versions_read_at, versions_with, versions_from}
+use Rattle.mv_chain.specs.Versions.{count_not_above, IsChain, IsRising, newest_at, oldest_timestamp, marked_at_index, versions_read_at, versions_with, versions_from}
 use Rattle.mv_chain.specs.Laws.{IsNewestAt, EveryReadFindsTheNewest, EveryReadMarksItsVersionAlone, EveryInstallIsFound, EveryPruneKeepsReads}
 use Rattle.mv_chain.proofs.Places.{AtMost, within, above, at_most}
 
@@ -49,11 +49,11 @@ module _ {V : Type 0} where
       at_test c (above k) rest = record { held = (0, omega arith, refl); not_above = h; greatest = ((λ below. omega arith), none_greater t v.timestamp (w ∷ ws) (k, rising_above t w.timestamp ws (omega arith) r.1)) }
 
   -- versions from the newest one not above a timestamp on
-  abbrev from : ℕ → Version V → List (Version V) → List (Version V)
+  abbrev pub from : ℕ → Version V → List (Version V) → List (Version V)
   from low v [] = v ∷ []
   from low v (w ∷ ws) = if nat_le w.timestamp low then from low w ws else v ∷ w ∷ ws
 
-  versions_from-from : (low : ℕ) (v : Version V) (ws : List (Version V)) → IsRising v.timestamp ws → versions_from low (v ∷ ws) ≡ from low v ws
+  pub versions_from-from : (low : ℕ) (v : Version V) (ws : List (Version V)) → IsRising v.timestamp ws → versions_from low (v ∷ ws) ≡ from low v ws
   versions_from-from low v [] r = at_test (nat_le v.timestamp low)
     where
       at_test : (c : Bool) → drop ((if c then 1 else 0) - 1) (v ∷ []) ≡ v ∷ []
@@ -68,6 +68,22 @@ module _ {V : Type 0} where
       at_tests b c (within h) (above k) rest = refl
       at_tests b c (above h) (within k) rest = let here : v.timestamp < w.timestamp = r.0 in absurd (omega arith)
       at_tests b c (above h) (above k) rest = refl
+
+  from-chain : (low : ℕ) (v : Version V) (ws : List (Version V)) → IsRising v.timestamp ws → IsChain (from low v ws)
+  from-chain low v [] r = tt
+  from-chain low v (w ∷ ws) r = at_test (nat_le w.timestamp low) (from-chain low w ws r.1)
+    where
+      at_test : (c : Bool) → IsChain (from low w ws) → IsChain (if c then from low w ws else v ∷ w ∷ ws)
+      at_test true rest = rest
+      at_test false rest = r
+
+  from-first : (low : ℕ) (v : Version V) (ws : List (Version V)) → v.timestamp ≤ low → oldest_timestamp (from low v ws) ≤ low
+  from-first low v [] h = h
+  from-first low v (w ∷ ws) h = at_test (nat_le w.timestamp low) (at_most w.timestamp low) (λ k. from-first low w ws k)
+    where
+      at_test : (c : Bool) → AtMost w.timestamp low c → (w.timestamp ≤ low → oldest_timestamp (from low w ws) ≤ low) → oldest_timestamp (if c then from low w ws else v ∷ w ∷ ws) ≤ low
+      at_test c (within k) rest = rest k
+      at_test c (above k) rest = h
 
   from-rest : (low : ℕ) (v : Version V) (ws : List (Version V)) → IsRising v.timestamp ws → AllByRecursion (λ version. low < version.timestamp) (drop 1 (from low v ws))
   from-rest low v [] r = tt
@@ -88,7 +104,7 @@ module _ {V : Type 0} where
           found-next t v w ws below = rw (le-leb w.timestamp t below) refl
       at_test c (above m) rest = newest_at-found t v (w ∷ ws) d k
 
-  found-at_least : (t : ℕ) (v : Version V) (ws : List (Version V)) → IsRising v.timestamp ws → v.timestamp ≤ (found t v ws).timestamp
+  pub found-at_least : (t : ℕ) (v : Version V) (ws : List (Version V)) → IsRising v.timestamp ws → v.timestamp ≤ (found t v ws).timestamp
   found-at_least t v [] r = omega arith
   found-at_least t v (w ∷ ws) r = at_test (nat_le w.timestamp t) (found-at_least t w ws r.1)
     where
@@ -126,14 +142,14 @@ module _ {V : Type 0} where
       at_tests a b c (above i) (above j) (above k) w_is new_is rest = rw new_is (record { found = λ x y. absurd (omega arith); older = λ x. refl; above = λ x. refl })
 
   -- the versions after a read, as the first of them and the others
-  abbrev read_by : ℕ → Version V → Version V
+  abbrev pub read_by : ℕ → Version V → Version V
   read_by r v = record v { mark = max v.mark r }
 
-  abbrev first_read : ℕ → Version V → List (Version V) → Version V
+  abbrev pub first_read : ℕ → Version V → List (Version V) → Version V
   first_read r v [] = read_by r v
   first_read r v (w ∷ ws) = if nat_le w.timestamp r then v else read_by r v
 
-  abbrev others_read : ℕ → Version V → List (Version V) → List (Version V)
+  abbrev pub others_read : ℕ → Version V → List (Version V) → List (Version V)
   others_read r v [] = []
   others_read r v (w ∷ ws) = if nat_le w.timestamp r then first_read r w ws ∷ others_read r w ws else w ∷ ws
 
@@ -145,7 +161,7 @@ module _ {V : Type 0} where
       at_test true = refl
       at_test false = refl
 
-  versions_read_at-first : (r : ℕ) (v : Version V) (ws : List (Version V)) → v.timestamp ≤ r → versions_read_at r (v ∷ ws) ≡ first_read r v ws ∷ others_read r v ws
+  pub versions_read_at-first : (r : ℕ) (v : Version V) (ws : List (Version V)) → v.timestamp ≤ r → versions_read_at r (v ∷ ws) ≡ first_read r v ws ∷ others_read r v ws
   versions_read_at-first r v [] h = rw (le-leb v.timestamp r h) refl
   versions_read_at-first r v (w ∷ ws) h = rw (le-leb v.timestamp r h) (at_test (nat_le w.timestamp r) (at_most w.timestamp r) (λ k. versions_read_at-first r w ws k))
     where
@@ -188,6 +204,8 @@ pub every_prune_keeps_reads_lem : (V : Type 0) → EveryPruneKeepsReads V
 every_prune_keeps_reads_lem V low [] c = absurd c
 every_prune_keeps_reads_lem V low (v ∷ vs) c =
     record {
+      chain = rw (versions_from-from low v vs c) (from-chain low v vs c);
+      first_not_above = λ h. rw (versions_from-from low v vs c) (from-first low v vs h);
       rest_above = rw (versions_from-from low v vs c) (from-rest low v vs c);
       reads = λ t d h k. ap (λ us. newest_at t us d) (versions_from-from low v vs c) ∙ newest_at-from low t v vs d h k ∙ sym (newest_at-found t v vs d k);
     }

@@ -18,6 +18,8 @@ fn each_call_with_ample_memory(rt: HostRuntime) -> Result<(), Fail> {
         })
     );
     assert_eq!(rt; chain.late(2), None);
+    assert_eq!(rt; chain.timestamp_at(9), 0);
+    assert_eq!(rt; chain.mark_of(0), 2);
     chain.reserve()?;
     chain.install(2, 20)?;
     assert_eq!(rt; *chain.read_at(1), 10);
@@ -29,6 +31,12 @@ fn each_call_with_ample_memory(rt: HostRuntime) -> Result<(), Fail> {
     assert_eq!(rt; *chain.read_at(3), 20);
     assert_eq!(rt; *chain.read_at(4), 40);
     assert_eq!(rt; *chain.read_at(5), 50);
+    assert_eq!(rt; chain.timestamp_at(4), 4);
+    assert_eq!(rt; chain.timestamp_at(3), 2);
+    chain.mark(3);
+    assert_eq!(rt; chain.mark_of(2), 3);
+    assert_eq!(rt; chain.mark_of(3), 0);
+    assert_eq!(rt; chain.mark_of(5), 0);
     chain.prune(4);
     assert_eq!(rt; chain.oldest(), 4);
     assert_eq!(rt; chain.count(), 2);

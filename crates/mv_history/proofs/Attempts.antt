@@ -1,6 +1,6 @@
 -- Lists of live attempts, and how many are of a call.
-use Rattle.std.proofs.Common.{◌≡◌, ℕ, ◌+◌, ◌≤◌, ◌≢◌, Bool, true, false, if◌then◌else◌, cond, not, nat_lt, ◌==◌, max, Some, List, [], ◌∷◌, ◌++◌, refl, ap, subst, arith}
-use Rattle.std.specs.List.{AllByRecursion}
+use Rattle.std.proofs.Common.{◌≡◌, ℕ, ◌+◌, ◌≤◌, ◌≢◌, Bool, true, false, if◌then◌else◌, cond, not, nat_lt, ◌==◌, max, None, Some, List, [], ◌∷◌, ◌++◌, refl, sym, ap, ◌∙◌, subst, arith}
+use Rattle.std.specs.List.{AllByRecursion, insert}
 use Rattle.mv_history.specs.History.{Entry, entries_with, commit_count}
 use Rattle.mv_history.specs.World.{Attempt, attempt_at, attempts_without, attempts_with_read, live_count, lowest_live, IsLowerBound}
 use Rattle.mv_history.proofs.Lists.{Equals, equal, unequal, equals, all_map}
@@ -23,12 +23,12 @@ module _ {Item Value : Type 0} where
       at_test c (equal k) rest = rest
       at_test c (unequal k) rest = (k, rest)
 
-  pub all_with_read : (P : Attempt Item Value → Type 0) (t : ℕ) (read : Item × Value) (live : List (Attempt Item Value))
-      → ((a : Attempt Item Value) → a.timestamp ≡ t → P a → P (record a { reads = a.reads ++ read ∷ [] })) → AllByRecursion P live → AllByRecursion P (attempts_with_read t read live)
-  all_with_read P t read [] f h = tt
-  all_with_read P t read (a ∷ as') f h = at_test (a.timestamp == t) (equals a.timestamp t) (all_with_read P t read as' f h.1)
+  pub all_with_read : (P : Attempt Item Value → Type 0) (t place : ℕ) (read : Item × Value) (live : List (Attempt Item Value))
+      → ((a : Attempt Item Value) → a.timestamp ≡ t → P a → P (record a { reads = insert a.reads place read })) → AllByRecursion P live → AllByRecursion P (attempts_with_read t place read live)
+  all_with_read P t place read [] f h = tt
+  all_with_read P t place read (a ∷ as') f h = at_test (a.timestamp == t) (equals a.timestamp t) (all_with_read P t place read as' f h.1)
     where
-      at_test : (c : Bool) → Equals a.timestamp t c → AllByRecursion P (attempts_with_read t read as') → AllByRecursion P (if c then record a { reads = a.reads ++ read ∷ [] } ∷ as' else a ∷ attempts_with_read t read as')
+      at_test : (c : Bool) → Equals a.timestamp t c → AllByRecursion P (attempts_with_read t place read as') → AllByRecursion P (if c then record a { reads = insert a.reads place read } ∷ as' else a ∷ attempts_with_read t place read as')
       at_test c (equal k) rest = (f a k h.0, h.1)
       at_test c (unequal k) rest = (h.0, rest)
 
@@ -54,15 +54,76 @@ module _ {Item Value : Type 0} where
           some_is e = cc
       at_test c (unequal k) e rest = rest e
 
+  pub attempt_at-push : (t : ℕ) (a b : Attempt Item Value) (live : List (Attempt Item Value)) → attempt_at t live ≡ Some a → attempt_at t (live ++ b ∷ []) ≡ Some a
+  attempt_at-push t a b [] h = absurd cc
+  attempt_at-push t a b (c ∷ cs) h = at_test (c.timestamp == t) h (λ e. attempt_at-push t a b cs e)
+    where
+      at_test : (d : Bool) → (if d then Some c else attempt_at t cs) ≡ Some a → (attempt_at t cs ≡ Some a → attempt_at t (cs ++ b ∷ []) ≡ Some a) → (if d then Some c else attempt_at t (cs ++ b ∷ [])) ≡ Some a
+      at_test true e rest = e
+      at_test false e rest = rest e
+
+  pub attempt_at-last : (t : ℕ) (b : Attempt Item Value) (live : List (Attempt Item Value)) → b.timestamp ≡ t → AllByRecursion (λ a. a.timestamp ≢ t) live → attempt_at t (live ++ b ∷ []) ≡ Some b
+  attempt_at-last t b [] e h = at_test (b.timestamp == t) (equals b.timestamp t)
+    where
+      at_test : (d : Bool) → Equals b.timestamp t d → (if d then Some b else None) ≡ Some b
+      at_test d (equal k) = refl
+      at_test d (unequal k) = absurd (k e)
+  attempt_at-last t b (c ∷ cs) e h = at_test (c.timestamp == t) (equals c.timestamp t) (attempt_at-last t b cs e h.1)
+    where
+      at_test : (d : Bool) → Equals c.timestamp t d → attempt_at t (cs ++ b ∷ []) ≡ Some b → (if d then Some c else attempt_at t (cs ++ b ∷ [])) ≡ Some b
+      at_test d (equal k) rest = absurd (h.0 k)
+      at_test d (unequal k) rest = rest
+
+  pub attempt_at-with_read : (t place : ℕ) (read : Item × Value) (a : Attempt Item Value) (live : List (Attempt Item Value)) → attempt_at t live ≡ Some a
+      → attempt_at t (attempts_with_read t place read live) ≡ Some (record a { reads = insert a.reads place read })
+  attempt_at-with_read t place read a [] h = absurd cc
+  attempt_at-with_read t place read a (b ∷ bs) h = at_test (b.timestamp == t) refl h (attempt_at-with_read t place read a bs)
+    where
+      some_is : Some b ≡ Some a → b ≡ a
+      some_is e = cc
+
+      at_test : (c : Bool) → (b.timestamp == t) ≡ c → (if c then Some b else attempt_at t bs) ≡ Some a
+          → (attempt_at t bs ≡ Some a → attempt_at t (attempts_with_read t place read bs) ≡ Some (record a { reads = insert a.reads place read }))
+          → attempt_at t (if c then record b { reads = insert b.reads place read } ∷ bs else b ∷ attempts_with_read t place read bs) ≡ Some (record a { reads = insert a.reads place read })
+      at_test true same is rest =
+          ap (λ c. if c then Some (record b { reads = insert b.reads place read }) else attempt_at t bs) same ∙ ap (λ (x : Attempt Item Value). Some (record x { reads = insert x.reads place read })) (some_is is)
+      at_test false other is rest = ap (λ c. if c then Some b else attempt_at t (attempts_with_read t place read bs)) other ∙ rest is
+
+  pub attempt_at-other_read : (s t place : ℕ) (read : Item × Value) (live : List (Attempt Item Value)) → s ≢ t → attempt_at s (attempts_with_read t place read live) ≡ attempt_at s live
+  attempt_at-other_read s t place read [] other = refl
+  attempt_at-other_read s t place read (b ∷ bs) other = at_test (b.timestamp == t) (equals b.timestamp t) (attempt_at-other_read s t place read bs other)
+    where
+      at_same : b.timestamp ≡ t → (c : Bool) → Equals b.timestamp s c → (if c then Some (record b { reads = insert b.reads place read }) else attempt_at s bs) ≡ (if c then Some b else attempt_at s bs)
+      at_same e c (equal k) = absurd (other (sym k ∙ e))
+      at_same e c (unequal k) = refl
+
+      at_test : (c : Bool) → Equals b.timestamp t c → attempt_at s (attempts_with_read t place read bs) ≡ attempt_at s bs
+          → attempt_at s (if c then record b { reads = insert b.reads place read } ∷ bs else b ∷ attempts_with_read t place read bs) ≡ attempt_at s (b ∷ bs)
+      at_test c (equal k) rest = at_same k (b.timestamp == s) (equals b.timestamp s)
+      at_test c (unequal k) rest = ap (λ o. if b.timestamp == s then Some b else o) rest
+
+  pub attempt_at-without : (s t : ℕ) (live : List (Attempt Item Value)) → s ≢ t → attempt_at s (attempts_without t live) ≡ attempt_at s live
+  attempt_at-without s t [] other = refl
+  attempt_at-without s t (b ∷ bs) other = at_test (b.timestamp == t) (equals b.timestamp t) (attempt_at-without s t bs other)
+    where
+      passed : b.timestamp ≡ t → (c : Bool) → Equals b.timestamp s c → attempt_at s bs ≡ (if c then Some b else attempt_at s bs)
+      passed e c (equal k) = absurd (other (sym k ∙ e))
+      passed e c (unequal k) = refl
+
+      at_test : (c : Bool) → Equals b.timestamp t c → attempt_at s (attempts_without t bs) ≡ attempt_at s bs
+          → attempt_at s (cond (not c) (b ∷ attempts_without t bs) (attempts_without t bs)) ≡ attempt_at s (b ∷ bs)
+      at_test c (equal k) rest = rest ∙ passed k (b.timestamp == s) (equals b.timestamp s)
+      at_test c (unequal k) rest = ap (λ o. if b.timestamp == s then Some b else o) rest
+
   pub live_count-push : (n : ℕ) (a : Attempt Item Value) (live : List (Attempt Item Value)) → live_count n (live ++ a ∷ []) ≡ live_count n live + (if a.number == n then 1 else 0)
   live_count-push n a [] = omega arith
   live_count-push n a (b ∷ bs) = omega (arith, live_count-push n a bs)
 
-  pub live_count-with_read : (n t : ℕ) (read : Item × Value) (live : List (Attempt Item Value)) → live_count n (attempts_with_read t read live) ≡ live_count n live
-  live_count-with_read n t read [] = refl
-  live_count-with_read n t read (a ∷ as') = at_test (a.timestamp == t) (live_count-with_read n t read as')
+  pub live_count-with_read : (n t place : ℕ) (read : Item × Value) (live : List (Attempt Item Value)) → live_count n (attempts_with_read t place read live) ≡ live_count n live
+  live_count-with_read n t place read [] = refl
+  live_count-with_read n t place read (a ∷ as') = at_test (a.timestamp == t) (live_count-with_read n t place read as')
     where
-      at_test : (c : Bool) → live_count n (attempts_with_read t read as') ≡ live_count n as' → live_count n (if c then record a { reads = a.reads ++ read ∷ [] } ∷ as' else a ∷ attempts_with_read t read as') ≡ live_count n (a ∷ as')
+      at_test : (c : Bool) → live_count n (attempts_with_read t place read as') ≡ live_count n as' → live_count n (if c then record a { reads = insert a.reads place read } ∷ as' else a ∷ attempts_with_read t place read as') ≡ live_count n (a ∷ as')
       at_test true rest = refl
       at_test false rest = ap (λ k. (if a.number == n then 1 else 0) + k) rest
 

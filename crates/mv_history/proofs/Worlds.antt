@@ -1,9 +1,10 @@
 -- The facts hold in every world that events lead to, and make it serial.
 use Rattle.std.proofs.Common.{◌≡◌, ℕ, suc, inl, inr, ◌≤◌, Bool, true, false, if◌then◌else◌, ◌&&◌, ◌==◌, min, max, Some, List, [], ◌∷◌, ◌++◌, refl, sym, ap, ◌∙◌, subst, arith}
 use Rattle.mv_history.specs.History.{Entry, Meaning, IsEquality, Agrees, state_after, entries_below, state_below, version_below}
-use Rattle.mv_history.specs.World.{World, Attempt, Mark, greatest_mark, attempt_at, attempts_with_read, low_after_prune, Event, Begin, Read, Commit, Abandon, Prune, Applies, after_event, AllApply, after_events, first_world, IsReachable}
+use Rattle.mv_history.specs.World.{World, Attempt, Mark, greatest_mark, KeepsNeededMarks, attempt_at, attempts_with_read, low_after_prune, Event, Begin, Read, Commit, Abandon, Prune, Applies, after_event, AllApply, after_events, first_world, IsReachable}
 use Rattle.mv_history.specs.Schedule.{IsSchedule, IsConsistent, IsConsistentWorld}
 use Rattle.mv_history.specs.Laws.{EveryEventLeadsOn, EveryPruneApplies, EveryListingOfMarksServes}
+use Rattle.mv_history.specs.Facts.{EveryConsistentWorldIsSerial, EveryReachableWorldIsConsistent, NoMarkIsAboveTheClock}
 use Rattle.mv_history.specs.Serial.{IsSerial, EveryInterleavingIsSerial}
 use Rattle.mv_history.proofs.Lists.{Equals, equal, unequal, equals, all_map}
 use Rattle.mv_history.proofs.Replay.{ReplaysProperly, replays, replayed_state, proper_below, all_below}
@@ -49,13 +50,13 @@ module _ {Item : Type 0} (same : Item → Item → Bool) where
 
 module _ {Item Value Outcome : Type 0} (same : Item → Item → Bool) (Proper : (Item → Value) → Type 0) (means : Meaning Item Value Outcome) (base : Item → Value) where
   -- Read, where marks are a list; `found` is the version below the next timestamp
-  pub schedule_after_marked_read : ((x : Item) → same x x ≡ true) → (clock low t : ℕ) (x : Item) (found : ℕ × Value) (es : List (Entry Item Value Outcome)) (marks : List (Mark Item)) (live : List (Attempt Item Value)) (a : Attempt Item Value)
+  pub schedule_after_marked_read : ((x : Item) → same x x ≡ true) → (clock low t place : ℕ) (x : Item) (found : ℕ × Value) (es : List (Entry Item Value Outcome)) (marks : List (Mark Item)) (live : List (Attempt Item Value)) (a : Attempt Item Value)
       → attempt_at t live ≡ Some a → version_below same base es (suc t) x ≡ found
       → IsSchedule same base (greatest_mark same marks) clock low es live
-      → IsSchedule same base (greatest_mark same (marks ++ record { item = x; version = found.0; reader = t } ∷ [])) clock low es (attempts_with_read t (x, found.1) live)
-  schedule_after_marked_read itself clock low t x found es marks live a is_live is_found k =
-      subst (λ v. IsSchedule same base (greatest_mark same (marks ++ record { item = x; version = v.0; reader = t } ∷ [])) clock low es (attempts_with_read t (x, v.1) live)) is_found
-      (schedule_after_read same base (greatest_mark same marks) (greatest_mark same (marks ++ record { item = x; version = (version_below same base es (suc t) x).0; reader = t } ∷ [])) clock low t x es live a is_live
+      → IsSchedule same base (greatest_mark same (marks ++ record { item = x; version = found.0; reader = t } ∷ [])) clock low es (attempts_with_read t place (x, found.1) live)
+  schedule_after_marked_read itself clock low t place x found es marks live a is_live is_found k =
+      subst (λ v. IsSchedule same base (greatest_mark same (marks ++ record { item = x; version = v.0; reader = t } ∷ [])) clock low es (attempts_with_read t place (x, v.1) live)) is_found
+      (schedule_after_read same base (greatest_mark same marks) (greatest_mark same (marks ++ record { item = x; version = (version_below same base es (suc t) x).0; reader = t } ∷ [])) clock low t place x es live a is_live
       (marks_more same (record { item = x; version = (version_below same base es (suc t) x).0; reader = t }) marks)
       (marks_not_more same (record { item = x; version = (version_below same base es (suc t) x).0; reader = t }) marks)
       (is_marked same itself marks x (version_below same base es (suc t) x).0 t)
@@ -68,8 +69,8 @@ module _ {Item Value Outcome : Type 0} (same : Item → Item → Bool) (Proper :
       → IsConsistentWorld same Proper means base w → IsConsistentWorld same Proper means base (after_event same base w event)
   consistent_after_event equality w (Begin number) applies k =
       record { journal = k.journal; schedule = schedule_after_begin same base (greatest_mark same w.marks) w.clock w.low number w.entries w.live applies.0 applies.1 k.schedule }
-  consistent_after_event equality w (Read t x) applies k =
-      record { journal = k.journal; schedule = schedule_after_marked_read equality.itself w.clock w.low t x (version_below same base w.entries (suc t) x) w.entries w.marks w.live applies.0 applies.1 refl k.schedule }
+  consistent_after_event equality w (Read t place x) applies k =
+      record { journal = k.journal; schedule = schedule_after_marked_read equality.itself w.clock w.low t place x (version_below same base w.entries (suc t) x) w.entries w.marks w.live applies.0 applies.1 refl k.schedule }
   consistent_after_event equality w (Commit e) applies k =
       consistent_after_commit same Proper means base equality.exact (greatest_mark same w.marks) w.clock w.low w.entries w.live applies.0 e applies.1 applies.2 applies.3 k
   consistent_after_event equality w (Abandon t) applies k =
@@ -117,23 +118,24 @@ module _ {Item Value Outcome : Type 0} (same : Item → Item → Bool) (Proper :
   reachable_first = record { events = []; apply = tt; leads_here = refl }
 
   -- one more event
+  pub after_events-push : (events : List (Event Item Value Outcome)) (event : Event Item Value Outcome) (w : World Item Value Outcome)
+      → after_events same base w (events ++ event ∷ []) ≡ after_event same base (after_events same base w events) event
+  after_events-push [] event w = refl
+  after_events-push (e ∷ events) event w = after_events-push events event (after_event same base w e)
+
+  pub all_apply-push : (events : List (Event Item Value Outcome)) (event : Event Item Value Outcome) (w : World Item Value Outcome) → AllApply same Proper means base w events
+      → Applies same Proper means base (after_events same base w events) event → AllApply same Proper means base w (events ++ event ∷ [])
+  all_apply-push [] event w h last = (last, tt)
+  all_apply-push (e ∷ events) event w h last = (h.0, all_apply-push events event (after_event same base w e) h.1 last)
+
   pub reachable_after : (w : World Item Value Outcome) (event : Event Item Value Outcome) → Applies same Proper means base w event
       → IsReachable same Proper means base w → IsReachable same Proper means base (after_event same base w event)
   reachable_after w event applies r =
       record {
         events = r.events ++ event ∷ [];
-        apply = apply_push r.events first_world r.apply (subst (λ v. Applies same Proper means base v event) (sym r.leads_here) applies);
-        leads_here = after_push r.events first_world ∙ ap (λ v. after_event same base v event) r.leads_here;
+        apply = all_apply-push r.events event first_world r.apply (subst (λ v. Applies same Proper means base v event) (sym r.leads_here) applies);
+        leads_here = after_events-push r.events event first_world ∙ ap (λ v. after_event same base v event) r.leads_here;
       }
-    where
-      after_push : (events : List (Event Item Value Outcome)) (v : World Item Value Outcome) → after_events same base v (events ++ event ∷ []) ≡ after_event same base (after_events same base v events) event
-      after_push [] v = refl
-      after_push (e ∷ events) v = after_push events (after_event same base v e)
-
-      apply_push : (events : List (Event Item Value Outcome)) (v : World Item Value Outcome) → AllApply same Proper means base v events → Applies same Proper means base (after_events same base v events) event
-          → AllApply same Proper means base v (events ++ event ∷ [])
-      apply_push [] v h last = (last, tt)
-      apply_push (e ∷ events) v h last = (h.0, apply_push events (after_event same base v e) h.1 last)
 
 pub every_interleaving_is_serial_lem : (Item Value Outcome : Type 0) (Proper : (Item → Value) → Type 0) → EveryInterleavingIsSerial Item Value Outcome Proper
 every_interleaving_is_serial_lem Item Value Outcome Proper same equality means base proper w reachable =
@@ -147,9 +149,18 @@ every_prune_applies_lem Item Value Outcome Proper same means base w t = record {
 
 -- another list of marks is what a prune at 0 leaves
 pub every_listing_of_marks_serves_lem : (Item Value Outcome : Type 0) (Proper : (Item → Value) → Type 0) → EveryListingOfMarksServes Item Value Outcome Proper
-every_listing_of_marks_serves_lem Item Value Outcome Proper same means base w reachable marks same_marks =
+every_listing_of_marks_serves_lem Item Value Outcome Proper same means base w reachable marks kept =
     subst (λ low. IsReachable same Proper means base (record w { low = low; marks = marks })) low_stays
-    (reachable_after same Proper means base w (Prune 0 marks) (record { kept_or_dropped = λ x version. inl (same_marks x version); needed = λ x t above. same_marks x (version_below same base w.entries (suc t) x).0 }) reachable)
+    (reachable_after same Proper means base w (Prune 0 marks) (subst (λ low. KeepsNeededMarks same base low w.entries w.marks marks) (sym low_stays) kept) reachable)
   where
     low_stays : low_after_prune w 0 ≡ w.low
     low_stays = omega (arith, lowest_live-at_most (min 0 w.clock) w.live)
+
+pub every_consistent_world_is_serial_lem : (Item Value Outcome : Type 0) (Proper : (Item → Value) → Type 0) → EveryConsistentWorldIsSerial Item Value Outcome Proper
+every_consistent_world_is_serial_lem Item Value Outcome Proper same means base proper mark w k = serial same Proper means base mark w proper k
+
+pub every_reachable_world_is_consistent_lem : (Item Value Outcome : Type 0) (Proper : (Item → Value) → Type 0) → EveryReachableWorldIsConsistent Item Value Outcome Proper
+every_reachable_world_is_consistent_lem Item Value Outcome Proper same equality means base w reachable = consistent same Proper means base equality w reachable
+
+pub no_mark_is_above_the_clock_lem : (Item Value Outcome : Type 0) (Proper : (Item → Value) → Type 0) → NoMarkIsAboveTheClock Item Value Outcome Proper
+no_mark_is_above_the_clock_lem Item Value Outcome Proper same equality means base w reachable = (consistent same Proper means base equality w reachable).schedule.marks_past

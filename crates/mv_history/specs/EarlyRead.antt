@@ -38,14 +38,14 @@ absence = record { timestamp = 2; number = 2; outcome = 0; reads = (Application 
 
 -- call 2 reads and commits before call 1 reads which application is next
 abbrev pub reads_first : List (Event Item ℕ ℕ)
-reads_first = Begin 1 ∷ Begin 2 ∷ Read 2 (Application 2) ∷ Commit absence ∷ Read 1 Next ∷ []
+reads_first = Begin 1 ∷ Begin 2 ∷ Read 2 0 (Application 2) ∷ Commit absence ∷ Read 1 0 Next ∷ []
 
 -- what call 1 commits at a timestamp
 abbrev pub creation_at : ℕ → Entry Item ℕ ℕ
 creation_at timestamp = record { timestamp = timestamp; number = 1; outcome = 2; reads = (Next, 2) ∷ []; writes = (Next, 3) ∷ (Application 2, 1) ∷ [] }
 
 abbrev pub events : List (Event Item ℕ ℕ)
-events = reads_first ++ (Abandon 1 ∷ Begin 1 ∷ Read 3 Next ∷ Commit (creation_at 3) ∷ [])
+events = reads_first ++ (Abandon 1 ∷ Begin 1 ∷ Read 3 0 Next ∷ Commit (creation_at 3) ∷ [])
 
 abbrev pub world_after : List (Event Item ℕ ℕ) → World Item ℕ ℕ
 world_after events = after_events same base first_world events

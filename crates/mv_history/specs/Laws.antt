@@ -3,7 +3,7 @@ use Rattle.std.specs.Prelude.{◌≡◌, ℕ, suc, ◌+◌, ◌<◌, ◌≤◌, 
 use Rattle.std.specs.Map.{lookup}
 use Rattle.std.specs.List.{AllByRecursion}
 use Rattle.mv_history.specs.History.{Entry, Meaning, IsEquality, IsRising, version_below, entries_with}
-use Rattle.mv_history.specs.World.{World, Mark, greatest_mark, IsInTime, Event, Begin, Read, Commit, Abandon, Prune, first_world, AllApply, after_events, IsReachable, Applies, after_event}
+use Rattle.mv_history.specs.World.{World, Mark, greatest_mark, KeepsNeededMarks, IsInTime, Event, Begin, Read, Commit, Abandon, Prune, first_world, AllApply, after_events, IsReachable, Applies, after_event}
 use Rattle.mv_history.specs.Serial.{IsSerial}
 
 -- an entry below a timestamp wrote this version of the item
@@ -80,11 +80,11 @@ EveryPruneApplies Item Value Outcome Proper =
     (same : Item → Item → Bool) (means : Meaning Item Value Outcome) (base : Item → Value) (w : World Item Value Outcome) (t : ℕ)
     → Applies same Proper means base w (Prune t w.marks)
 
--- how marks are listed is free: another list with the same greatest marks serves as well
+-- how marks are listed is free, and those that no one from the low mark on asks for may be missing
 abbrev pub EveryListingOfMarksServes : (Item Value Outcome : Type 0) → ((Item → Value) → Type 0) → Type 0
 EveryListingOfMarksServes Item Value Outcome Proper =
     (same : Item → Item → Bool) (means : Meaning Item Value Outcome) (base : Item → Value) (w : World Item Value Outcome) → IsReachable same Proper means base w
-    → (marks : List (Mark Item)) → ((x : Item) (version : ℕ) → greatest_mark same marks x version ≡ greatest_mark same w.marks x version)
+    → (marks : List (Mark Item)) → KeepsNeededMarks same base w.low w.entries w.marks marks
     → IsReachable same Proper means base (record w { marks = marks })
 
 -- the clock is the last timestamp given
@@ -119,7 +119,7 @@ pub data Worker : Type 0 where
 abbrev pub RunsEachCall : {Item Value Outcome : Type 0} → Worker → List (Event Item Value Outcome) → Type 0
 RunsEachCall worker [] = Unit {0}
 RunsEachCall Idle (Begin number ∷ events) = RunsEachCall Busy events
-RunsEachCall Busy (Read t x ∷ events) = RunsEachCall Busy events
+RunsEachCall Busy (Read t place x ∷ events) = RunsEachCall Busy events
 RunsEachCall Busy (Commit e ∷ events) = RunsEachCall Idle events
 RunsEachCall worker (Prune t marks ∷ events) = RunsEachCall worker events
 RunsEachCall worker (event ∷ events) = ⊥

@@ -5,9 +5,9 @@ use Rattle.mv_history.specs.History.{Entry, Meaning, Agrees, version_below, stat
 use Rattle.mv_history.specs.World.{Attempt, World, greatest_mark, live_count, IsLowerBound}
 use Rattle.mv_history.specs.Journal.{IsJournal}
 
--- the versions that were read at a timestamp are marked, unless the low mark lets no commit come below it any more
-abbrev pub AreMarked : {Item Value Outcome : Type 0} → (Item → Item → Bool) → (Item → Value) → (Item → ℕ → ℕ) → ℕ → List (Entry Item Value Outcome) → ℕ → List (Item × Value) → Type 0
-AreMarked same base mark low es t reads = low < t → AllByRecursion (λ read. t ≤ mark read.0 (version_below same base es t read.0).0) reads
+-- the versions that were read at a timestamp are marked
+abbrev pub AreMarked : {Item Value Outcome : Type 0} → (Item → Item → Bool) → (Item → Value) → (Item → ℕ → ℕ) → List (Entry Item Value Outcome) → ℕ → List (Item × Value) → Type 0
+AreMarked same base mark es t reads = AllByRecursion (λ read. t ≤ mark read.0 (version_below same base es t read.0).0) reads
 
 -- The facts of marks and live attempts. `mark` gives the greatest mark of each version of an item, however marks
 -- are kept.
@@ -21,8 +21,9 @@ pub record IsSchedule {Item Value Outcome : Type 0} (same : Item → Item → Bo
   pub low_live : IsLowerBound low live
   -- a live attempt has read what the entries below it leave
   pub live_agree : AllByRecursion (λ a. Agrees a.reads (state_below same base es a.timestamp)) live
-  pub live_marked : AllByRecursion (λ a. AreMarked same base mark low es a.timestamp a.reads) live
-  pub entries_marked : AllByRecursion (λ e. AreMarked same base mark low es e.timestamp e.reads) es
+  pub live_marked : AllByRecursion (λ a. AreMarked same base mark es a.timestamp a.reads) live
+  -- the marks of an entry's reads, unless the low mark lets no commit come below the entry any more
+  pub entries_marked : AllByRecursion (λ e. low < e.timestamp → AreMarked same base mark es e.timestamp e.reads) es
   -- no call is committed twice, live twice, or both
   pub once : (number : ℕ) → commit_count number es + live_count number live ≤ 1
 

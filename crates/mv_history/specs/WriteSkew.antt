@@ -27,7 +27,7 @@ base x = 0
 
 -- both calls read both items
 abbrev pub reads_first : List (Event Account ℕ ℕ)
-reads_first = Begin 1 ∷ Read 1 X ∷ Read 1 Y ∷ Begin 2 ∷ Read 2 X ∷ Read 2 Y ∷ []
+reads_first = Begin 1 ∷ Read 1 0 X ∷ Read 1 1 Y ∷ Begin 2 ∷ Read 2 0 X ∷ Read 2 1 Y ∷ []
 
 -- call 1 would commit on what it read first; call 2 does; then call 1 does on what it reads again
 abbrev pub late_entry : Entry Account ℕ ℕ
@@ -40,7 +40,7 @@ abbrev pub first_entry : Entry Account ℕ ℕ
 first_entry = record { timestamp = 3; number = 1; outcome = 2; reads = (X, 0) ∷ (Y, 1) ∷ []; writes = (X, 2) ∷ [] }
 
 abbrev pub events : List (Event Account ℕ ℕ)
-events = reads_first ++ (Abandon 1 ∷ Commit second_entry ∷ Begin 1 ∷ Read 3 X ∷ Read 3 Y ∷ Commit first_entry ∷ [])
+events = reads_first ++ (Abandon 1 ∷ Commit second_entry ∷ Begin 1 ∷ Read 3 0 X ∷ Read 3 1 Y ∷ Commit first_entry ∷ [])
 
 abbrev pub world_after : List (Event Account ℕ ℕ) → World Account ℕ ℕ
 world_after events = after_events same base first_world events

@@ -1,5 +1,5 @@
 -- From room that was made to places that can be written.
-use Rattle.std.proofs.Common.{◌≡◌, ◌≢◌, ℕ, ◌≤◌, List, [], ◌∷◌, Option, Some, get_or, sym, ap, ◌∙◌, subst}
+use Rattle.std.proofs.Common.{◌≡◌, ◌≢◌, ℕ, ◌≤◌, [], ◌∷◌, Some, sym, ap, ◌∙◌, subst}
 use Rattle.std.specs.Prelude.{IsSome}
 use Rattle.std.specs.List.{AllByRecursion}
 use Rattle.avm_items.specs.declared.item.Item.{Item}
@@ -7,8 +7,8 @@ use Rattle.avm_items.specs.declared.item_value.ItemValue.{ItemValue}
 use Rattle.avm_items.specs.Items.{ItemMap}
 use Rattle.mv_chain.specs.Versions.{Versions, oldest_timestamp}
 use Rattle.mv_shards.specs.Indexes.{shard_of}
-use Rattle.mv_shards.specs.Chains.{AreChains, ChainMap, HasPlace, HasRoom, IsGrown, IsReadable, chain_in, list_or, versions_of}
-use Rattle.mv_shards.specs.Writing.{AreGrown, AreMarkedAt, AreWrittenParts, HasPlaceIn, IsReadableIn, Parts, chains_at, chains_for, first_at, versions_written}
+use Rattle.mv_shards.specs.Chains.{AreChains, ChainMap, HasPlace, HasRoom, IsGrown, chain_in, list_or, versions_of}
+use Rattle.mv_shards.specs.Writing.{AreGrown, AreMarkedAt, HasPlaceIn, IsReadableIn, Parts, chains_at, chains_for, first_at}
 use Rattle.mv_shards.proofs.FirstReads.{readable_of}
 
 here : {V : Type 0} (first : Item → V) (map : ChainMap V) (x : Item) (c : Versions V) → chain_in map x ≡ Some c → versions_of first map x ≡ c.list

@@ -1,5 +1,5 @@
 -- The first read of an item, as a change of what is seen.
-use Rattle.std.proofs.Common.{◌≡◌, ℕ, ◌<◌, ◌≤◌, None, List, Bool, true, false, cond, Some, Option, refl, sym, ap, ◌∙◌, subst}
+use Rattle.std.proofs.Common.{◌≡◌, ℕ, ◌<◌, ◌≤◌, None, List, Bool, true, false, cond, Some, refl, sym, ap, ◌∙◌, subst}
 use Rattle.std.specs.Prelude.{if◌then◌else◌, IsSome}
 use Rattle.std.specs.Ordering.{is_eq}
 use Rattle.std.specs.Map.{lookup}
@@ -14,7 +14,7 @@ use Rattle.avm_items.proofs.Puts.{item_same, item_total}
 use Rattle.mv_chain.specs.declared.Version.{Version}
 use Rattle.mv_chain.specs.Versions.{newest_at, oldest_timestamp, versions_read_at}
 use Rattle.mv_shards.specs.Attempts.{CallAttempt}
-use Rattle.mv_shards.specs.Chains.{AreChains, ChainMap, IsReadable, chain_in, first_version, is_untouched, list_or, touched, versions_in, versions_of, versions_or, with_versions}
+use Rattle.mv_shards.specs.Chains.{AreChains, ChainMap, IsReadable, chain_in, is_untouched, list_or, touched, versions_in, versions_of, versions_or, with_versions}
 use Rattle.mv_shards.specs.Shards.{IsFirstRead, IsMarkedRead, Shard}
 use Rattle.mv_shards.proofs.Touched.{found_inserted, found_touched, marked_touched, sorted_touched, touched_or}
 use Rattle.mv_shards.proofs.OneChain.{some_of}

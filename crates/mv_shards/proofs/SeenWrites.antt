@@ -1,24 +1,19 @@
 -- What a commit writes in parts, as a change of what is seen of them.
 use Rattle.std.proofs.Common.{◌≡◌, ◌≢◌, ◌≤◌, ◌<◌, ℕ, zero, suc, List, [], ◌∷◌, length, Option, None, Some, get_or, refl, sym, ap, ◌∙◌, subst, arith}
-use Rattle.std.specs.Prelude.{IsSome, map}
+use Rattle.std.specs.Prelude.{IsSome}
 use Rattle.std.specs.Arc.{arc_value}
 use Rattle.std.specs.List.{AllByRecursion}
-use Rattle.avm_ledger.specs.Ledgers.{Ledger}
 use Rattle.avm_items.specs.declared.item.Item.{Item}
 use Rattle.avm_items.specs.declared.item_value.ItemValue.{ItemValue}
-use Rattle.avm_items.specs.declared.item_value.ItemValue.TheVariants.{Absent}
 use Rattle.avm_items.specs.Items.{ItemMap}
 use Rattle.avm_items.specs.LedgerItems.{at}
-use Rattle.mv_chain.specs.declared.Version.{Version}
 use Rattle.mv_shards.specs.declared.part.Part.{Part}
 use Rattle.mv_shards.specs.Indexes.{shard_count, shard_of}
 use Rattle.mv_shards.specs.Chains.{AreChains, ChainMap, touched, versions_of}
-use Rattle.mv_shards.specs.Shards.{IsPart, Shard, seen, versions_held}
-use Rattle.mv_shards.specs.Helds.{AreAtPlaces, AreHeld, IsAt, IsHeld, IsHeldIn, Places, seen_all, seen_or_none}
-use Rattle.mv_shards.specs.Writing.{AreAbsent, AreGrown, AreLow, AreWritten, AreWrittenParts, Frame, IsLowAt, IsWrittenPlace, IsWrittenShard, Parts, chains_at, chains_for, chains_or, first_at, first_or, frame_at, frame_or, versions_for, versions_or_none, versions_written}
+use Rattle.mv_shards.specs.Helds.{AreAtPlaces, AreHeld, IsAt, IsHeld, IsHeldIn, seen_all, seen_or_none}
+use Rattle.mv_shards.specs.Writing.{AreAbsent, AreGrown, AreLow, AreWritten, AreWrittenParts, Frame, IsLowAt, IsWrittenPlace, Parts, chains_at, chains_for, chains_or, first_at, first_or, frame_or, versions_or_none, versions_written}
 use Rattle.mv_shards.proofs.FirstReads.{versions_touched}
 use Rattle.mv_shards.proofs.Places.{seen_at}
-use Rattle.mv_shards.proofs.Rooms.{some_same}
 
 -- ---- lists of places
 
@@ -91,11 +86,13 @@ kept_at i (Some p) (Some q) same is kept =
     let f = some_frame same in
     let index : q.index ≡ p.index = ap (λ (g : Frame). g.index) f in
     let low : q.low ≡ p.low = ap (λ (g : Frame). g.low) f in
-    let base : arc_value q.base ≡ arc_value p.base = ap (λ (g : Frame). g.base) f in
-    (index ∙ is.0, record {
-      within = subst (λ n. n < shard_count) (sym index) is.1.within;
-      chains = subst (λ b. AreChains (at b) q.low q.chains.entries) (sym base) (subst (λ n. AreChains (at (arc_value p.base)) n q.chains.entries) (sym low) (kept p.low refl is.1.chains));
-    })
+    let base : arc_value q.base ≡ arc_value p.base = ap (λ (g : Frame). g.base) f in (
+      index ∙ is.0,
+      record {
+        within = subst (λ n. n < shard_count) (sym index) is.1.within;
+        chains = subst (λ b. AreChains (at b) q.low q.chains.entries) (sym base) (subst (λ n. AreChains (at (arc_value p.base)) n q.chains.entries) (sym low) (kept p.low refl is.1.chains));
+      },
+    )
 
 low_held : (t : ℕ) (o : Option Part) → IsLowAt t (seen_or_none o) → low_or o ≤ t
 low_held t None h = omega arith

@@ -1,5 +1,5 @@
 -- One part changed at its place: what holds of each place afterwards.
-use Rattle.std.proofs.Common.{◌≡◌, ◌≢◌, ◌<◌, ℕ, zero, suc, Bool, true, false, ◌==◌, List, [], ◌∷◌, length, get_or, Option, None, Some, refl, sym, ap, ◌∙◌, subst, arith}
+use Rattle.std.proofs.Common.{◌≡◌, ◌≢◌, ℕ, zero, suc, Bool, ◌==◌, List, [], ◌∷◌, get_or, Option, None, Some, refl, sym, ap, ◌∙◌, subst}
 use Rattle.std.specs.Prelude.{set}
 use Rattle.std.proofs.lemmas.List.{get_or-set_other, length-set}
 use Rattle.avm_items.specs.declared.item.Item.{Item}
@@ -8,7 +8,7 @@ use Rattle.mv_history.proofs.Lists.{Equals, equal, unequal, equals}
 use Rattle.mv_shards.specs.declared.part.Part.{Part}
 use Rattle.mv_shards.specs.Chains.{ChainMap, IsGrown, IsRoomier}
 use Rattle.mv_shards.specs.Indexes.{shard_of}
-use Rattle.mv_shards.specs.Writing.{AreGrown, AreRoomier, Parts, chains_at, chains_for, chains_or, first_at, first_or, frame_at, frame_or}
+use Rattle.mv_shards.specs.Writing.{AreGrown, AreRoomier, Parts, chains_at, chains_for, chains_or, first_at, first_or, frame_or}
 use Rattle.mv_shards.proofs.OneChain.{grown_itself, roomier_itself}
 
 pub set_here : {A : Type 0} (xs : List (Option A)) (i : ℕ) (x y : A) → get_or xs i None ≡ Some x → get_or (set xs i (Some y)) i None ≡ Some y

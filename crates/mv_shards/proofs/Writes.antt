@@ -1,5 +1,5 @@
 -- Many items marked, and many written, one after another, in the shards that are held.
-use Rattle.std.proofs.Common.{◌≤◌, ◌≡◌, ◌≢◌, ℕ, ◌==◌, Bool, true, false, List, [], ◌∷◌, Option, None, Some, get_or, length, refl, sym, ap, ◌∙◌, subst}
+use Rattle.std.proofs.Common.{◌≤◌, ◌≡◌, ℕ, ◌==◌, Bool, true, false, [], ◌∷◌, None, Some, get_or, length, refl, sym, ap, ◌∙◌, subst}
 use Rattle.std.specs.Prelude.{if◌then◌else◌, set}
 use Rattle.std.specs.Ordering.{is_eq}
 use Rattle.std.specs.Cmp.{tied_itself}
@@ -11,12 +11,12 @@ use Rattle.std.proofs.lemmas.List.{length-set}
 use Rattle.avm_ledger.proofs.Maps.{is_Equal}
 use Rattle.avm_items.specs.declared.item.Item.{Item}
 use Rattle.avm_items.specs.declared.item_value.ItemValue.{ItemValue}
-use Rattle.avm_items.specs.Items.{IsInItemOrder, ItemMap, item_cmp}
+use Rattle.avm_items.specs.Items.{ItemMap, item_cmp}
 use Rattle.avm_items.proofs.Puts.{item_same, item_total}
 use Rattle.mv_history.proofs.Lists.{Equals, equal, unequal, equals}
 use Rattle.mv_shards.specs.declared.part.Part.{Part}
 use Rattle.mv_shards.specs.Indexes.{shard_of}
-use Rattle.mv_shards.specs.Chains.{AllVersions, AreChains, ChainMap, HasPlace, IsInstalled, IsMarked, IsReadable, chain_in, one_marked, one_installed, versions_of}
+use Rattle.mv_shards.specs.Chains.{AreChains, ChainMap, HasPlace, IsInstalled, IsMarked, chain_in, one_marked, one_installed, versions_of}
 use Rattle.mv_shards.specs.Writing.{AreGrown, AreInstalledAt, AreMarkedAt, AreReady, AreWrittenParts, HasPlaceIn, IsInstalledItem, IsInstalledMap, IsMarkedItem, IsMarkedMap, IsReadableIn, Parts, chains_at, first_at, frame_at, frame_or, versions_installed, versions_marked}
 use Rattle.mv_shards.proofs.Steps.{alike_at, related_at}
 

@@ -1,5 +1,5 @@
 -- Shards that are held together, each at the place of its index.
-use Rattle.std.specs.Prelude.{◌≡◌, ℕ, suc, ◌<◌, ◌≤◌, ◌⊎◌, List, [], ◌∷◌, length, map, get_or, set, Option, None, Some, IsSome}
+use Rattle.std.specs.Prelude.{◌≡◌, ℕ, suc, ◌≤◌, ◌⊎◌, List, length, map, get_or, set, Option, None, Some, IsSome}
 use Rattle.std.specs.List.{AllByRecursion}
 use Rattle.avm_items.specs.Items.{ItemMap}
 use Rattle.avm_items.specs.declared.item.Item.{Item}

@@ -4,4 +4,4 @@ use Rattle.mv_chain.proofs.drop_older.Goals as goal
 
 pub returns-then-place-gt1-clause-chain : goal.returns-then-place-gt1-clause-chain
 returns-then-place-gt1-clause-chain g c =
-    rw c.drop_front.ensures (drop-chain (c.count_to-place.result - 1) c.args.versions.now.items (omega (arith, c.count_to-place.ensures.within, c.deref.ensures.len)) c.requires)
+    rw c.drop_front.ensures.items (drop-chain (c.count_to-place.result - 1) c.args.versions.now.items (omega (arith, c.count_to-place.ensures.within, c.deref.ensures.len)) c.requires)

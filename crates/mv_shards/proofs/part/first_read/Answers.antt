@@ -1,8 +1,7 @@
-use Rattle.std.proofs.Common.{◌≡◌, ◌∙◌, ap, rules}
-use Rattle.std.proofs.lemmas.Result.{IfOk-weaker}
+use Rattle.std.proofs.Common.{◌∙◌, ap, rules}
 use Rattle.avm_items.specs.LedgerItems.{at}
 use Rattle.mv_chain.specs.Versions.{newest_at}
-use Rattle.mv_shards.specs.Chains.{one_marked, versions_of}
+use Rattle.mv_shards.specs.Chains.{one_marked}
 use Rattle.mv_shards.proofs.part.first_read.Goals as goal
 
 pub returns-clause-ok : goal.returns-clause-ok

@@ -1,4 +1,4 @@
-use Rattle.std.proofs.Common.{◌≡◌, ◌∙◌, sym, ap, subst, inl, None, rules}
+use Rattle.std.proofs.Common.{◌≡◌, sym, subst, inl, None, rules}
 use Rattle.std.specs.Arc.{arc_value}
 use Rattle.avm_items.specs.Items.{value_in}
 use Rattle.avm_items.specs.LedgerItems.{at}

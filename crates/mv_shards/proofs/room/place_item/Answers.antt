@@ -1,4 +1,4 @@
-use Rattle.std.proofs.Common.{◌≡◌, ◌∙◌, None, Some, get_or, sym, ap, subst, refl}
+use Rattle.std.proofs.Common.{◌≡◌, ◌∙◌, None, Some, get_or, sym, subst, refl}
 use Rattle.std.specs.Prelude.{IsSome}
 use Rattle.avm_items.specs.LedgerItems.{at}
 use Rattle.mv_shards.specs.declared.part.Part.{Part}

@@ -1,4 +1,4 @@
-use Rattle.mv_shards.proofs.Rooms.{held_still, parts_then}
+use Rattle.mv_shards.proofs.Rooms.{parts_then}
 use Rattle.mv_shards.proofs.OneChain.{ok_then}
 use Rattle.mv_shards.proofs.Rooms.{rooms_then}
 use Rattle.mv_shards.proofs.room.room_item.Goals as goal

@@ -1,4 +1,4 @@
-use Rattle.std.proofs.Common.{◌≡◌, ◌∙◌, ◌<◌, ◌≤◌, ◌-◌, Some, sym, refl, ap, subst, arith}
+use Rattle.std.proofs.Common.{◌≡◌, ◌∙◌, ◌<◌, ◌≤◌, ◌-◌, Some, sym, refl, ap, arith}
 use Rattle.std.specs.Prelude.{set}
 use Rattle.mv_shards.specs.Helds.{seen_all}
 use Rattle.mv_shards.specs.Shards.{seen}
@@ -18,6 +18,6 @@ returns-clause-ok c =
     rw (← c.self.view_is) (
       free_seen c.self.inside.parts c.from-place.result c.args.shard.index (sym is) (λ i h. c.end_of.ensures.free i (omega (arith, above, h))),
       seen_set c.self.inside.parts c.from-place.result (Some c.shard.inside.part)
-      ∙ ap (λ i. set (seen_all c.self.inside.parts) i (Some (seen c.shard.inside.part))) is
-      ∙ ap (λ s. set (seen_all c.self.inside.parts) c.args.shard.index (Some s)) c.shard.view_is,
+          ∙ ap (λ i. set (seen_all c.self.inside.parts) i (Some (seen c.shard.inside.part))) is
+          ∙ ap (λ s. set (seen_all c.self.inside.parts) c.args.shard.index (Some s)) c.shard.view_is,
     )

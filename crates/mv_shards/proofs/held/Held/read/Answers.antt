@@ -1,8 +1,7 @@
-use Rattle.std.proofs.Common.{◌≡◌, ◌∙◌, ◌<◌, None, Some, get_or, length, sym, ap, rules, arith, subst}
+use Rattle.std.proofs.Common.{◌≡◌, ◌∙◌, ◌<◌, None, Some, get_or, length, sym, ap, arith}
 use Rattle.std.specs.Prelude.{set}
 use Rattle.std.proofs.lemmas.Result.{IfOk-weaker, on_err_weaker}
-use Rattle.mv_shards.specs.Helds.{seen_all, seen_or_none, shard_for}
-use Rattle.mv_shards.specs.Indexes.{shard_of}
+use Rattle.mv_shards.specs.Helds.{seen_all, seen_or_none}
 use Rattle.mv_shards.specs.Shards.{seen}
 use Rattle.mv_shards.proofs.Places.{found_at, seen_at, seen_same, seen_set}
 use Rattle.mv_shards.proofs.held.Held.read.Goals as goal

@@ -1,0 +1,30 @@
+//! What ties the versions of one item to the entries of a history: each version held is an entry's, and the newest
+//! not above a timestamp is the one that the order theorem speaks of, from the low mark on. The events keep that:
+//! what a chain does at a read, a commit and a prune is what the events of specs/World.antt in mv_history mean. The
+//! definition is in specs/Agreement.antt, the laws in specs/Laws.antt; each function is a law and does no work.
+#![tactic(auto)]
+
+ghost use Rattle.mv_agreement.specs.Laws.{EveryFirstVersionAgrees, EveryReadKeepsAgreement, NoVersionIsAtAFreshTimestamp, EveryCommitKeepsAgreement, EveryPruneKeepsAgreement, EveryWriteFollowsTheVersionBelow};
+
+/// Before any commit the base's version alone agrees.
+pub fn every_first_version_agrees<Item, Value, Outcome, V>()
+    ensures { EveryFirstVersionAgrees Item Value Outcome V }
+{}
+
+/// A read finds the version that the entries have below the next timestamp, and leaves its mark there.
+pub fn every_read_keeps_agreement<Item, Value, Outcome, V>()
+    ensures { EveryReadKeepsAgreement Item Value Outcome V }
+{}
+
+/// To install an entry's writes in the chains of their items is the entry's commit. Where its timestamp is no other
+/// entry's, no chain has a version there.
+pub fn every_commit_keeps_agreement<Item, Value, Outcome, V>()
+    ensures commit { EveryCommitKeepsAgreement Item Value Outcome V }
+    ensures fresh { NoVersionIsAtAFreshTimestamp Item Value Outcome V }
+    ensures follows { EveryWriteFollowsTheVersionBelow Item Value Outcome V }
+{}
+
+/// Pruning keeps what is needed from the new low mark on.
+pub fn every_prune_keeps_agreement<Item, Value, Outcome, V>()
+    ensures { EveryPruneKeepsAgreement Item Value Outcome V }
+{}

@@ -1,0 +1,3 @@
+pub mod LookupsAfter
+pub mod Histories
+pub mod SerialCalls

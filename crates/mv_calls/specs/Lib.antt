@@ -1,0 +1,3 @@
+pub mod CallHistory
+pub mod Laws
+pub mod SerialCalls
