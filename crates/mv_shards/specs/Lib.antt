@@ -4,3 +4,4 @@ pub mod Chains
 pub mod Shards
 pub mod Helds
 pub mod Writing
+pub mod Tests

@@ -14,6 +14,8 @@ mod part;
 mod read_fault;
 mod room;
 mod shard;
+#[cfg(test)]
+mod tests;
 mod writing;
 
 pub use attempt::Attempt;
