@@ -4,7 +4,7 @@ ghost use Rattle.std.specs.Prelude.{◌≡◌, ◌+◌, ◌<◌, ◌≤◌, ◌�
 ghost use Rattle.std.specs.Option.{option_copied};
 ghost use Rattle.teal_value.specs.declared.fault.Fault.TheVariants.{StackFull};
 ghost use Rattle.teal_value.specs.declared.value.Value.TheVariants.{Uint, Bytes};
-ghost use Rattle.avm_cpu.specs.Machine.{machine_at, with_stack};
+ghost use Rattle.avm_cpu.specs.Machine.{filled, machine_at, with_stack};
 ghost use Rattle.avm_cpu.specs.Operands.{one_uint, one_bytes, one_value, two_uints, two_bytes, two_values, uint_and_bytes, bytes_and_uint, bytes_and_value, value_and_uint, bytes_and_two_uints, value_and_two_uints, two_values_and_uint, two_uints_and_bytes, uint_bytes_and_value, value_below};
 
 use arrayvec::ArrayVec;
@@ -15,25 +15,30 @@ use teal_value::{ByteString, ByteStrings, Fault, Uints, Value};
 /// The machine of one run. At most 1000 values stand on the stack (AVM specification, "The Stack").
 ///
 /// A program's instruction reads its operands by `&self`, computes and tests, and then changes the machine: so a fault
-/// leaves it as it was.
+/// leaves it as it was. The stack and the scratch space lie in boxes: a machine is moved by a few words, and is made once
+/// for many runs, by [`Cpu::reset`].
 #[derive(Drop)]
 pub struct Cpu {
-    stack: ArrayVec<Value, 1000>,
-    scratch: ArrayVec<Value, 256>,
+    stack: Box<ArrayVec<Value, 1000>>,
+    /// The values of the scratch space up to the last that was written; the others are 0.
+    scratch: Box<ArrayVec<Value, 256>>,
+    /// The value of a place that was not written, to be lent.
+    zero: Value,
     uint_constants: Uints,
     byte_constants: ByteStrings,
     place: u16,
 }
 
 impl Model for Cpu {
-    ghost use Rattle.std.specs.Prelude.{◌≡◌, length, reverse};
-    ghost use Rattle.avm_cpu.specs.Machine.{Machine};
+    ghost use Rattle.std.specs.Prelude.{◌≡◌, ◌≤◌, length, reverse};
+    ghost use Rattle.teal_value.specs.declared.value.Value.TheVariants.{Uint};
+    ghost use Rattle.avm_cpu.specs.Machine.{Machine, filled};
 
     ghost Value = { Machine };
 
-    ghost view = { λ c. record { stack = reverse c.stack.items; scratch = c.scratch.items; uint_constants = c.uint_constants; byte_constants = c.byte_constants; place = c.place } };
+    ghost view = { λ c. record { stack = reverse c.stack.value.items; scratch = filled c.scratch.value.items; uint_constants = c.uint_constants; byte_constants = c.byte_constants; place = c.place } };
 
-    ghost invariant = { λ c. length c.scratch.items ≡ 256 };
+    ghost invariant = { λ c. (length c.scratch.value.items ≤ 256) × (c.zero ≡ Uint 0) };
 }
 
 /// The value so many below the last.
@@ -47,15 +52,45 @@ fn nth_from_last(values: &[Value], depth: usize) -> Option<&Value>
     }
 }
 
-/// The scratch space before the first instruction.
-fn zeros() -> ArrayVec<Value, 256>
-    ensures { result.items ≡ replicate 256 (Uint 0) }
+/// A stack without values. It is made out of line, since no caller is to have room for one among its own variables.
+#[inline(never)]
+fn empty_stack(alloc: Global) -> Result<Box<ArrayVec<Value, 1000>>, AllocError>
+    ensures { IfOk result (λ stack. stack.value.items ≡ []) }
 {
-    let mut places = ArrayVec::new();
-    for _i in 0..256usize {
-        places.push(Value::Uint(0));
+    Ok(Box::new(alloc, ArrayVec::new())?)
+}
+
+/// A scratch space without a value that was written, made out of line as the stack is.
+#[inline(never)]
+fn empty_scratch(alloc: Global) -> Result<Box<ArrayVec<Value, 256>>, AllocError>
+    ensures { IfOk result (λ scratch. scratch.value.items ≡ []) }
+{
+    Ok(Box::new(alloc, ArrayVec::new())?)
+}
+
+/// Writes the zeros of a scratch space out, up to a place and with it.
+fn fill(scratch: &mut ArrayVec<Value, 256>, place: usize)
+    requires place { place < 256 }
+    requires fits { length scratch.old.items ≤ 256 }
+    ensures same { filled scratch.new.items ≡ filled scratch.old.items }
+    ensures there { place < length scratch.new.items }
+    ensures fits { length scratch.new.items ≤ 256 }
+{
+    while scratch.len() <= place {
+        scratch.push(Value::Uint(0));
     }
-    places
+}
+
+/// Writes a value to an index of a scratch space.
+#[tactic(auto, using(crate::proofs::Scratch::written_over))]
+fn write(scratch: &mut ArrayVec<Value, 256>, index: u8, value: Value)
+    requires fits { length scratch.old.items ≤ 256 }
+    ensures written { filled scratch.new.items ≡ slice_set (filled scratch.old.items) index value }
+    ensures fits { length scratch.new.items ≤ 256 }
+{
+    let place = usize::from(index);
+    fill(scratch, place);
+    scratch.as_mut_slice()[place] = value;
 }
 
 /// A copy of byte strings.
@@ -70,17 +105,39 @@ fn copied(alloc: Global, strings: &[ByteString]) -> Result<ByteStrings, AllocErr
 }
 
 impl Cpu {
-    /// The machine before a program's first instruction, which stands at the place. It takes no memory.
-    pub fn new(alloc: Global, place: u16) -> Cpu
-        ensures { result ≡ machine_at place }
+    /// The machine before a program's first instruction, which stands at the place.
+    pub fn new(alloc: Global, place: u16) -> Result<Cpu, AllocError>
+        ensures { IfOk result (λ cpu. cpu ≡ machine_at place) }
     {
-        Cpu {
-            stack: ArrayVec::new(),
-            scratch: zeros(),
+        let stack = empty_stack(alloc)?;
+        let scratch = empty_scratch(alloc)?;
+        Ok(Cpu {
+            stack,
+            scratch,
+            zero: Value::Uint(0),
             uint_constants: Uints::from_vec(Vec::new(alloc)),
             byte_constants: ByteStrings::from_vec(Vec::new(alloc)),
             place,
-        }
+        })
+    }
+
+    /// Becomes the machine before a program's first instruction, which stands at the place. It takes no memory, and costs
+    /// what the machine holds.
+    pub fn reset(&mut self, alloc: Global, place: u16)
+        ensures { self.new ≡ machine_at place }
+    {
+        self.stack.clear();
+        self.scratch.clear();
+        self.uint_constants = Uints::from_vec(Vec::new(alloc));
+        self.byte_constants = ByteStrings::from_vec(Vec::new(alloc));
+        self.place = place;
+    }
+
+    /// The values on the stack, the top last.
+    pub fn values(&self) -> &[Value]
+        ensures { result.now ≡ reverse self.now.stack }
+    {
+        self.stack.as_slice()
     }
 
     /// How many values the stack holds.
@@ -410,7 +467,10 @@ impl Cpu {
     pub fn scratch(&self, index: u8) -> &Value
         ensures { slice_get self.now.scratch index ≡ Some result.now }
     {
-        &self.scratch.as_slice()[usize::from(index)]
+        match self.scratch.as_slice().get(usize::from(index)) {
+            Some(value) => value,
+            None => &self.zero,
+        }
     }
 
     /// Moves the value on top to an index of the scratch space.
@@ -419,7 +479,14 @@ impl Cpu {
         ensures { IfOk (one_value self.old.stack) (λ v. self.new ≡ record self.old { stack = drop 1 self.old.stack; scratch = slice_set self.old.scratch index v }) }
     {
         let value = self.take_top();
-        self.scratch.as_mut_slice()[usize::from(index)] = value;
+        write(&mut self.scratch, index, value);
+    }
+
+    /// The uint constants in force.
+    pub fn uint_constants(&self) -> &[u64]
+        ensures { result.now ≡ self.now.uint_constants }
+    {
+        self.uint_constants.as_slice()
     }
 
     /// The uint constant of that number in force, if there is one.
@@ -439,6 +506,13 @@ impl Cpu {
         let copies = Vec::from_slice(alloc, numbers)?;
         self.uint_constants = Uints::from_vec(copies);
         Ok(())
+    }
+
+    /// The byte constants in force.
+    pub fn byte_constants(&self) -> &[ByteString]
+        ensures { result.now ≡ self.now.byte_constants }
+    {
+        self.byte_constants.as_slice()
     }
 
     /// The byte constant of that number in force, if there is one.

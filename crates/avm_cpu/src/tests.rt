@@ -6,7 +6,7 @@ use teal_value::{ByteString, Value};
 
 #[test]
 fn constants_are_copied(rt: HostRuntime) -> Result<(), Fail> {
-    let mut cpu = Cpu::new(rt.alloc(), 1);
+    let mut cpu = Cpu::new(rt.alloc(), 1)?;
     assert_eq!(rt; cpu.uint_constant(0), None);
     cpu.set_uint_constants(rt.alloc(), [7, 18446744073709551615].as_slice())?;
     assert_eq!(rt; cpu.uint_constant(1), Some(18446744073709551615));

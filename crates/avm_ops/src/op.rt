@@ -16,8 +16,9 @@ use teal_value::{Failure, Fault};
 pub enum Stop {
     /// It faults.
     Fault(Fault),
-    /// It asks for an item that is not known.
-    Need(Item),
+    /// It asks for an item that is not known. The item lies in a box: an answer is made at each instruction, and is to be a
+    /// few words.
+    Need(Box<Item>),
     /// Memory was refused.
     Memory,
 }

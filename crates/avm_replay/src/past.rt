@@ -65,11 +65,12 @@ fn make_until(
     requires rising { RisesAbove 0 entries.now }
     ensures { IfOk result (λ _. ledger.new ≡ replayed ledger.old header.now (calls_in (entries_until timestamp entries.now))) }
 {
+    let mut spare = None;
     for entry in entries {
         if entry.timestamp > timestamp {
             return Ok(());
         }
-        call_on(alloc, ledger, &entry.call, header, ops)?;
+        call_on(alloc, ledger, &entry.call, header, ops, &mut spare)?;
     }
     Ok(())
 }

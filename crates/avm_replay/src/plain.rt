@@ -79,12 +79,13 @@ fn entries_of(
     requires few { length calls.now ≤ MAX_ENTRIES }
     ensures { IfOk result (λ entries. AreMade ledger.old header.now calls.now entries.items ledger.new) }
 {
+    let mut spare = None;
     let mut entries = Vec::new(alloc);
     let mut timestamp = 0;
     for call in calls {
         timestamp += 1;
         outcome_has_place(ledger, call, header);
-        let outcome = call_on(alloc, ledger, call, header, ops)?;
+        let outcome = call_on(alloc, ledger, call, header, ops, &mut spare)?;
         entries.push(Entry {
             timestamp,
             call: call.clone()?,

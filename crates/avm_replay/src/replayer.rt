@@ -55,10 +55,11 @@ fn first_wrong(
     requires few { length entries.now ≤ MAX_ENTRIES }
     ensures { IfOk result (Compares ledger.old ledger.new header.now entries.now) }
 {
+    let mut spare = None;
     let mut number = 0;
     for entry in entries {
         number += 1;
-        let found = call_on(alloc, ledger, &entry.call, header, ops)?;
+        let found = call_on(alloc, ledger, &entry.call, header, ops, &mut spare)?;
         if !are_same(found, entry.outcome) {
             return Ok(Some((number, found)));
         }

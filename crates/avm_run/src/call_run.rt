@@ -8,6 +8,7 @@ ghost use Rattle.avm_run.specs.Advances.{Advances, Steps, Supplies};
 use crate::finished::Finished;
 use crate::live::{Live, Ran, Went, run_on, step_on};
 use avm_call::Call;
+use avm_cpu::Cpu;
 use avm_items::{Item, ItemValue};
 use avm_ledger::Header;
 use avm_ops::{BoxedOp, Op, OpSet};
@@ -56,6 +57,8 @@ pub(crate) enum State {
 #[derive(Drop)]
 pub struct CallRun {
     state: State,
+    /// A machine for the program, until it begins and after it has ended.
+    spare: Option<Cpu>,
 }
 
 impl Model for CallRun {
@@ -70,14 +73,31 @@ impl Model for CallRun {
 }
 
 impl CallRun {
-    /// A run of the call that was supplied with no item.
-    pub fn start(alloc: Global, call: &Call, header: &Header) -> Result<CallRun, AllocError>
+    /// A run of the call that was supplied with no item. Its program will run on the spare machine; where there is none, one
+    /// is made. [`CallRun::into_spare`] gives it back.
+    pub fn start(
+        alloc: Global,
+        call: &Call,
+        header: &Header,
+        spare: Option<Cpu>,
+    ) -> Result<CallRun, AllocError>
         ensures { IfOk result (λ run. run ≡ Some (record { call = call.now; header = header.now; reads = []; asked = None; steps = None })) }
     {
         let live = Live::start(alloc, call, header)?;
         Ok(CallRun {
             state: State::Live(live),
+            spare,
         })
+    }
+
+    /// The machine of a run, for the next one, if it has one: a run has none whose program has not begun and that was not
+    /// handed one, or that was refused memory in its program.
+    pub fn into_spare(self) -> Option<Cpu> {
+        let CallRun { state, spare } = self;
+        match state {
+            State::Live(live) => live.into_machine().or(spare),
+            State::Spent => spare,
+        }
     }
 
     /// Takes the value of the item that was asked for.
@@ -110,7 +130,7 @@ impl CallRun {
     {
         match mem::replace(&mut self.state, State::Spent) {
             State::Spent => Err(RunFault::Spent),
-            State::Live(live) => match run_on(alloc, ops, live) {
+            State::Live(live) => match run_on(alloc, ops, live, &mut self.spare) {
                 Ok(Ran::Need(live, item)) => {
                     self.state = State::Live(live);
                     Ok(Advance::Need(item))
@@ -130,7 +150,7 @@ impl CallRun {
     {
         match mem::replace(&mut self.state, State::Spent) {
             State::Spent => Err(RunFault::Spent),
-            State::Live(live) => match step_on(alloc, ops, live) {
+            State::Live(live) => match step_on(alloc, ops, live, &mut self.spare) {
                 Ok(Went::On(live)) => {
                     self.state = State::Live(live);
                     Ok(Step::Moved)

@@ -16,6 +16,7 @@ use crate::ending::{cleared, end_call};
 use crate::finished::Finished;
 use crate::running::{Running, Stepped, begin, step};
 use avm_call::{Call, Cause, Ended, Outcome};
+use avm_cpu::Cpu;
 use avm_items::{Item, ItemMap, ItemValue};
 use avm_ledger::Header;
 use avm_ops::{BoxedOp, Op, OpSet};
@@ -142,6 +143,18 @@ impl Live {
         }
     }
 
+    /// The machine of its program, if that has begun.
+    pub(crate) fn into_machine(self) -> Option<Cpu> {
+        let Live { phase, .. } = self;
+        match phase {
+            Phase::Tests(_items) => None,
+            Phase::Runs(running) => {
+                let Running { cpu, .. } = Box::into_inner(running);
+                Some(cpu)
+            }
+        }
+    }
+
     /// The run with the value of an item that it asked for.
     pub(crate) fn supplied(self, item: Item, value: ItemValue) -> Result<Live, AllocError>
         requires alive { IsAlive self }
@@ -189,8 +202,14 @@ fn asking(call: Call, header: Header, phase: Phase, item: &Item) -> Live
     }
 }
 
-/// Runs on to the end of the call, or to an item that was not supplied.
-pub(crate) fn run_on(alloc: Global, ops: &OpSet, live: Live) -> Result<Ran, AllocError>
+/// Runs on to the end of the call, or to an item that was not supplied. A program begins on the spare machine, where there
+/// is one, and leaves its machine there at its end.
+pub(crate) fn run_on(
+    alloc: Global,
+    ops: &OpSet,
+    live: Live,
+    spare: &mut Option<Cpu>,
+) -> Result<Ran, AllocError>
     requires full { IsFull ⟦<BoxedOp as Op>⟧.opcode ops.now }
     requires follows { Follows live.call live.header live.phase }
     ensures { IfOk result (λ ran. RunsTo live.call live.header (reads_of live.phase) ran) }
@@ -202,16 +221,22 @@ pub(crate) fn run_on(alloc: Global, ops: &OpSet, live: Live) -> Result<Ran, Allo
         asked: _asked,
     } = live;
     match phase {
-        Phase::Tests(items) => match run_tests(alloc, call, header, items)? {
-            Tested::Begins(call, running) => run_program(alloc, ops, call, header, running),
+        Phase::Tests(items) => match run_tests(alloc, call, header, items, spare)? {
+            Tested::Begins(call, running) => run_program(alloc, ops, call, header, running, spare),
             Tested::Stops(ran) => Ok(ran),
         },
-        Phase::Runs(running) => run_program(alloc, ops, call, header, running),
+        Phase::Runs(running) => run_program(alloc, ops, call, header, running, spare),
     }
 }
 
-/// Makes the next step of the path of the call's program. The first leads to the start of the program.
-pub(crate) fn step_on(alloc: Global, ops: &OpSet, live: Live) -> Result<Went, AllocError>
+/// Makes the next step of the path of the call's program. The first leads to the start of the program. The spare machine is
+/// used as by [`run_on`].
+pub(crate) fn step_on(
+    alloc: Global,
+    ops: &OpSet,
+    live: Live,
+    spare: &mut Option<Cpu>,
+) -> Result<Went, AllocError>
     requires full { IsFull ⟦<BoxedOp as Op>⟧.opcode ops.now }
     requires follows { Follows live.call live.header live.phase }
     ensures { IfOk result (λ went. GoesTo live.call live.header (reads_of live.phase) (steps_of live.phase) went) }
@@ -223,7 +248,7 @@ pub(crate) fn step_on(alloc: Global, ops: &OpSet, live: Live) -> Result<Went, Al
         asked: _asked,
     } = live;
     match phase {
-        Phase::Tests(items) => match run_tests(alloc, call, header, items)? {
+        Phase::Tests(items) => match run_tests(alloc, call, header, items, spare)? {
             Tested::Begins(call, running) => Ok(Went::On(Live {
                 call,
                 header,
@@ -232,7 +257,7 @@ pub(crate) fn step_on(alloc: Global, ops: &OpSet, live: Live) -> Result<Went, Al
             })),
             Tested::Stops(ran) => Ok(Went::Stops(ran)),
         },
-        Phase::Runs(running) => step_program(alloc, ops, call, header, running),
+        Phase::Runs(running) => step_program(alloc, ops, call, header, running, spare),
     }
 }
 
@@ -242,12 +267,13 @@ fn run_tests(
     call: Call,
     header: Header,
     items: ItemMap,
+    spare: &mut Option<Cpu>,
 ) -> Result<Tested, AllocError>
     ensures { IfOk result (λ tested. TestsTo call header items tested) }
 {
     match admit(&call, &items) {
         Ok(Admitted { id, row: Some(row) }) => {
-            let running = begin(alloc, &call, &header, items, id, row)?;
+            let running = begin(alloc, &call, &header, items, id, row, spare)?;
             let running = Box::new(alloc, running)?;
             Ok(Tested::Begins(call, running))
         }
@@ -283,6 +309,7 @@ fn step_program(
     call: Call,
     header: Header,
     running: Box<Running>,
+    spare: &mut Option<Cpu>,
 ) -> Result<Went, AllocError>
     requires full { IsFull ⟦<BoxedOp as Op>⟧.opcode ops.now }
     requires begun { BeginsRun call header running.value.env.reads running.value }
@@ -296,12 +323,13 @@ fn step_program(
             phase: Phase::Runs(running),
             asked: None,
         })),
-        Stepped::Need(item) => {
+        Stepped::Need(boxed) => {
+            let item = Box::into_inner(boxed);
             let live = asking(call, header, Phase::Runs(running), &item);
             Ok(Went::Stops(Ran::Need(live, item)))
         }
         Stepped::Ended(ended) => {
-            let closed = close(alloc, call, header, running, ended)?;
+            let closed = close(alloc, call, header, running, ended, spare)?;
             Ok(Went::Stops(Ran::Done(closed)))
         }
     }
@@ -314,6 +342,7 @@ fn run_program(
     call: Call,
     header: Header,
     running: Box<Running>,
+    spare: &mut Option<Cpu>,
 ) -> Result<Ran, AllocError>
     requires full { IsFull ⟦<BoxedOp as Op>⟧.opcode ops.now }
     requires begun { BeginsRun call header running.value.env.reads running.value }
@@ -323,30 +352,33 @@ fn run_program(
     loop {
         match step(alloc, ops, &mut running)? {
             Stepped::On => {}
-            Stepped::Need(item) => {
+            Stepped::Need(boxed) => {
+                let item = Box::into_inner(boxed);
                 let live = asking(call, header, Phase::Runs(running), &item);
                 return Ok(Ran::Need(live, item));
             }
             Stepped::Ended(ended) => {
-                return Ok(Ran::Done(close(alloc, call, header, running, ended)?));
+                return Ok(Ran::Done(close(alloc, call, header, running, ended, spare)?));
             }
         }
     }
 }
 
-/// A run whose program has ended so.
+/// A run whose program has ended so. Its machine is spare again.
 fn close(
     alloc: Global,
     call: Call,
     header: Header,
     running: Box<Running>,
     ended: Ended,
+    spare: &mut Option<Cpu>,
 ) -> Result<Closed, AllocError>
     requires ends { ClosesAs call header running.value ended }
     ensures ends { IfOk result (λ closed. EndsRun call header running.value.env.reads closed) }
     ensures outcome { IfOk result (λ closed. closed.outcome ≡ outcome_of call.completion ended) }
 {
-    let Running { env, row, .. } = Box::into_inner(running);
+    let Running { env, cpu, row, .. } = Box::into_inner(running);
+    *spare = Some(cpu);
     let id = env.current();
     let (reads, writes) = env.into_items();
     let end = end_call(alloc, &call, id, row, writes, ended)?;

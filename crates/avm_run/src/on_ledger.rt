@@ -9,25 +9,30 @@ ghost use Rattle.avm_call.specs.Replay.{ledger_after, outcome_on};
 
 use crate::live::{Closed, Live, Ran, run_on};
 use avm_call::{Call, Outcome};
+use avm_cpu::Cpu;
 use avm_items::{item_of, put_items};
 use avm_ledger::{Header, Ledger};
 use avm_ops::{BoxedOp, Op, OpSet};
 use std::alloc::{AllocError, Global};
 
 /// Makes a call on a ledger, in place, and answers its outcome. It costs what the call touches, not what the ledger holds.
+///
+/// The program runs on the spare machine, and leaves it for the next call: a first call is handed `None`, and further ones
+/// need no memory for a machine.
 pub fn call_on(
     alloc: Global,
     ledger: &mut Ledger,
     call: &Call,
     header: &Header,
     ops: &OpSet,
+    spare: &mut Option<Cpu>,
 ) -> Result<Outcome, AllocError>
     requires full { IsFull ⟦<BoxedOp as Op>⟧.opcode ops.now }
     ensures outcome { IfOk result (λ outcome. outcome ≡ outcome_on ledger.old call.now header.now) }
     ensures after { IfOk result (λ _. ledger.new ≡ ledger_after ledger.old call.now header.now) }
     ensures unchanged { IfErr result (λ _. ledger.new ≡ ledger.old) }
 {
-    let closed = run_over(alloc, ledger, call, header, ops)?;
+    let closed = run_over(alloc, ledger, call, header, ops, spare)?;
     let mut writes = closed.writes;
     writes.prune_by(ledger);
     put_items(alloc, ledger, writes)?;
@@ -47,7 +52,8 @@ pub fn call_plain(
     ensures after { IfOk result (λ r. r.1 ≡ ledger_after ledger.now call.now header.now) }
 {
     let mut after = ledger.clone()?;
-    let outcome = call_on(alloc, &mut after, call, header, ops)?;
+    let mut spare = None;
+    let outcome = call_on(alloc, &mut after, call, header, ops, &mut spare)?;
     Ok((outcome, after))
 }
 
@@ -58,13 +64,14 @@ fn run_over(
     call: &Call,
     header: &Header,
     ops: &OpSet,
+    spare: &mut Option<Cpu>,
 ) -> Result<Closed, AllocError>
     requires full { IsFull ⟦<BoxedOp as Op>⟧.opcode ops.now }
     ensures { IfOk result (λ closed. (closed.outcome, closed.writes) ≡ result_over (at ledger.now) (call_result call.now header.now)) }
 {
     let mut live = Live::start(alloc, call, header)?;
     loop {
-        match run_on(alloc, ops, live)? {
+        match run_on(alloc, ops, live, spare)? {
             Ran::Need(asking, item) => {
                 let value = item_of(ledger, &item)?;
                 live = asking.supplied(item, value)?;

@@ -29,7 +29,7 @@ use Rattle.avm_ops.specs.declared.op.Stop.TheVariants as stop
 use Rattle.avm_ops.specs.Frame.{After, Stepped, must, there}
 use Rattle.avm_ops.specs.Objects.{Does, context_of}
 use Rattle.avm_ops.specs.States.{application, counts_written, global_counts, global_delete, global_delete_of, global_entry, global_limit, global_put, global_put_over, key_written, leaves, local_limit, local_put, local_state, may_put, schema_in, the_local_state, value_length}
-use Rattle.avm_state_ops.specs.Parts.{Answers, known_row, schema_test}
+use Rattle.avm_state_ops.specs.Parts.{Answers, StopsFor, known_row, schema_test}
 
 -- what follows a part whose value is known
 pub then_answer : {A B : Type 0} (k : Known) (t : Act Fault A) (f : A → Act Fault B) (a : A) → answer_from k t ≡ Ok (Ok a) → answer_from k (and_then t (on_ok f)) ≡ answer_from k (f a)
@@ -41,10 +41,21 @@ stopped view (stop.Fault f) m e t u same h = same ∙ h
 stopped view (stop.Need x) m e t u same h = same ∙ h
 stopped view stop.Memory m e t u same h = tt
 
+-- a part that stops for an item asks for it
+pub stops_for : {A B : Type 0} (view : A → B) (x : Item) (s : Stop) (o : Option ItemValue) (k : ItemValue → Answer (Result B Fault)) → StopsFor o x s → Answers view (Err s) (answer_at x k o)
+stops_for view x (stop.Need y) (Some v) k h = absurd cc
+stops_for view x (stop.Need y) None k h = ap Err (sym h.1)
+stops_for view x (stop.Fault f) o k h = absurd h
+stops_for view x stop.Memory o k h = tt
+
 -- an error that is handed on is the same error
 pub passed_on : (r : Result Flow Stop) (s : Stop) (m : Machine) (e : Environment) (t : Answer Stepped) → IsErrAnd r (λ x. x ≡ s) → Does (Err s) m e t → Does r m e t
 passed_on (Ok flow) s m e t same h = absurd same
 passed_on (Err x) s m e t same h = subst (λ y. Does (Err y) m e t) (sym same) h
+
+pub passed_answer : {A B : Type 0} (view : A → B) (r : Result A Stop) (s : Stop) (t : Answer (Result B Fault)) → IsErrAnd r (λ x. x ≡ s) → Answers view (Err s) t → Answers view r t
+passed_answer view (Ok a) s t same h = absurd same
+passed_answer view (Err x) s t same h = subst (λ y. Answers view (Err y) t) (sym same) h
 
 -- what another reading of an item's value says
 pub read_again : {A B : Type 0} (k : Known) (x : Item) (f : ItemValue → A) (g : A → B) (a : A) → answer_from {A = Result A Fault} k (reads f x) ≡ Ok (Ok a)

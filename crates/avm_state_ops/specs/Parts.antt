@@ -4,6 +4,8 @@ use Rattle.teal_value.specs.declared.value.Value.{Value}
 use Rattle.teal_value.specs.declared.fault.Fault.{Fault}
 use Rattle.teal_value.specs.declared.fault.Fault.TheVariants as fault
 use Rattle.avm_items.specs.Asks.{Answer, answer_from}
+use Rattle.avm_items.specs.declared.item.Item.{Item}
+use Rattle.avm_items.specs.declared.item_value.ItemValue.{ItemValue}
 use Rattle.avm_items.specs.Acts.{Act}
 use Rattle.avm_items.specs.Environments.{Environment, known_to}
 use Rattle.avm_cpu.specs.Machine.{Machine}
@@ -24,8 +26,14 @@ known_row row m e = answer_from (known_to e) (row (context_of m e))
 abbrev pub Answers : {A B : Type 0} → (A → B) → Result A Stop → Answer (Result B Fault) → Type 0
 Answers view (Ok a) answer = answer ≡ Ok (Ok (view a))
 Answers view (Err (stop.Fault f)) answer = answer ≡ Ok (Err f)
-Answers view (Err (stop.Need x)) answer = answer ≡ Err x
+Answers view (Err (stop.Need x)) answer = answer ≡ Err x.value
 Answers view (Err stop.Memory) answer = Unit {0}
+
+-- It stops for this item, which isn't known, or for want of memory.
+abbrev pub StopsFor : Option ItemValue → Item → Stop → Type 0
+StopsFor value x (stop.Need y) = (value ≡ None) × (y.value ≡ x)
+StopsFor value x (stop.Fault f) = ⊥
+StopsFor value x stop.Memory = Unit {0}
 
 -- What a put into this application's global state leaves: the key's value, and the counts where they change.
 abbrev pub after_put : Context → List ℕ → Value → Option Schema → After

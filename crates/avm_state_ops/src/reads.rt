@@ -111,24 +111,24 @@ fn foreign_application(env: &Env, offset: u64) -> Result<u64, Fault>
     }
 }
 
-fn opted_in(cpu: &mut Cpu, env: &Env) -> Result<Flow, Stop>
+fn opted_in(alloc: Global, cpu: &mut Cpu, env: &Env) -> Result<Flow, Stop>
     ensures row { Does result cpu.new env.now (known_row opted_in cpu.old env.now) }
     ensures unchanged { IfStopped result (cpu.new ≡ cpu.old) }
 {
     let (index, id) = cpu.two_uints()?;
     let who = account(env.call(), index)?;
-    let is_in = local_state(env, who, application_named(env, id))?.is_some();
+    let is_in = local_state(alloc, env, who, application_named(env, id))?.is_some();
     cpu.replace(2, flag(is_in));
     Ok(Flow::Next)
 }
 
-fn local_get(cpu: &mut Cpu, env: &Env) -> Result<Flow, Stop>
+fn local_get(alloc: Global, cpu: &mut Cpu, env: &Env) -> Result<Flow, Stop>
     ensures row { Does result cpu.new env.now (known_row local_get cpu.old env.now) }
     ensures unchanged { IfStopped result (cpu.new ≡ cpu.old) }
 {
     let (index, key) = cpu.uint_and_bytes()?;
     let who = account(env.call(), index)?;
-    let Some(state) = local_state(env, who, env.current())? else {
+    let Some(state) = local_state(alloc, env, who, env.current())? else {
         return Err(Stop::Fault(Fault::NotOptedIn));
     };
     let value = or_zero(state.value_of(key))?;
@@ -136,13 +136,13 @@ fn local_get(cpu: &mut Cpu, env: &Env) -> Result<Flow, Stop>
     Ok(Flow::Next)
 }
 
-fn local_get_ex(cpu: &mut Cpu, env: &Env) -> Result<Flow, Stop>
+fn local_get_ex(alloc: Global, cpu: &mut Cpu, env: &Env) -> Result<Flow, Stop>
     ensures row { Does result cpu.new env.now (known_row local_get_ex cpu.old env.now) }
     ensures unchanged { IfStopped result (cpu.new ≡ cpu.old) }
 {
     let (index, id, key) = cpu.two_uints_and_bytes()?;
     let who = account(env.call(), index)?;
-    let Some(state) = local_state(env, who, application_named(env, id))? else {
+    let Some(state) = local_state(alloc, env, who, application_named(env, id))? else {
         return Err(Stop::Fault(Fault::NotOptedIn));
     };
     let value = state.value_of(key);
@@ -152,26 +152,26 @@ fn local_get_ex(cpu: &mut Cpu, env: &Env) -> Result<Flow, Stop>
     Ok(Flow::Next)
 }
 
-fn global_get(cpu: &mut Cpu, env: &Env) -> Result<Flow, Stop>
+fn global_get(alloc: Global, cpu: &mut Cpu, env: &Env) -> Result<Flow, Stop>
     ensures row { Does result cpu.new env.now (known_row global_get cpu.old env.now) }
     ensures unchanged { IfStopped result (cpu.new ≡ cpu.old) }
 {
     let key = cpu.one_bytes()?;
-    let value = or_zero(global_entry(env, env.current(), key)?)?;
+    let value = or_zero(global_entry(alloc, env, env.current(), key)?)?;
     cpu.replace(1, value);
     Ok(Flow::Next)
 }
 
-fn global_get_ex(cpu: &mut Cpu, env: &Env) -> Result<Flow, Stop>
+fn global_get_ex(alloc: Global, cpu: &mut Cpu, env: &Env) -> Result<Flow, Stop>
     ensures row { Does result cpu.new env.now (known_row global_get_ex cpu.old env.now) }
     ensures unchanged { IfStopped result (cpu.new ≡ cpu.old) }
 {
     let (offset, key) = cpu.uint_and_bytes()?;
     let id = foreign_application(env, offset)?;
-    if application(env, id)?.is_none() {
+    if application(alloc, env, id)?.is_none() {
         return Err(Stop::Fault(Fault::NoSuchApp));
     }
-    let value = global_entry(env, id, key)?;
+    let value = global_entry(alloc, env, id, key)?;
     let is_there = flag(value.is_some());
     let copy = or_zero(value)?;
     cpu.replace_pair(2, copy, is_there);
@@ -188,17 +188,17 @@ impl Op for StateRead {
     #[tactic(auto, unfolding(avm_ops::specs::Effect::effect))]
     fn exec(
         &self,
-        _alloc: Global,
+        alloc: Global,
         _instr: &Instr,
         cpu: &mut Cpu,
         env: &mut Env,
     ) -> Result<Flow, Stop> {
         match self {
-            StateRead::OptedIn => opted_in(cpu, env),
-            StateRead::LocalGet => local_get(cpu, env),
-            StateRead::LocalGetEx => local_get_ex(cpu, env),
-            StateRead::GlobalGet => global_get(cpu, env),
-            StateRead::GlobalGetEx => global_get_ex(cpu, env),
+            StateRead::OptedIn => opted_in(alloc, cpu, env),
+            StateRead::LocalGet => local_get(alloc, cpu, env),
+            StateRead::LocalGetEx => local_get_ex(alloc, cpu, env),
+            StateRead::GlobalGet => global_get(alloc, cpu, env),
+            StateRead::GlobalGetEx => global_get_ex(alloc, cpu, env),
         }
     }
 }

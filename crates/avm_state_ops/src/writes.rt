@@ -160,15 +160,20 @@ fn test_schema(state: &State, key: &[u8], value: &Value, limit: Schema) -> Resul
 }
 
 /// The counts of the global state of the application that runs after a put, where they change.
-fn counts_of_put(env: &Env, old: Option<&Value>, new: &Value) -> Result<Option<Schema>, Stop>
+fn counts_of_put(
+    alloc: Global,
+    env: &Env,
+    old: Option<&Value>,
+    new: &Value,
+) -> Result<Option<Schema>, Stop>
     ensures { (m : Machine) (key : List ℕ) → Answers (after_put (context_of m env.now) key new.now) result
         (answer_from (known_to env.now) (global_put_over (context_of m env.now) key new.now (option_copied old.entry) (keeps_kind (option_copied old.entry) (Some new.now)))) }
 {
     if keeps_kind(old, new) {
         return Ok(None);
     }
-    let counts = global_counts(env)?;
-    let limit = global_limit(application(env, env.current())?);
+    let counts = global_counts(alloc, env)?;
+    let limit = global_limit(application(alloc, env, env.current())?);
     match counts_within(old, new, counts, limit) {
         Some(after) => Ok(Some(after)),
         None => Err(Stop::Fault(Fault::Schema)),
@@ -176,17 +181,17 @@ fn counts_of_put(env: &Env, old: Option<&Value>, new: &Value) -> Result<Option<S
 }
 
 /// The counts of the global state of the application that runs after a delete, where they change.
-fn counts_of_delete(env: &Env, old: Option<&Value>) -> Result<Option<Schema>, Stop>
+fn counts_of_delete(alloc: Global, env: &Env, old: Option<&Value>) -> Result<Option<Schema>, Stop>
     ensures { (m : Machine) (key : List ℕ) → Answers (after_delete (context_of m env.now) key) result
         (answer_from (known_to env.now) (global_delete_of (context_of m env.now) key (option_copied old.entry))) }
 {
     match old {
-        Some(old) => Ok(Some(count_without(old, global_counts(env)?))),
+        Some(old) => Ok(Some(count_without(old, global_counts(alloc, env)?))),
         None => Ok(None),
     }
 }
 
-fn local_put(cpu: &mut Cpu, env: &mut Env) -> Result<Flow, Stop>
+fn local_put(alloc: Global, cpu: &mut Cpu, env: &mut Env) -> Result<Flow, Stop>
     ensures row { Does result cpu.new env.new (known_row local_put cpu.old env.old) }
     ensures writes { env.new ≡ record env.old { writes = env.new.writes } }
     ensures unchanged { IfStopped result ((cpu.new ≡ cpu.old) × (env.new ≡ env.old)) }
@@ -194,7 +199,7 @@ fn local_put(cpu: &mut Cpu, env: &mut Env) -> Result<Flow, Stop>
     let (index, key, value) = cpu.uint_bytes_and_value()?;
     let who = account(env.call(), index)?;
     let current = env.current();
-    let Some(state) = local_state(env, who, current)? else {
+    let Some(state) = local_state(alloc, env, who, current)? else {
         return Err(Stop::Fault(Fault::NotOptedIn));
     };
     let Some(state_key) = StateKey::of(key) else {
@@ -203,7 +208,7 @@ fn local_put(cpu: &mut Cpu, env: &mut Env) -> Result<Flow, Stop>
     if value_length(value) > 64 {
         return Err(Stop::Fault(Fault::TooLong));
     }
-    let limit = local_limit(application(env, current)?);
+    let limit = local_limit(application(alloc, env, current)?);
     test_schema(state, key, value, limit)?;
     let copy = value.clone()?;
     env.put_entry(who, current, state_key, copy)?;
@@ -211,7 +216,7 @@ fn local_put(cpu: &mut Cpu, env: &mut Env) -> Result<Flow, Stop>
     Ok(Flow::Next)
 }
 
-fn global_put(cpu: &mut Cpu, env: &mut Env) -> Result<Flow, Stop>
+fn global_put(alloc: Global, cpu: &mut Cpu, env: &mut Env) -> Result<Flow, Stop>
     ensures row { Does result cpu.new env.new (known_row global_put cpu.old env.old) }
     ensures writes { env.new ≡ record env.old { writes = env.new.writes } }
     ensures unchanged { IfStopped result ((cpu.new ≡ cpu.old) × (env.new ≡ env.old)) }
@@ -224,8 +229,8 @@ fn global_put(cpu: &mut Cpu, env: &mut Env) -> Result<Flow, Stop>
         return Err(Stop::Fault(Fault::TooLong));
     }
     let current = env.current();
-    let old = global_entry(env, current, key)?;
-    let after = counts_of_put(env, old, value)?;
+    let old = global_entry(alloc, env, current, key)?;
+    let after = counts_of_put(alloc, env, old, value)?;
     let copy = value.clone()?;
     env.write(Item::Key(current, state_key), ItemValue::Key(copy))?;
     if let Some(after) = after {
@@ -235,7 +240,7 @@ fn global_put(cpu: &mut Cpu, env: &mut Env) -> Result<Flow, Stop>
     Ok(Flow::Next)
 }
 
-fn local_delete(cpu: &mut Cpu, env: &mut Env) -> Result<Flow, Stop>
+fn local_delete(alloc: Global, cpu: &mut Cpu, env: &mut Env) -> Result<Flow, Stop>
     ensures row { Does result cpu.new env.new (known_row local_delete cpu.old env.old) }
     ensures writes { env.new ≡ record env.old { writes = env.new.writes } }
     ensures unchanged { IfStopped result ((cpu.new ≡ cpu.old) × (env.new ≡ env.old)) }
@@ -243,7 +248,7 @@ fn local_delete(cpu: &mut Cpu, env: &mut Env) -> Result<Flow, Stop>
     let (index, key) = cpu.uint_and_bytes()?;
     let who = account(env.call(), index)?;
     let current = env.current();
-    let Some(state) = local_state(env, who, current)? else {
+    let Some(state) = local_state(alloc, env, who, current)? else {
         return Err(Stop::Fault(Fault::NotOptedIn));
     };
     if state.value_of(key).is_some() {
@@ -255,15 +260,15 @@ fn local_delete(cpu: &mut Cpu, env: &mut Env) -> Result<Flow, Stop>
     Ok(Flow::Next)
 }
 
-fn global_delete(cpu: &mut Cpu, env: &mut Env) -> Result<Flow, Stop>
+fn global_delete(alloc: Global, cpu: &mut Cpu, env: &mut Env) -> Result<Flow, Stop>
     ensures row { Does result cpu.new env.new (known_row global_delete cpu.old env.old) }
     ensures writes { env.new ≡ record env.old { writes = env.new.writes } }
     ensures unchanged { IfStopped result ((cpu.new ≡ cpu.old) × (env.new ≡ env.old)) }
 {
     let key = cpu.one_bytes()?;
     let current = env.current();
-    let old = global_entry(env, current, key)?;
-    let counts = counts_of_delete(env, old)?;
+    let old = global_entry(alloc, env, current, key)?;
+    let counts = counts_of_delete(alloc, env, old)?;
     if let (Some(after), Some(state_key)) = (counts, StateKey::of(key)) {
         env.write(Item::Key(current, state_key), ItemValue::Absent)?;
         env.write(Item::Counts(current), ItemValue::Counts(after))?;
@@ -282,16 +287,16 @@ impl Op for StateWrite {
     #[tactic(auto, unfolding(avm_ops::specs::Effect::effect))]
     fn exec(
         &self,
-        _alloc: Global,
+        alloc: Global,
         _instr: &Instr,
         cpu: &mut Cpu,
         env: &mut Env,
     ) -> Result<Flow, Stop> {
         match self {
-            StateWrite::LocalPut => local_put(cpu, env),
-            StateWrite::GlobalPut => global_put(cpu, env),
-            StateWrite::LocalDelete => local_delete(cpu, env),
-            StateWrite::GlobalDelete => global_delete(cpu, env),
+            StateWrite::LocalPut => local_put(alloc, cpu, env),
+            StateWrite::GlobalPut => global_put(alloc, cpu, env),
+            StateWrite::LocalDelete => local_delete(alloc, cpu, env),
+            StateWrite::GlobalDelete => global_delete(alloc, cpu, env),
         }
     }
 }

@@ -295,7 +295,8 @@ fn outcome_of(
     requires full { IsFull ⟦<BoxedOp as Op>⟧.opcode ops.now }
 {
     let call = checked(alloc, fields)?;
-    Ok(call_on(alloc, ledger, &call, &header(Profile::Two), ops)?)
+    let mut spare = None;
+    Ok(call_on(alloc, ledger, &call, &header(Profile::Two), ops, &mut spare)?)
 }
 
 /// The fields of a call of application 1 with an argument.
@@ -600,7 +601,7 @@ fn end_of_run(
 fn run_of(alloc: Global) -> Result<CallRun, Fail> {
     let fields = fields(alloc, 1, Completion::NoOp, "", "", NO_ENTRY)?;
     let call = checked(alloc, fields)?;
-    Ok(CallRun::start(alloc, &call, &header(Profile::Two))?)
+    Ok(CallRun::start(alloc, &call, &header(Profile::Two), None)?)
 }
 
 /// An application whose programs approve.

@@ -69,7 +69,7 @@ fn value_of(alloc: Global, word: &str) -> Result<Value, Fail> {
 fn machine(alloc: Global, stack: &str) -> Result<Cpu, Fail>
     ensures { IfOk result (λ cpu. cpu.place ≡ 1) }
 {
-    let mut cpu = Cpu::new(alloc, 1);
+    let mut cpu = Cpu::new(alloc, 1)?;
     for word in stack.split_whitespace() {
         cpu.push(value_of(alloc, word)?)?;
     }

@@ -21,7 +21,7 @@ fn steps_of(
 ) -> Result<Option<(u32, Outcome)>, Fail>
     requires full { IsFull ⟦<BoxedOp as Op>⟧.opcode ops.now }
 {
-    let mut run = CallRun::start(alloc, call, &header(Profile::Two))?;
+    let mut run = CallRun::start(alloc, call, &header(Profile::Two), None)?;
     let mut moved = 0;
     for _turn in 0..32u32 {
         match run.step_one(alloc, ops) {

@@ -6,7 +6,7 @@ use Rattle.avm_cpu.proofs.cpu.Cpu.drop_top.Goals as goal
 
 pub returns : goal.returns
 returns c =
-    let xs = c.self.inside.stack.items in
+    let xs = c.self.inside.stack.value.items in
     let depth = ap (λ (m : Machine). length m.stack) c.self.view_is in
     let within : c.args.count ≤ length xs = omega (arith, length-reverse xs) in
     let rest = drop_reverse c.args.count xs within in
