@@ -7,3 +7,4 @@ pub mod Rooms
 pub mod Writes
 pub mod AfterRoom
 pub mod SeenWrites
+pub mod PartReads

@@ -1,21 +1,23 @@
 //! Shards that are held together.
 
-ghost use Rattle.std.specs.Prelude.{◌≡◌, ◌<◌, ◌⊎◌, ◌↔◌, None, Some, IfErr, IfOk, IfNone, IfSome, IsErrOf, IsOk, IsSome, IsTrue, OnErr, OnOk, get_or, set, ◌-◌};
+ghost use Rattle.std.specs.Prelude.{◌≡◌, ◌==◌, ◌<◌, ◌⊎◌, ◌↔◌, None, Some, IfErr, IfOk, IfNone, IfSome, IsErrOf, IsOk, IsSome, IsTrue, OnErr, OnOk, get_or, set, ◌-◌};
 ghost use Rattle.std.proofs.Common.{replicate};
 ghost use Rattle.teal_value.specs.declared.failure.Failure.TheVariants.{Fault};
 ghost use Rattle.mv_shards.specs.declared.read_fault.ReadFault.TheVariants.{Pruned};
 ghost use Rattle.mv_shards.specs.Indexes.{shard_count};
 ghost use Rattle.mv_shards.specs.Helds.{AreFree, AreFreeFrom, AreHeld, IsHeld, IsHeldRead, IsLastTaken, IsTakenFrom};
-ghost use Rattle.mv_shards.specs.Writing.{AreAbsent, AreLow, AreWritten};
+ghost use Rattle.mv_shards.specs.Writing.{AreAbsent, AreLow, AreWritten, versions_for};
+ghost use Rattle.mv_chain.specs.Versions.{lateness, newest_at};
 
 use crate::attempt::Attempt;
 use crate::index::{SHARD_COUNT, shard_of};
-use crate::part::read;
+use crate::part::{has_version, late, read};
 use crate::read_fault::ReadError;
 use crate::room::Parts;
 use crate::shard::Shard;
 use crate::writing::write_parts;
 use avm_items::{Item, ItemMap, ItemValue};
+use mv_chain::Late;
 use std::alloc::{AllocError, Global};
 use std::marker::Model;
 
@@ -100,6 +102,31 @@ impl Held {
         let place = usize::from(shard_of(&item));
         match &mut self.parts[place] {
             Some(part) => read(part, attempt, item),
+            None => unreachable!(),
+        }
+    }
+
+    /// Whether a write of an item at a timestamp is late: the version that it would follow was read above it. The
+    /// evidence is that version and its mark.
+    pub fn late(&self, item: &Item, timestamp: u64) -> Option<Late>
+        requires held { IsHeld self.now item.now }
+        requires low { AreLow timestamp self.now }
+        ensures { (d : _) → result ≡ lateness timestamp (newest_at timestamp (versions_for self.now item.now) d) }
+    {
+        match &self.parts[usize::from(shard_of(item))] {
+            Some(part) => late(part, item, timestamp),
+            None => unreachable!(),
+        }
+    }
+
+    /// Whether an item has a version with a timestamp.
+    pub fn has_version(&self, item: &Item, timestamp: u64) -> bool
+        requires held { IsHeld self.now item.now }
+        requires low { AreLow timestamp self.now }
+        ensures { (d : _) → result ≡ ((newest_at timestamp (versions_for self.now item.now) d).timestamp == timestamp) }
+    {
+        match &self.parts[usize::from(shard_of(item))] {
+            Some(part) => has_version(part, item, timestamp),
             None => unreachable!(),
         }
     }

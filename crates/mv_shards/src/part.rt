@@ -1,20 +1,20 @@
 //! A part of the items with their versions, as a shard keeps them.
 
-ghost use Rattle.std.specs.Prelude.{◌≡◌, ◌≤◌, ◌<◌, ◌⊎◌, ◌↔◌, IfErr, IfOk, IsErrOf, IsSome, None, OnErr, OnOk};
+ghost use Rattle.std.specs.Prelude.{◌≡◌, ◌≤◌, ◌<◌, ◌⊎◌, ◌↔◌, ◌==◌, IfErr, IfOk, IsErrOf, IsSome, None, OnErr, OnOk};
 ghost use Rattle.teal_value.specs.declared.failure.Failure.TheVariants.{Fault};
 ghost use Rattle.avm_items.specs.Items.{value_in};
 ghost use Rattle.avm_items.specs.LedgerItems.{at};
-ghost use Rattle.mv_chain.specs.Versions.{newest_at, oldest_timestamp};
+ghost use Rattle.mv_chain.specs.Versions.{lateness, newest_at, oldest_timestamp};
 ghost use Rattle.mv_shards.specs.declared.read_fault.ReadFault.TheVariants.{Pruned};
 ghost use Rattle.mv_shards.specs.Chains.{AreChains, IsGrown, IsReadable, IsRoomier, chain_in, versions_of};
-ghost use Rattle.mv_shards.specs.Shards.{IsFirstRead, IsMarkedRead, IsPart, IsPruned, IsReadAgain, seen};
+ghost use Rattle.mv_shards.specs.Shards.{IsFirstRead, IsMarkedRead, IsPart, IsPruned, IsReadAgain, seen, versions_held};
 
 use crate::attempt::Attempt;
 use crate::chains::{make_chain, mark};
 use crate::read_fault::{ReadError, ReadFault};
 use avm_items::{Item, ItemValue, item_of};
 use avm_ledger::Ledger;
-use mv_chain::Chain;
+use mv_chain::{Chain, Late};
 use std::alloc::{AllocError, Global};
 use std::collections::BTreeMap;
 use std::sync::Arc;
@@ -104,4 +104,28 @@ pub(crate) fn read(
         return Err(Failure::Fault(ReadFault::Pruned));
     }
     Ok(first_read(part.alloc, &mut part.chains, &part.base, attempt, item)?)
+}
+
+/// Whether a write of an item at a timestamp is late.
+pub(crate) fn late(part: &Part, item: &Item, timestamp: u64) -> Option<Late>
+    requires part { IsPart part.now }
+    requires low { part.now.low ≤ timestamp }
+    ensures { (d : _) → result ≡ lateness timestamp (newest_at timestamp (versions_held (seen part.now) item.now) d) }
+{
+    match part.chains.get(item) {
+        Some(chain) => chain.late(timestamp),
+        None => None,
+    }
+}
+
+/// Whether an item has a version with a timestamp.
+pub(crate) fn has_version(part: &Part, item: &Item, timestamp: u64) -> bool
+    requires part { IsPart part.now }
+    requires low { part.now.low ≤ timestamp }
+    ensures { (d : _) → result ≡ ((newest_at timestamp (versions_held (seen part.now) item.now) d).timestamp == timestamp) }
+{
+    match part.chains.get(item) {
+        Some(chain) => chain.timestamp_at(timestamp) == timestamp,
+        None => timestamp == 0,
+    }
 }
