@@ -8,3 +8,5 @@ pub mod Writes
 pub mod AfterRoom
 pub mod SeenWrites
 pub mod PartReads
+pub mod Prunes
+pub mod SeenPrunes

@@ -7,7 +7,7 @@ use Rattle.avm_items.specs.declared.item_value.ItemValue.{ItemValue}
 use Rattle.mv_shards.specs.declared.part.Part.{Part}
 use Rattle.mv_shards.specs.Attempts.{CallAttempt}
 use Rattle.mv_shards.specs.Indexes.{shard_count, shard_of}
-use Rattle.mv_shards.specs.Shards.{IsFirstRead, IsPart, IsReadAgain, Shard, seen}
+use Rattle.mv_shards.specs.Shards.{IsFirstRead, IsPart, IsPrunedShard, IsReadAgain, Shard, seen}
 
 -- a place for each shard
 abbrev pub Places : Type 0
@@ -48,6 +48,15 @@ pub record IsHeldRead (old new : Places) (before after : CallAttempt) (x : Item)
   pub found : shard_for old x ≡ Some shard
   pub read : IsFirstRead shard read_shard before after x v ⊎ IsReadAgain shard read_shard before after x v
   pub others : new ≡ set old (shard_of x) (Some read_shard)
+
+abbrev pub IsPrunedPlace : ℕ → Option Shard → Option Shard → Type 0
+IsPrunedPlace t (Some old) (Some new) = IsPrunedShard t old new
+IsPrunedPlace t None None = Unit {0}
+IsPrunedPlace t _ _ = ⊥
+
+-- each shard that is held, with its low mark raised
+abbrev pub ArePruned : ℕ → Places → Places → Type 0
+ArePruned t old new = (i : ℕ) → IsPrunedPlace t (get_or old i None) (get_or new i None)
 
 -- ---- as they are kept
 

@@ -7,7 +7,7 @@ use Rattle.avm_items.specs.declared.item_value.ItemValue.{ItemValue}
 use Rattle.avm_items.specs.Items.{value_in, with_item}
 use Rattle.avm_items.specs.LedgerItems.{at}
 use Rattle.mv_chain.specs.declared.Version.{Version}
-use Rattle.mv_chain.specs.Versions.{newest_at, versions_read_at}
+use Rattle.mv_chain.specs.Versions.{newest_at, versions_from, versions_read_at}
 use Rattle.mv_shards.specs.declared.part.Part.{Part}
 use Rattle.mv_shards.specs.Attempts.{CallAttempt}
 use Rattle.mv_shards.specs.Indexes.{shard_count}
@@ -42,6 +42,18 @@ pub record IsReadAgain (old new : Shard) (before after : CallAttempt) (x : Item)
 pub record IsPruned (s : Shard) (a : CallAttempt) (x : Item) : Type 0 where
   pub first : value_in a.reads x ≡ None
   pub below : a.timestamp < s.low
+
+-- of each item the newest version not above a new low mark is left, and those above it
+pub record IsRaisedTo (t : ℕ) (old new : Shard) : Type 0 where
+  pub index : new.index ≡ old.index
+  pub base : new.base ≡ old.base
+  pub low : new.low ≡ t
+  pub versions : (x : Item) → versions_held new x ≡ versions_from t (versions_held old x)
+
+-- a low mark only rises
+pub record IsPrunedShard (t : ℕ) (old new : Shard) : Type 0 where
+  pub raised : old.low < t → IsRaisedTo t old new
+  pub stays : t ≤ old.low → new ≡ old
 
 -- ---- a shard as it is kept
 

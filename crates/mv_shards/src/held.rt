@@ -5,13 +5,13 @@ ghost use Rattle.std.proofs.Common.{replicate};
 ghost use Rattle.teal_value.specs.declared.failure.Failure.TheVariants.{Fault};
 ghost use Rattle.mv_shards.specs.declared.read_fault.ReadFault.TheVariants.{Pruned};
 ghost use Rattle.mv_shards.specs.Indexes.{shard_count};
-ghost use Rattle.mv_shards.specs.Helds.{AreFree, AreFreeFrom, AreHeld, IsHeld, IsHeldRead, IsLastTaken, IsTakenFrom};
+ghost use Rattle.mv_shards.specs.Helds.{AreFree, AreFreeFrom, AreHeld, IsHeld, IsHeldRead, IsLastTaken, IsTakenFrom, ArePruned};
 ghost use Rattle.mv_shards.specs.Writing.{AreAbsent, AreLow, AreWritten, versions_for};
 ghost use Rattle.mv_chain.specs.Versions.{lateness, newest_at};
 
 use crate::attempt::Attempt;
 use crate::index::{SHARD_COUNT, shard_of};
-use crate::part::{has_version, late, read};
+use crate::part::{has_version, late, prune, read};
 use crate::read_fault::ReadError;
 use crate::room::Parts;
 use crate::shard::Shard;
@@ -128,6 +128,18 @@ impl Held {
         match &self.parts[usize::from(shard_of(item))] {
             Some(part) => has_version(part, item, timestamp),
             None => unreachable!(),
+        }
+    }
+
+    /// Raises the low mark of each shard that is held and has a lower one, and drops the versions that no read from there
+    /// on can find. It takes no memory.
+    pub fn prune(&mut self, timestamp: u64)
+        ensures { ArePruned timestamp self.old self.new }
+    {
+        for place in 0..SHARD_COUNT {
+            if let Some(part) = &mut self.parts[place] {
+                prune(part, timestamp);
+            }
         }
     }
 

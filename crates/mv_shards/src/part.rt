@@ -4,10 +4,10 @@ ghost use Rattle.std.specs.Prelude.{◌≡◌, ◌≤◌, ◌<◌, ◌⊎◌, �
 ghost use Rattle.teal_value.specs.declared.failure.Failure.TheVariants.{Fault};
 ghost use Rattle.avm_items.specs.Items.{value_in};
 ghost use Rattle.avm_items.specs.LedgerItems.{at};
-ghost use Rattle.mv_chain.specs.Versions.{lateness, newest_at, oldest_timestamp};
+ghost use Rattle.mv_chain.specs.Versions.{lateness, newest_at, oldest_timestamp, versions_from};
 ghost use Rattle.mv_shards.specs.declared.read_fault.ReadFault.TheVariants.{Pruned};
 ghost use Rattle.mv_shards.specs.Chains.{AreChains, IsGrown, IsReadable, IsRoomier, chain_in, versions_of};
-ghost use Rattle.mv_shards.specs.Shards.{IsFirstRead, IsMarkedRead, IsPart, IsPruned, IsReadAgain, seen, versions_held};
+ghost use Rattle.mv_shards.specs.Shards.{IsFirstRead, IsMarkedRead, IsPart, IsPruned, IsPrunedShard, IsReadAgain, seen, versions_held};
 
 use crate::attempt::Attempt;
 use crate::chains::{make_chain, mark};
@@ -128,4 +128,27 @@ pub(crate) fn has_version(part: &Part, item: &Item, timestamp: u64) -> bool
         Some(chain) => chain.timestamp_at(timestamp) == timestamp,
         None => timestamp == 0,
     }
+}
+
+/// Raises the low mark, and drops the versions that no read from there on can find.
+pub(crate) fn prune(part: &mut Part, timestamp: u64)
+    requires { IsPart part.old }
+    ensures kept { IsPart part.new }
+    ensures pruned { IsPrunedShard timestamp (seen part.old) (seen part.new) }
+{
+    if part.low < timestamp {
+        part.low = timestamp;
+        prune_chains(&mut part.chains, timestamp);
+    }
+}
+
+/// Drops the versions that no read from a timestamp on can find.
+fn prune_chains(chains: &mut Chains, timestamp: u64)
+    ensures versions { (first : _) (x : _) → versions_of first chains.new.entries x ≡ versions_from timestamp (versions_of first chains.old.entries x) }
+    ensures kept { (first : _) (low : _) → low ≤ timestamp → AreChains first low chains.old.entries → AreChains first timestamp chains.new.entries }
+{
+    chains.retain(|_item, chain| {
+        chain.prune(timestamp);
+        true
+    });
 }

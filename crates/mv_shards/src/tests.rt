@@ -45,7 +45,7 @@ fn next_id_at(alloc: Global, held: &mut Held, timestamp: u64) -> Result<u64, All
     }
 }
 
-// One commit, and reads below, at and above its timestamp.
+// One commit, and reads below, at and above its timestamp; those below are refused once the low mark is there.
 #[test]
 fn reads_find_the_newest_version_not_above_them(rt: HostRuntime) -> Result<(), Fail> {
     let alloc = rt.alloc();
@@ -56,6 +56,9 @@ fn reads_find_the_newest_version_not_above_them(rt: HostRuntime) -> Result<(), F
         let found = next_id_at(alloc, &mut held, timestamp)?;
         assert!(rt; found == id);
     }
+    held.prune(5);
+    assert!(rt; next_id_at(alloc, &mut held, 4)? == 0);
+    assert!(rt; next_id_at(alloc, &mut held, 5)? == 2);
     assert!(rt; held.take().is_some());
     assert!(rt; held.take().is_none());
     Ok(())
