@@ -10,11 +10,11 @@ use Rattle.mv_chain.proofs.Marks.{every_mark_is_of_its_version_lem}
 use Rattle.mv_chain.proofs.Places.{versions_read_at-chain, versions_with-chain}
 use Rattle.mv_history.specs.History.{Entry, IsRising, entries_with, version_below}
 use Rattle.mv_history.specs.Laws.{IsVersionAfterCommit}
-use Rattle.mv_history.proofs.Lists.{Compared, less, not_less, compared, Equals, equal, unequal, equals}
+use Rattle.mv_history.proofs.Lists.{Compared, less, not_less, compared, Equals, equal, unequal, equals, all_insert, all_map}
 use Rattle.mv_history.proofs.Newest.{every_version_below_is_newest_lem, every_commit_is_found_lem}
 use Rattle.mv_agreement.specs.Agreement.{HoldsVersions, IsVersionFound}
 use Rattle.mv_agreement.specs.Laws.{EveryCommitKeepsAgreement, EveryFirstVersionAgrees, EveryPruneKeepsAgreement, EveryReadKeepsAgreement, EveryWriteFollowsTheVersionBelow, NoVersionIsAtAFreshTimestamp}
-use Rattle.mv_agreement.proofs.Lists.{all_insert, all_drop, all_map, all_contained, all_marked}
+use Rattle.mv_agreement.proofs.Lists.{all_drop, all_contained, all_marked}
 
 module _ {V : Type 0} where
   oldest_with : (t : ℕ) (value : V) (vs : List (Version V)) (low : ℕ) → IsChain vs → oldest_timestamp vs ≤ low → low ≤ t → oldest_timestamp (versions_with t value vs) ≤ low

@@ -13,13 +13,12 @@ use Rattle.mv_history.specs.World.{Attempt, IsLowerBound, attempt_at, attempts_w
 use Rattle.mv_history.proofs.Attempts.{found_attempt, found_timestamp}
 use Rattle.mv_history.proofs.CheckedCommits.{consistent_after_checked_commit}
 use Rattle.mv_history.proofs.Events.{schedule_after_prune, schedule_after_read}
-use Rattle.mv_history.proofs.Lists.{Compared, less, not_less, compared, Equals, equal, unequal, equals}
+use Rattle.mv_history.proofs.Lists.{Compared, less, not_less, compared, Equals, equal, unequal, equals, all_map}
 use Rattle.mv_history.proofs.SameWorlds.{version_below-monotone}
 use Rattle.mv_history.proofs.Versions.{next_below}
 use Rattle.mv_agreement.specs.Agreement.{HoldsVersions}
 use Rattle.mv_agreement.specs.Stores.{EveryCommitLeavesAStore, EveryPruneLeavesAStore, EveryReadLeavesAStore, IsStore, KeepsMarksFrom, after_entry, after_item_read, marked_where, marks_of, written_where}
 use Rattle.mv_agreement.proofs.Agreements.{after_prune, after_read, after_unwritten, after_written, fresh}
-use Rattle.mv_agreement.proofs.Lists.{all_map}
 
 -- ---- the marks of one item's versions
 
