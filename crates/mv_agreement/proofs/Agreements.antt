@@ -10,11 +10,11 @@ use Rattle.mv_chain.proofs.Marks.{every_mark_is_of_its_version_lem}
 use Rattle.mv_chain.proofs.Places.{versions_read_at-chain, versions_with-chain}
 use Rattle.mv_history.specs.History.{Entry, IsRising, entries_with, version_below}
 use Rattle.mv_history.specs.Laws.{IsVersionAfterCommit}
-use Rattle.mv_history.proofs.Lists.{Compared, less, not_less, compared, Equals, equal, unequal, equals}
+use Rattle.mv_history.proofs.Lists.{Compared, less, not_less, compared, Equals, equal, unequal, equals, all_insert, all_map}
 use Rattle.mv_history.proofs.Newest.{every_version_below_is_newest_lem, every_commit_is_found_lem}
 use Rattle.mv_agreement.specs.Agreement.{HoldsVersions, IsVersionFound}
 use Rattle.mv_agreement.specs.Laws.{EveryCommitKeepsAgreement, EveryFirstVersionAgrees, EveryPruneKeepsAgreement, EveryReadKeepsAgreement, EveryWriteFollowsTheVersionBelow, NoVersionIsAtAFreshTimestamp}
-use Rattle.mv_agreement.proofs.Lists.{all_insert, all_drop, all_map, all_contained, all_marked}
+use Rattle.mv_agreement.proofs.Lists.{all_drop, all_contained, all_marked}
 
 module _ {V : Type 0} where
   oldest_with : (t : ℕ) (value : V) (vs : List (Version V)) (low : ℕ) → IsChain vs → oldest_timestamp vs ≤ low → low ≤ t → oldest_timestamp (versions_with t value vs) ≤ low
@@ -55,7 +55,7 @@ module _ {Item Value Outcome V : Type 0} (give : Value → V) (same : Item → I
       }
 
   module _ (low : ℕ) (es : List (Entry Item Value Outcome)) (x : Item) (vs : List (Version V)) (holds : HoldsVersions give same base low es x vs) where
-    after_read : (t : ℕ) → low ≤ t → HoldsVersions give same base low es x (versions_read_at t vs)
+    pub after_read : (t : ℕ) → low ≤ t → HoldsVersions give same base low es x (versions_read_at t vs)
     after_read t above =
         record {
           chain = versions_read_at-chain t vs holds.chain;
@@ -73,7 +73,7 @@ module _ {Item Value Outcome V : Type 0} (give : Value → V) (same : Item → I
             (any_mark give (newest_at s vs d).timestamp (newest_at s vs d).value (newest_at s vs d).mark (max (newest_at s vs d).mark t) _ (holds.found s d k))
         at_test s d k c (unequal e) = found_as give ((every_read_marks_its_version_alone_lem V t s vs d holds.chain (omega (arith, old)) (omega (arith, old))).another e) refl (holds.found s d k)
 
-    fresh : IsRising 0 es → (t : ℕ) → 0 < t → AllByRecursion (λ e. e.timestamp ≢ t) es → AllByRecursion (λ version. version.timestamp ≢ t) vs
+    pub fresh : IsRising 0 es → (t : ℕ) → 0 < t → AllByRecursion (λ e. e.timestamp ≢ t) es → AllByRecursion (λ version. version.timestamp ≢ t) vs
     fresh rising t positive none = all_map (λ v. IsVersionFound give v (version_below same base es (suc v.timestamp) x)) _ vs at_version holds.held
       where
         at_version : (v : Version V) → IsVersionFound give v (version_below same base es (suc v.timestamp) x) → v.timestamp ≢ t
@@ -84,7 +84,7 @@ module _ {Item Value Outcome V : Type 0} (give : Value → V) (same : Item → I
             ]
 
     module _ (rising : IsRising 0 es) (e : Entry Item Value Outcome) (above_low : low ≤ e.timestamp) (absent : AllByRecursion (λ version. version.timestamp ≢ e.timestamp) vs) where
-      after_unwritten : lookup (same x) e.writes ≡ None → HoldsVersions give same base low (entries_with e es) x vs
+      pub after_unwritten : lookup (same x) e.writes ≡ None → HoldsVersions give same base low (entries_with e es) x vs
       after_unwritten none =
           record {
             chain = holds.chain;
@@ -99,7 +99,7 @@ module _ {Item Value Outcome V : Type 0} (give : Value → V) (same : Item → I
           let old : oldest_timestamp vs ≤ low = holds.old_enough in
           all_contained (λ (version : Version V). version.timestamp ≢ e.timestamp) vs (newest_at t vs d) absent (every_read_finds_the_newest_lem V t vs d holds.chain (omega arith)).held
 
-      after_written : (value : Value) → lookup (same x) e.writes ≡ Some value → HoldsVersions give same base low (entries_with e es) x (versions_with e.timestamp (give value) vs)
+      pub after_written : (value : Value) → lookup (same x) e.writes ≡ Some value → HoldsVersions give same base low (entries_with e es) x (versions_with e.timestamp (give value) vs)
       after_written value writes =
           record {
             chain = versions_with-chain e.timestamp (give value) vs (omega (arith, holds.old_enough)) absent holds.chain;
@@ -148,7 +148,7 @@ module _ {Item Value Outcome V : Type 0} (give : Value → V) (same : Item → I
               found_as give ((every_install_is_found_lem V e.timestamp t (give value) vs d holds.chain (omega arith) (omega arith) absent).above k) ((commit_found (suc t) x).above (omega arith)) (holds.found t d above)
           by_time t d above c (not_less k) = by_version t d above k (nat_lt (newest_at t vs d).timestamp e.timestamp) (compared (newest_at t vs d).timestamp e.timestamp)
 
-    after_prune : (higher : ℕ) → low ≤ higher → HoldsVersions give same base higher es x (versions_from higher vs)
+    pub after_prune : (higher : ℕ) → low ≤ higher → HoldsVersions give same base higher es x (versions_from higher vs)
     after_prune higher h =
         record {
           chain = pruned.chain;

@@ -1,23 +1,13 @@
--- What holds of each version, and of the versions after a read, with one more, and from one on.
-use Rattle.std.proofs.Common.{ℕ, zero, suc, max, List, [], ◌∷◌, drop, insert, length, get_or, Contains, subst, arith, ◌<◌}
+-- What holds of each version, and of the versions after a read and from one on.
+use Rattle.std.proofs.Common.{ℕ, zero, suc, max, List, [], ◌∷◌, drop, length, get_or, Contains, subst, arith, ◌<◌}
 use Rattle.std.specs.List.{AllByRecursion}
 use Rattle.mv_chain.specs.declared.Version.{Version}
 use Rattle.mv_chain.specs.Versions.{marked_at_index}
-
-pub all_insert : {X : Type 0} (P : X → Type 0) (xs : List X) (i : ℕ) (y : X) → AllByRecursion P xs → P y → AllByRecursion P (insert xs i y)
-all_insert P [] zero y h k = (k, tt)
-all_insert P [] (suc i) y h k = (k, tt)
-all_insert P (x ∷ xs) zero y h k = (k, h)
-all_insert P (x ∷ xs) (suc i) y h k = (h.0, all_insert P xs i y h.1 k)
 
 pub all_drop : {X : Type 0} (P : X → Type 0) (i : ℕ) (xs : List X) → AllByRecursion P xs → AllByRecursion P (drop i xs)
 all_drop P zero xs h = h
 all_drop P (suc i) [] h = tt
 all_drop P (suc i) (x ∷ xs) h = all_drop P i xs h.1
-
-pub all_map : {X : Type 0} (P Q : X → Type 0) (xs : List X) → ((x : X) → P x → Q x) → AllByRecursion P xs → AllByRecursion Q xs
-all_map P Q [] f h = tt
-all_map P Q (x ∷ xs) f h = (f x h.0, all_map P Q xs f h.1)
 
 pub all_at : {X : Type 0} (P : X → Type 0) (xs : List X) (i : ℕ) (d : X) → AllByRecursion P xs → i < length xs → P (get_or xs i d)
 all_at P [] i d h within = absurd (omega arith)

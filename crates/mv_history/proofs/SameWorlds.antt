@@ -59,10 +59,10 @@ module _ {Item Value Outcome : Type 0} (same : Item → Item → Bool) where
           rest (version_after (nat_lt f.timestamp t) (lookup (same x) f.writes) f.timestamp v) (after_f-old (nat_lt f.timestamp t) (lookup (same x) f.writes)) (after_f-below k (nat_lt f.timestamp t) (lookup (same x) f.writes))
 
 module _ {Item Value Outcome : Type 0} (same : Item → Item → Bool) (base : Item → Value) where
-  version_below-monotone : (s t : ℕ) (es : List (Entry Item Value Outcome)) (x : Item) → s ≤ t → IsRising 0 es → (version_below same base es s x).0 ≤ (version_below same base es t x).0
+  pub version_below-monotone : (s t : ℕ) (es : List (Entry Item Value Outcome)) (x : Item) → s ≤ t → IsRising 0 es → (version_below same base es s x).0 ≤ (version_below same base es t x).0
   version_below-monotone s t es x h r = newest_version-monotone same s t 0 es x (0, base x) (0, base x) h r (omega arith) (omega arith)
 
-  version_below-grows : (e : Entry Item Value Outcome) (t : ℕ) (es : List (Entry Item Value Outcome)) (x : Item) → IsRising 0 es → (version_below same base es t x).0 ≤ (version_below same base (entries_with e es) t x).0
+  pub version_below-grows : (e : Entry Item Value Outcome) (t : ℕ) (es : List (Entry Item Value Outcome)) (x : Item) → IsRising 0 es → (version_below same base es t x).0 ≤ (version_below same base (entries_with e es) t x).0
   version_below-grows e t es x r = newest_version-grows same e t 0 es x (0, base x) r (omega arith) (omega arith)
 
   pub same_world-itself : (w : World Item Value Outcome) → IsSameWorld same base w w

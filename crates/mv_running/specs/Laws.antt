@@ -1,5 +1,5 @@
 -- What every list of events comes to. The statements of the laws.
-use Rattle.std.specs.Prelude.{◌≡◌, ℕ, List, Some, Err}
+use Rattle.std.specs.Prelude.{◌≡◌, ◌↔◌, ℕ, true, List, Some, Err}
 use Rattle.std.specs.List.{Contains}
 use Rattle.avm_ledger.specs.Ledgers.{Ledger}
 use Rattle.avm_items.specs.declared.call_data.CallData.{CallData}
@@ -10,11 +10,12 @@ use Rattle.avm_items.specs.Asks.{answer_from, items_asked}
 use Rattle.avm_call.specs.AskedFor.{AreAskedFor}
 use Rattle.avm_call.specs.Calls.{call_result}
 use Rattle.avm_laws.specs.Orderly.{IsOrderly}
-use Rattle.mv_history.specs.World.{attempt_at}
-use Rattle.mv_calls.specs.CallHistory.{CallAttempt, call_of}
+use Rattle.mv_history.specs.SameWorlds.{IsSameWorld}
+use Rattle.mv_history.specs.World.{IsInTime, attempt_at, greatest_mark}
+use Rattle.mv_calls.specs.CallHistory.{CallAttempt, CallEntry, call_of, same_item}
 use Rattle.mv_calls.specs.SerialCalls.{AreSerialCalls, CallsLeadTo}
 use Rattle.mv_running.specs.declared.Event.{Event}
-use Rattle.mv_running.specs.Running.{RunInput, Running, first_running, running_from, worker_at}
+use Rattle.mv_running.specs.Running.{RunInput, Running, first_running, running_after, running_from, worker_at, writes_in_time}
 
 -- the events of the order theorem lead to the world: each step is one of them, or changes nothing
 abbrev pub EveryRunLeadsOn : Type 0
@@ -44,3 +45,22 @@ abbrev pub EveryReadIsUsed : Type 0
 EveryReadIsUsed =
     (input : RunInput) (a : CallAttempt) (call : CallData) (x : Item) → call_of input.calls a.number ≡ Some call → answer_from (value_in a.reads) (call_result call input.header) ≡ Err x
     → (l : Ledger) → IsOrderly l → AgreesWithReads l a.reads → Contains (items_asked (at l) (call_result call input.header)) x
+
+-- ---- runs that differ in marks that don't count
+
+-- one state but for marks of versions that no one from the low mark on asks for
+pub record IsSameRunning (input : RunInput) (r s : Running) : Type 0 where
+  pub world : IsSameWorld same_item (at input.base) r.world s.world
+  pub workers : r.workers ≡ s.workers
+
+-- the same event leads to the same state again
+abbrev pub EverySameRunGoesOn : Type 0
+EverySameRunGoesOn =
+    (input : RunInput) (r s : Running) → CallsLeadTo input.base input.header input.calls r.world → AreAtWork input r → IsSameRunning input r s
+    → (e : Event) → IsSameRunning input (running_after input r e) (running_after input s e)
+
+-- the test of a commit is the order theorem's
+abbrev pub TestsAreInTime : Type 0
+TestsAreInTime =
+    (input : RunInput) (r : Running) (e : CallEntry)
+    → (writes_in_time input r e.timestamp e.writes ≡ true) ↔ IsInTime same_item (at input.base) (greatest_mark same_item r.world.marks) r.world.entries e

@@ -3,7 +3,7 @@
 //! speaks (specs/Laws.antt). The functions here are laws and do no work.
 #![tactic(auto)]
 
-ghost use Rattle.mv_running.specs.Laws.{EveryReadIsUsed, EveryRunIsSerial, EveryRunLeadsOn, EveryWorkerIsLive};
+ghost use Rattle.mv_running.specs.Laws.{EveryReadIsUsed, EveryRunIsSerial, EveryRunLeadsOn, EverySameRunGoesOn, EveryWorkerIsLive, TestsAreInTime};
 
 use mv_calls::every_interleaving_of_calls_is_serial;
 
@@ -35,4 +35,11 @@ pub fn every_run_is_serial()
 /// The item that a Read takes is one that the call uses, on every ledger that has what was read.
 pub fn every_read_is_used()
     ensures { EveryReadIsUsed }
+{}
+
+/// A run whose world lacks marks that no one from the low mark on asks for goes on as one that has them all, and the
+/// test by which a commit is late is the order theorem's. So a store that drops old versions makes the same steps.
+pub fn every_same_run_goes_on()
+    ensures same { EverySameRunGoesOn }
+    ensures in_time { TestsAreInTime }
 {}
