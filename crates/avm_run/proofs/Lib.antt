@@ -10,3 +10,4 @@ mod Outcomes
 mod Alive
 mod Leading
 mod Answering
+mod Showing

@@ -4,3 +4,4 @@ pub mod Results
 pub mod Progress
 pub mod RunState
 pub mod Advances
+pub mod Showing

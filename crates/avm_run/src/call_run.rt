@@ -4,10 +4,12 @@ ghost use Rattle.std.specs.Prelude.{◌≡◌, [], None, Some, IfOk};
 ghost use Rattle.std.specs.Result.{result_err};
 ghost use Rattle.avm_ops.specs.Objects.{IsFull};
 ghost use Rattle.avm_run.specs.Advances.{Advances, Steps, Supplies};
+ghost use Rattle.avm_run.specs.Showing.{Shows};
 
 use crate::finished::Finished;
 use crate::live::{Live, Ran, Went, run_on, step_on};
-use avm_call::Call;
+use crate::shown::Shown;
+use avm_call::{Call, Ended};
 use avm_cpu::Cpu;
 use avm_items::{Item, ItemValue};
 use avm_ledger::Header;
@@ -43,7 +45,10 @@ pub enum Step {
     Moved,
     /// It asks for the value of this item.
     Need(Item),
-    /// The path has no next place, and the call has ended.
+    /// The program has ended so, at the place where the run stands. The run still shows that place, and goes on to the end of
+    /// the call by [`CallRun::advance`].
+    Ended(Ended),
+    /// No program runs, and the call has ended.
     Done(Finished),
 }
 
@@ -88,6 +93,17 @@ impl CallRun {
             state: State::Live(live),
             spare,
         })
+    }
+
+    /// Where the program of the run stands, if it has begun and the run may go on: what has come of the steps made, over the
+    /// items supplied. At a fault and at the end of the program it stays as it was before the step that ends the program.
+    pub fn shown(&self) -> Option<Shown<'_>>
+        ensures { Shows self.now result }
+    {
+        match &self.state {
+            State::Live(live) => live.shown(),
+            State::Spent => None,
+        }
     }
 
     /// The machine of a run, for the next one, if it has one: a run has none whose program has not begun and that was not
@@ -143,7 +159,8 @@ impl CallRun {
 
     /// Makes one step of the path of the call's program, over the items supplied. The first step makes the tests before the
     /// program and leads to the start of the path, before the first instruction; each further step carries out one
-    /// instruction. Where no program runs, and where the path has ended, the call ends, as with [`CallRun::advance`].
+    /// instruction. At a fault and at the end of the program the run stays where it stands. Where no program runs, the call
+    /// ends, as with [`CallRun::advance`].
     pub fn step_one(&mut self, alloc: Global, ops: &OpSet) -> Result<Step, RunFault>
         requires full { IsFull ⟦<BoxedOp as Op>⟧.opcode ops.now }
         ensures { Steps self.old self.new result }
@@ -154,6 +171,10 @@ impl CallRun {
                 Ok(Went::On(live)) => {
                     self.state = State::Live(live);
                     Ok(Step::Moved)
+                }
+                Ok(Went::Ends(live, ended)) => {
+                    self.state = State::Live(live);
+                    Ok(Step::Ended(ended))
                 }
                 Ok(Went::Stops(ran)) => match ran {
                     Ran::Need(live, item) => {

@@ -7,10 +7,13 @@ mod admission;
 mod call_run;
 mod ending;
 mod finished;
+pub mod laws;
 mod live;
 mod on_ledger;
 mod running;
+mod shown;
 
 pub use call_run::{Advance, CallRun, RunFault, Step};
 pub use finished::Finished;
 pub use on_ledger::{call_on, call_plain};
+pub use shown::Shown;

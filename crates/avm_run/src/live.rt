@@ -72,6 +72,8 @@ pub(crate) enum Tested {
 #[derive(Drop)]
 pub(crate) enum Went {
     On(Live),
+    /// The program has ended where it stands.
+    Ends(Live, Ended),
     Stops(Ran),
 }
 
@@ -257,7 +259,7 @@ pub(crate) fn step_on(
             })),
             Tested::Stops(ran) => Ok(Went::Stops(ran)),
         },
-        Phase::Runs(running) => step_program(alloc, ops, call, header, running, spare),
+        Phase::Runs(running) => step_program(alloc, ops, call, header, running),
     }
 }
 
@@ -309,7 +311,6 @@ fn step_program(
     call: Call,
     header: Header,
     running: Box<Running>,
-    spare: &mut Option<Cpu>,
 ) -> Result<Went, AllocError>
     requires full { IsFull ⟦<BoxedOp as Op>⟧.opcode ops.now }
     requires begun { BeginsRun call header running.value.env.reads running.value }
@@ -329,8 +330,13 @@ fn step_program(
             Ok(Went::Stops(Ran::Need(live, item)))
         }
         Stepped::Ended(ended) => {
-            let closed = close(alloc, call, header, running, ended, spare)?;
-            Ok(Went::Stops(Ran::Done(closed)))
+            let live = Live {
+                call,
+                header,
+                phase: Phase::Runs(running),
+                asked: None,
+            };
+            Ok(Went::Ends(live, ended))
         }
     }
 }

@@ -7,18 +7,26 @@ use avm_call::{Call, Outcome, Why};
 use avm_items::{Completion, item_of};
 use avm_ledger::{Ledger, Profile, Schema};
 use avm_ops::{BoxedOp, Op, OpSet};
-use avm_run::{CallRun, Step};
+use avm_run::{Advance, CallRun, Step};
 use std::alloc::Global;
 use std::test::Fail;
 use teal_value::Fault;
 
-/// How many steps a run makes that is supplied with a ledger's items, and how it ends.
+/// The place where the program of a run stands, and how many values are on the stack there.
+fn stands_at(run: &CallRun) -> Option<(u16, usize)> {
+    match run.shown() {
+        Some(shown) => Some((shown.place, shown.machine.depth())),
+        None => None,
+    }
+}
+
+/// How many steps a run makes that is supplied with a ledger's items, where its program ends, and how the call does.
 fn steps_of(
     alloc: Global,
     ops: &OpSet,
     ledger: &Ledger,
     call: &Call,
-) -> Result<Option<(u32, Outcome)>, Fail>
+) -> Result<Option<(u32, Option<(u16, usize)>, Outcome)>, Fail>
     requires full { IsFull ⟦<BoxedOp as Op>⟧.opcode ops.now }
 {
     let mut run = CallRun::start(alloc, call, &header(Profile::Two), None)?;
@@ -32,7 +40,14 @@ fn steps_of(
                     return Ok(None);
                 }
             }
-            Ok(Step::Done(finished)) => return Ok(Some((moved, finished.outcome()))),
+            Ok(Step::Ended(_ended)) => {
+                let place = stands_at(&run);
+                return match run.advance(alloc, ops) {
+                    Ok(Advance::Done(finished)) => Ok(Some((moved, place, finished.outcome()))),
+                    _ => Ok(None),
+                };
+            }
+            Ok(Step::Done(finished)) => return Ok(Some((moved, None, finished.outcome()))),
             Err(_fault) => return Ok(None),
         }
     }
@@ -40,19 +55,20 @@ fn steps_of(
 }
 
 /// A run steps to the start of its program and then over one instruction after another, `return` among them; a fault is
-/// no step, and where no program runs there is none.
+/// no step, and where no program runs there is none. It stands at the end of the program with one value on the stack, or
+/// where it faulted.
 pub fn runs_step_by_instruction(alloc: Global, ops: &OpSet) -> Result<bool, Fail>
     requires full { IsFull ⟦<BoxedOp as Op>⟧.opcode ops.now }
 {
-    let cases: [(u64, &str, Schema, u32, Outcome); 5] = [
-        (0, APPROVES, NO_ENTRY, 3, Outcome::Approved),
-        (0, "022001012243", NO_ENTRY, 4, Outcome::Approved),
-        (0, FAULTS, NO_ENTRY, 1, Outcome::Faulted(Fault::Err, 1)),
-        (0, COUNTS, ONE_UINT, 10, Outcome::Approved),
-        (1, "", NO_ENTRY, 0, Outcome::Refused(Why::NoApp)),
+    let cases: [(u64, &str, Schema, u32, Option<(u16, usize)>, Outcome); 5] = [
+        (0, APPROVES, NO_ENTRY, 3, Some((5, 1)), Outcome::Approved),
+        (0, "022001012243", NO_ENTRY, 4, Some((6, 1)), Outcome::Approved),
+        (0, FAULTS, NO_ENTRY, 1, Some((1, 0)), Outcome::Faulted(Fault::Err, 1)),
+        (0, COUNTS, ONE_UINT, 10, Some((15, 1)), Outcome::Approved),
+        (1, "", NO_ENTRY, 0, None, Outcome::Refused(Why::NoApp)),
     ];
     let ledger = Ledger::new(alloc);
-    for (application, program, schema, moved, outcome) in cases {
+    for (application, program, schema, moved, place, outcome) in cases {
         let fields = fields(
             alloc,
             application,
@@ -62,7 +78,7 @@ pub fn runs_step_by_instruction(alloc: Global, ops: &OpSet) -> Result<bool, Fail
             schema,
         )?;
         let call = checked(alloc, fields)?;
-        if steps_of(alloc, ops, &ledger, &call)? != Some((moved, outcome)) {
+        if steps_of(alloc, ops, &ledger, &call)? != Some((moved, place, outcome)) {
             return Ok(false);
         }
     }

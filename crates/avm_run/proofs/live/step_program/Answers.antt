@@ -1,13 +1,12 @@
-use Rattle.std.proofs.Common.{◌≡◌, ◌+◌, Some, Ok, Err, refl, sym, ap, ◌∙◌, subst}
+use Rattle.std.proofs.Common.{◌≡◌, ◌+◌, None, Some, Ok, Err, refl, sym, ap, ◌∙◌, subst}
 use Rattle.avm_items.specs.Items.{value_in}
 use Rattle.avm_items.specs.Asks.{answer_from}
-use Rattle.avm_items.specs.Environments.{Environment}
 use Rattle.avm_call.specs.CallPaths.{call_path}
 use Rattle.avm_run.specs.declared.live.Live.{Live}
 use Rattle.avm_run.specs.declared.running.Running.{Running}
 use Rattle.avm_run.specs.Standing.{AsksThere, BeginsRun}
-use Rattle.avm_run.specs.Progress.{AsksIn, HasStep, PathIs, steps_of}
-use Rattle.avm_run.proofs.Leading.{still_runs, asks_over, begins_there, ends_run, path_over_items}
+use Rattle.avm_run.specs.Progress.{AsksIn, HasStep, steps_of}
+use Rattle.avm_run.proofs.Leading.{still_runs, asks_over, begins_there, path_over_items}
 use Rattle.avm_run.proofs.live.step_program.Goals as goal
 
 pub returns-in-On : goal.returns-in-On
@@ -50,19 +49,27 @@ returns-in-Need g c =
       ap Some (step.counted ∙ ap (λ (r : Running). r.steps) c.deref_mut.ensures.value),
     )
 
-pub returns-in_ok-closed-in-Ended : goal.returns-in_ok-closed-in-Ended
-returns-in_ok-closed-in-Ended g c =
+pub returns-in-Ended : goal.returns-in-Ended
+returns-in-Ended g c =
     let old = c.deref_mut.result.now in
+    let new = c.step.new.running in
     let items = c.args.running.value.env.reads in
     let begun = subst (BeginsRun c.args.call c.args.header items) (sym c.deref_mut.ensures.value) c.requires.begun in
     let step = rw c.in-Ended.is at c.in_ok-step.ensures in
-    let ends = c.in_ok-closed-in-Ended.ensures in
-    let reads = ap (λ (e : Environment). e.reads) step.same.env ∙ ap (λ (r : Running). r.env.reads) c.deref_mut.ensures.value in (
-      ends_run c.args.call c.args.call c.args.header items _ c.in_ok-closed-in-Ended.closed refl reads ends.ends,
-      record {
-        reached = Some (step.position, Some c.in-Ended.ended);
-        last = subst (λ (r : Running). PathIs c.args.call c.args.header items (r.steps + 1) (Ok (Some (step.position, Some c.in-Ended.ended)))) c.deref_mut.ensures.value
-            (path_over_items c.args.call c.args.header items old (old.steps + 1) (Ok (Some (step.position, Some c.in-Ended.ended))) begun step.next);
-        outcome = ends.outcome;
-      },
-    )
+    let runs = still_runs c.args.call c.args.header items old new begun step.same step.stands in
+    let counted = ap (λ (r : Running). r.steps) c.deref_mut.ensures.value in
+    record {
+      same_call = refl;
+      same_header = refl;
+      same_reads = runs.same_items;
+      asked = refl;
+      follows = record { same_call = runs.same_call; same_header = runs.same_header; same_items = refl; stands = step.stands };
+      counted = ap Some (step.counted ∙ counted);
+      path = record {
+        number = old.steps;
+        counted = ap Some (sym counted);
+        position = step.position;
+        there = path_over_items c.args.call c.args.header items old old.steps (Ok (Some (step.position, None))) begun step.there;
+        next = path_over_items c.args.call c.args.header items old (old.steps + 1) (Ok (Some (step.position, Some c.in-Ended.ended))) begun step.next;
+      };
+    }

@@ -7,8 +7,8 @@ use Rattle.avm_run.specs.declared.call_run.Step.TheVariants as step
 use Rattle.avm_run.specs.Advances.{AsksFor, Steps}
 use Rattle.avm_run.specs.Progress.{IsAlive}
 use Rattle.avm_run.specs.RunState.{Progress, progress, IsSound}
-use Rattle.avm_run.proofs.Alive.{asks_alive, asked_by_end, goes_alive}
-use Rattle.avm_run.proofs.Answering.{asks_for, makes_step, progress_of}
+use Rattle.avm_run.proofs.Alive.{asks_alive, asked_by_end, ends_alive, goes_alive}
+use Rattle.avm_run.proofs.Answering.{asks_for, ends_there, makes_step, progress_of}
 use Rattle.avm_run.proofs.call_run.CallRun.step_one.Goals as goal
 
 pub invariant_of-self-in-Ok-On : goal.invariant_of-self-in-Ok-On
@@ -20,6 +20,16 @@ pub returns-in-Ok-On : goal.returns-in-Ok-On
 returns-in-Ok-On g c =
     subst (λ (p : Option Progress). Steps p (progress (Live c.in-Ok-On.live)) (Ok step.Moved)) (ap progress c.in-Live.ensures.value ∙ c.self.view_is)
     (makes_step c.in-Live.live c.in-Ok-On.live (rw c.in-Ok-On.field-0-is at c.in-Ok-On.ensures))
+
+pub invariant_of-self-in-Ok-Ends : goal.invariant_of-self-in-Ok-Ends
+invariant_of-self-in-Ok-Ends g c =
+    let alive : IsAlive c.in-Live.live = subst IsSound (sym c.in-Live.ensures.value) c.self.invariant in
+    ends_alive c.in-Live.live c.in-Ok-Ends.live c.in-Ok-Ends.ended alive.few (rw c.in-Ok-Ends.field-0-is at c.in-Ok-Ends.ensures)
+
+pub returns-in-Ok-Ends : goal.returns-in-Ok-Ends
+returns-in-Ok-Ends g c =
+    subst (λ (p : Option Progress). Steps p (progress (Live c.in-Ok-Ends.live)) (Ok (step.Ended c.in-Ok-Ends.ended))) (ap progress c.in-Live.ensures.value ∙ c.self.view_is)
+    (ends_there c.in-Live.live c.in-Ok-Ends.live c.in-Ok-Ends.ended (rw c.in-Ok-Ends.field-0-is at c.in-Ok-Ends.ensures))
 
 pub invariant_of-self-in-Need : goal.invariant_of-self-in-Need
 invariant_of-self-in-Need g c =
