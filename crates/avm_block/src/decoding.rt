@@ -18,6 +18,7 @@ use crate::entry::Entry;
 use crate::header_codec::{header_of, profile_of};
 use crate::outcome_codec::outcome_of;
 use avm_call::Call;
+use avm_call_codec::CallCodec;
 use avm_items::{CallData, CallDataFault};
 use avm_ledger::{Fields, Profile};
 use sha2::{Digest, Sha256};

@@ -10,6 +10,7 @@ use crate::block::Block;
 use crate::entry::Entry;
 use crate::header_codec::{put_format, put_header};
 use crate::outcome_codec::put_outcome;
+use avm_call_codec::CallCodec;
 use avm_ledger::spelling::{put_u32, put_u64};
 use sha2::{Digest, Sha256};
 use std::alloc::{AllocError, Global};

@@ -6,8 +6,6 @@
 
 mod call_data;
 mod call_fault;
-mod call_reading;
-mod call_writing;
 mod env;
 mod item;
 mod item_map;

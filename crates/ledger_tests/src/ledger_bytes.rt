@@ -1,5 +1,6 @@
 //! The bytes of ledgers and calls. The digests are those of the system's `sha256sum`.
 
+use avm_call_codec::CallCodec;
 use avm_items::{CallData, CallDataFault, Completion};
 use avm_ledger::{Ledger, LedgerFault, Schema};
 use std::test::Fail;

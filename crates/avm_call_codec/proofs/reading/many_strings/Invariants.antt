@@ -1,0 +1,8 @@
+use Rattle.std.proofs.Common.{◌-◌}
+use Rattle.avm_ledger.specs.FieldReader.{string_at, many_at}
+use Rattle.avm_ledger.proofs.ManyReading.{ReadsOn}
+use Rattle.avm_items.specs.declared.call_fault.CallDataFault.TheVariants.{Truncated}
+use Rattle.avm_call_codec.proofs.reading.many_strings.Given as goal
+
+abbrev pub invariant-loop : goal.invariant-loop
+invariant-loop l = ReadsOn (string_at Truncated) l.strings.items (l.count - l.counter) l.rest (many_at (string_at Truncated) l.count l.fn.fields)

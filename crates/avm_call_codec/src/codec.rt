@@ -1,0 +1,61 @@
+//! Calls read from bytes and written as bytes.
+
+ghost use Rattle.std.specs.Prelude.{◌≡◌, ◌++◌, ◌<◌, ◌≤◌, length, Ok, IfOk, OnOk};
+ghost use Rattle.teal_value.specs.Answer.{Gives};
+ghost use Rattle.avm_items.specs.declared.call_data.CallData.{CallData as CallFields};
+ghost use Rattle.avm_items.specs.CallReader.{call_at, call_from};
+ghost use Rattle.avm_items.specs.CallReading.{HasFields};
+ghost use Rattle.avm_items.specs.CallSpelling.{call_bytes};
+
+use crate::reading::{call_of, front_of};
+use crate::writing::put_call;
+use avm_items::{CallData, CallDataError, CallDataFault};
+use avm_ledger::Fields;
+use std::alloc::{AllocError, Global};
+use teal_value::Failure;
+
+/// A value with one spelling in bytes: the calls `read`, `front` and `encode_into` of [`CallData`].
+pub trait CallCodec: Sized {
+    /// The call that the bytes are. The first fault in reading order counts. Nothing grows by a count or a length that the
+    /// bytes do not back.
+    fn read(alloc: Global, bytes: &[u8]) -> Result<Self, CallDataError>;
+
+    /// The call that begins at a place of the bytes, and the place behind it, whatever follows. A place behind the end has
+    /// no bytes.
+    fn front(alloc: Global, bytes: &[u8], place: usize) -> Result<(Self, usize), CallDataError>;
+
+    /// Appends the call's spelling. Of a count or a length that has no room in its field, the low bytes are written. At want
+    /// of memory a part may have been appended.
+    fn encode_into(&self, bytes: &mut Vec<u8>) -> Result<(), AllocError>;
+}
+
+impl CallCodec for CallData {
+    fn read(alloc: Global, bytes: &[u8]) -> Result<CallData, CallDataError>
+        // The call that the grammar reads, or the fault that it names.
+        ensures exact { Gives (λ call. call) result (call_at bytes.now) }
+        // What is read is spelled by those very bytes.
+        ensures spelled { IfOk result (λ call. call_bytes call ≡ bytes.now) }
+        // A call is read from its spelling, unless memory runs out.
+        ensures only { (call : CallFields) → HasFields call → bytes.now ≡ call_bytes call → Gives (λ x. x) result (Ok call) }
+    {
+        call_of(alloc, bytes)
+    }
+
+    fn front(alloc: Global, bytes: &[u8], place: usize) -> Result<(CallData, usize), CallDataError>
+        ensures exact { Gives (λ x. x) result (call_from bytes.now place) }
+        ensures forward { IfOk result (λ x. (place < x.1) × (x.1 ≤ length bytes.now)) }
+    {
+        if place > bytes.len() {
+            return Err(Failure::Fault(CallDataFault::Truncated));
+        }
+        let (_, here) = bytes.split_at(place);
+        let (call, rest) = front_of(alloc, Fields::new(here))?;
+        Ok((call, bytes.len() - rest.len()))
+    }
+
+    fn encode_into(&self, bytes: &mut Vec<u8>) -> Result<(), AllocError>
+        ensures { OnOk result (bytes.new.items ≡ bytes.old.items ++ call_bytes self.now) }
+    {
+        put_call(bytes, self)
+    }
+}

@@ -1,0 +1,215 @@
+//! The fields of a call, read one after another.
+
+ghost use Rattle.std.specs.Int.{w64};
+ghost use Rattle.teal_value.specs.Answer.{Gives};
+ghost use Rattle.avm_ledger.specs.FieldReader.{address_at, counted_at, many_at, number_at, string_at};
+ghost use Rattle.avm_items.specs.declared.call_fault.CallDataFault.TheVariants.{Truncated};
+ghost use Rattle.avm_items.specs.CallReader.{call_at, call_front, completion_at};
+ghost use Rattle.avm_call_codec.specs.CallParts.{call_in_parts, front_fields, list_fields, program_fields};
+
+use crate::parts::{FrontFields, ListFields, ProgramFields, call_of_parts};
+use avm_items::{Addresses, CallData, CallDataError, CallDataFault, Completion};
+use avm_ledger::Fields;
+use std::alloc::Global;
+use teal_value::{Address, ByteString, ByteStrings, Failure, Uints};
+
+/// The call that the bytes are.
+pub(crate) fn call_of(alloc: Global, bytes: &[u8]) -> Result<CallData, CallDataError>
+    ensures { Gives (λ call. call) result (call_at bytes.now) }
+{
+    let (call, rest) = front_of(alloc, Fields::new(bytes))?;
+    if !rest.is_empty() {
+        return Err(Failure::Fault(CallDataFault::Rest));
+    }
+    Ok(call)
+}
+
+/// The call that the bytes begin with, and the bytes behind it.
+pub(crate) fn front_of(
+    alloc: Global,
+    fields: Fields<'_>,
+) -> Result<(CallData, Fields<'_>), CallDataError>
+    ensures { Gives (λ x. x) result (call_front fields.entry) }
+{
+    front_in_parts(alloc, fields)
+}
+
+/// The same, one group of fields after another.
+fn front_in_parts(
+    alloc: Global,
+    fields: Fields<'_>,
+) -> Result<(CallData, Fields<'_>), CallDataError>
+    ensures { Gives (λ x. x) result (call_in_parts fields.entry) }
+{
+    let (front, rest) = front_fields_of(alloc, fields)?;
+    let (lists, rest) = list_fields_of(alloc, rest)?;
+    let (programs, rest) = program_fields_of(alloc, rest)?;
+    Ok((call_of_parts(front, lists, programs), rest))
+}
+
+/// The sender up to the completion.
+fn front_fields_of(
+    alloc: Global,
+    fields: Fields<'_>,
+) -> Result<(FrontFields, Fields<'_>), CallDataError>
+    ensures { Gives (λ x. x) result (front_fields fields.entry) }
+{
+    let truncated = CallDataFault::Truncated;
+    let (sender, rest) = fields.address(truncated)?;
+    let (fee, rest) = rest.u64(truncated)?;
+    let (first_valid, rest) = rest.u64(truncated)?;
+    let (last_valid, rest) = rest.u64(truncated)?;
+    let (note, rest) = string_of(alloc, rest)?;
+    let (lease, rest) = rest.array(truncated)?;
+    let (rekey_to, rest) = rest.address(truncated)?;
+    let (application, rest) = rest.u64(truncated)?;
+    let (completion, rest) = completion_of(rest)?;
+    let front = FrontFields {
+        sender,
+        fee,
+        first_valid,
+        last_valid,
+        note,
+        lease,
+        rekey_to,
+        application,
+        completion,
+    };
+    Ok((front, rest))
+}
+
+/// The arguments, accounts and foreign applications.
+fn list_fields_of(
+    alloc: Global,
+    fields: Fields<'_>,
+) -> Result<(ListFields, Fields<'_>), CallDataError>
+    ensures { Gives (λ x. x) result (list_fields fields.entry) }
+{
+    let (arguments, rest) = strings_of(alloc, fields)?;
+    let (accounts, rest) = addresses_of(alloc, rest)?;
+    let (foreign_applications, rest) = uints_of(alloc, rest)?;
+    let lists = ListFields {
+        arguments,
+        accounts,
+        foreign_applications,
+    };
+    Ok((lists, rest))
+}
+
+/// The programs and schemas.
+fn program_fields_of(
+    alloc: Global,
+    fields: Fields<'_>,
+) -> Result<(ProgramFields, Fields<'_>), CallDataError>
+    ensures { Gives (λ x. x) result (program_fields fields.entry) }
+{
+    let (approval, rest) = string_of(alloc, fields)?;
+    let (clear, rest) = string_of(alloc, rest)?;
+    let (global_schema, rest) = rest.schema(CallDataFault::Truncated)?;
+    let (local_schema, rest) = rest.schema(CallDataFault::Truncated)?;
+    let programs = ProgramFields {
+        approval,
+        clear,
+        global_schema,
+        local_schema,
+    };
+    Ok((programs, rest))
+}
+
+fn completion_of(fields: Fields<'_>) -> Result<(Completion, Fields<'_>), CallDataError>
+    ensures { Gives (λ x. x) result (completion_at fields.entry) }
+{
+    let (number, rest) = fields.u8(CallDataFault::Truncated)?;
+    let completion = match number {
+        0 => Completion::NoOp,
+        1 => Completion::OptIn,
+        2 => Completion::CloseOut,
+        3 => Completion::ClearState,
+        4 => Completion::UpdateApplication,
+        5 => Completion::DeleteApplication,
+        _ => return Err(Failure::Fault(CallDataFault::Field)),
+    };
+    Ok((completion, rest))
+}
+
+fn string_of(alloc: Global, fields: Fields<'_>) -> Result<(ByteString, Fields<'_>), CallDataError>
+    ensures { Gives (λ x. x) result (string_at Truncated fields.entry) }
+{
+    let (bytes, rest) = fields.string(CallDataFault::Truncated)?;
+    Ok((ByteString::from_slice(alloc, bytes)?, rest))
+}
+
+fn strings_of(alloc: Global, fields: Fields<'_>) -> Result<(ByteStrings, Fields<'_>), CallDataError>
+    ensures { Gives (λ x. x) result (counted_at Truncated (string_at Truncated) fields.entry) }
+{
+    let (count, rest) = fields.u8(CallDataFault::Truncated)?;
+    let (strings, rest) = many_strings(alloc, count, rest)?;
+    Ok((ByteStrings::from_vec(strings), rest))
+}
+
+fn many_strings(
+    alloc: Global,
+    count: u8,
+    fields: Fields<'_>,
+) -> Result<(Vec<ByteString>, Fields<'_>), CallDataError>
+    ensures { Gives (λ x. (x.0.items, x.1)) result (many_at (string_at Truncated) count fields.entry) }
+{
+    let mut strings = Vec::new(alloc);
+    let mut rest = fields;
+    for _ in 0..count {
+        let (string, next) = string_of(alloc, rest)?;
+        strings.push(string)?;
+        rest = next;
+    }
+    Ok((strings, rest))
+}
+
+fn addresses_of(alloc: Global, fields: Fields<'_>) -> Result<(Addresses, Fields<'_>), CallDataError>
+    ensures { Gives (λ x. x) result (counted_at Truncated (address_at Truncated) fields.entry) }
+{
+    let (count, rest) = fields.u8(CallDataFault::Truncated)?;
+    let (addresses, rest) = many_addresses(alloc, count, rest)?;
+    Ok((Addresses::from_vec(addresses), rest))
+}
+
+fn many_addresses(
+    alloc: Global,
+    count: u8,
+    fields: Fields<'_>,
+) -> Result<(Vec<Address>, Fields<'_>), CallDataError>
+    ensures { Gives (λ x. (x.0.items, x.1)) result (many_at (address_at Truncated) count fields.entry) }
+{
+    let mut addresses = Vec::new(alloc);
+    let mut rest = fields;
+    for _ in 0..count {
+        let (address, next) = rest.address(CallDataFault::Truncated)?;
+        addresses.push(address)?;
+        rest = next;
+    }
+    Ok((addresses, rest))
+}
+
+fn uints_of(alloc: Global, fields: Fields<'_>) -> Result<(Uints, Fields<'_>), CallDataError>
+    ensures { Gives (λ x. x) result (counted_at Truncated (number_at Truncated w64) fields.entry) }
+{
+    let (count, rest) = fields.u8(CallDataFault::Truncated)?;
+    let (numbers, rest) = many_uints(alloc, count, rest)?;
+    Ok((Uints::from_vec(numbers), rest))
+}
+
+fn many_uints(
+    alloc: Global,
+    count: u8,
+    fields: Fields<'_>,
+) -> Result<(Vec<u64>, Fields<'_>), CallDataError>
+    ensures { Gives (λ x. (x.0.items, x.1)) result (many_at (number_at Truncated w64) count fields.entry) }
+{
+    let mut numbers = Vec::new(alloc);
+    let mut rest = fields;
+    for _ in 0..count {
+        let (number, next) = rest.u64(CallDataFault::Truncated)?;
+        numbers.push(number)?;
+        rest = next;
+    }
+    Ok((numbers, rest))
+}
