@@ -62,8 +62,22 @@ pub fn runs_step_by_instruction(alloc: Global, ops: &OpSet) -> Result<bool, Fail
 {
     let cases: [(u64, &str, Schema, u32, Option<(u16, usize)>, Outcome); 5] = [
         (0, APPROVES, NO_ENTRY, 3, Some((5, 1)), Outcome::Approved),
-        (0, "022001012243", NO_ENTRY, 4, Some((6, 1)), Outcome::Approved),
-        (0, FAULTS, NO_ENTRY, 1, Some((1, 0)), Outcome::Faulted(Fault::Err, 1)),
+        (
+            0,
+            "022001012243",
+            NO_ENTRY,
+            4,
+            Some((6, 1)),
+            Outcome::Approved,
+        ),
+        (
+            0,
+            FAULTS,
+            NO_ENTRY,
+            1,
+            Some((1, 0)),
+            Outcome::Faulted(Fault::Err, 1),
+        ),
         (0, COUNTS, ONE_UINT, 10, Some((15, 1)), Outcome::Approved),
         (1, "", NO_ENTRY, 0, None, Outcome::Refused(Why::NoApp)),
     ];
