@@ -1,6 +1,8 @@
 -- The journal of a block that is being made: the committed calls by rising timestamp, the clock, and which calls are live.
-use Rattle.std.specs.Prelude.{◌≡◌, ℕ, Unit, ◌+◌, ◌-◌, ◌<◌, ◌≤◌, ◌==◌, if◌then◌else◌, List, [], ◌∷◌, length, map, Option, None, Some, get_or}
+use Rattle.std.specs.Prelude.{◌≡◌, ℕ, ◌+◌, ◌-◌, ◌^◌, ◌<◌, ◌≤◌, ◌==◌, ◌||◌, nat_lt, if◌then◌else◌, List, [], ◌∷◌, length, map, Option, None, Some, get_or}
 use Rattle.std.specs.List.{AllByRecursion}
+use Rattle.teal_value.specs.declared.failure.Failure.{Failure}
+use Rattle.teal_value.specs.declared.failure.Failure.TheVariants as failure
 use Rattle.avm_ledger.specs.declared.header.Header.{Header}
 use Rattle.avm_ledger.specs.Ledgers.{Ledger}
 use Rattle.avm_items.specs.declared.call_data.CallData.{CallData}
@@ -10,7 +12,7 @@ use Rattle.avm_laws.specs.Orderly.{IsOrderly}
 use Rattle.avm_laws.specs.LedgerLooks.{IsOfLedger}
 use Rattle.mv_chain.specs.declared.Version.{Version}
 use Rattle.mv_history.specs.History.{commit_count}
-use Rattle.mv_history.specs.World.{live_count}
+use Rattle.mv_history.specs.World.{attempt_at, live_count}
 use Rattle.mv_agreement.specs.Stores.{IsStore}
 use Rattle.mv_calls.specs.CallHistory.{CallAttempt, CallEntry, CallWorld, meaning_of, same_item}
 use Rattle.mv_calls.specs.SerialCalls.{AreOfCalls}
@@ -19,6 +21,7 @@ use Rattle.mv_parts.specs.declared.call_state.CallState.{CallState}
 use Rattle.mv_parts.specs.declared.call_state.CallState.TheVariants.{Idle, Live, Committed}
 use Rattle.mv_parts.specs.declared.begin_fault.BeginFault.{BeginFault}
 use Rattle.mv_parts.specs.declared.begin_fault.BeginFault.TheVariants.{ClockEnd, Done, NoCall, Taken}
+use Rattle.mv_parts.specs.Opening.{open_fault}
 
 -- What is seen of it: a world of which the live attempts' reads are kept elsewhere, and the marks are those of entries alone,
 -- with the timestamps of versions, in the index.
@@ -27,13 +30,13 @@ pub record Journal : Type 0 where
   pub header : Header
   pub calls : List CallData
   pub world : CallWorld
-  pub index : VersionLists Unit
+  pub index : VersionLists (Unit {0})
 
 -- the timestamps of an item's versions, with the marks of the entries that read them
-abbrev pub nothing : Item → Unit
+abbrev pub nothing : Item → Unit {0}
 nothing x = tt
 
-abbrev pub versions_indexed : Journal → Item → List (Version Unit)
+abbrev pub versions_indexed : Journal → Item → List (Version (Unit {0}))
 versions_indexed j x = versions_in nothing j.index x
 
 -- ---- when a call begins
@@ -47,12 +50,27 @@ begin_fault j number =
     else if j.world.clock == 2 ^ 64 - 1 then Some ClockEnd
     else None
 
+-- It is this fault, or want of memory where there is none.
+abbrev pub IsBeginRefusal : Journal → ℕ → Failure BeginFault → Type 0
+IsBeginRefusal j number failure.Memory = begin_fault j number ≡ None
+IsBeginRefusal j number (failure.Fault f) = begin_fault j number ≡ Some f
+
+-- ---- which attempts are live
+
+abbrev pub IsOfNumber : ℕ → Option CallAttempt → Type 0
+IsOfNumber number None = ⊥
+IsOfNumber number (Some a) = a.number ≡ number
+
+-- an attempt of this number is live at this timestamp
+abbrev pub IsLive : CallWorld → CallAttempt → Type 0
+IsLive w a = IsOfNumber a.number (attempt_at a.timestamp w.live)
+
 -- ---- as it is kept
 
 abbrev pub live_of : List (ℕ × ℕ) → List CallAttempt
 live_of = map (λ e. record { number = e.1; timestamp = e.0; reads = [] })
 
-abbrev pub journal_of : Ledger → Header → List CallData → ℕ → ℕ → List CallEntry → List (ℕ × ℕ) → ChainMap Unit → Journal
+abbrev pub journal_of : Ledger → Header → List CallData → ℕ → ℕ → List CallEntry → List (ℕ × ℕ) → ChainMap (Unit {0}) → Journal
 journal_of base header calls clock low es live index = record {
   base = base; header = header; calls = calls; index = touched index;
   world = record { clock = clock; low = low; entries = es; marks = []; live = live_of live };
@@ -75,7 +93,8 @@ abbrev pub AreLiveCalls : List CallData → List CallAttempt → Type 0
 AreLiveCalls calls live = AllByRecursion (λ a. (0 < a.number) × (a.number ≤ length calls)) live
 
 -- What a journal keeps: the facts of the order theorem, with the marks of its index, which is never pruned.
-pub record IsKept (base : Ledger) (header : Header) (calls : List CallData) (clock low : ℕ) (es : List CallEntry) (states : List CallState) (live : List (ℕ × ℕ)) (index : ChainMap Unit) : Type 0 where
+pub record IsKept (base : Ledger) (header : Header) (calls : List CallData) (clock low : ℕ) (es : List CallEntry) (states : List CallState) (live : List (ℕ × ℕ)) (index : ChainMap (Unit {0})) : Type 0 where
+  pub opened : open_fault header calls ≡ None
   pub orderly : IsOrderly base
   pub store : IsStore (λ value. tt) same_item IsOfLedger (meaning_of header calls) (at base) 0 clock low es (live_of live) (versions_of nothing index)
   pub chains : AreChains nothing 0 index

@@ -1,9 +1,8 @@
 //! The journal.
 
-ghost use Rattle.std.specs.Prelude.{◌≡◌, ◌+◌, ◌<◌, ◌≤◌, ◌×◌, IfOk, IfErr, IsErrOf, OnErr, OnOk, None};
-ghost use Rattle.teal_value.specs.declared.failure.Failure.TheVariants.{Fault};
+ghost use Rattle.std.specs.Prelude.{◌≡◌, ◌+◌, IfOk, IfErr, OnErr, OnOk, None};
 ghost use Rattle.mv_history.specs.World.{after_begin, fresh_attempt};
-ghost use Rattle.mv_parts.specs.Journals.{begin_fault};
+ghost use Rattle.mv_parts.specs.Journals.{IsBeginRefusal, begin_fault};
 
 use crate::begin_fault::{BeginError, BeginFault};
 use crate::call_state::CallState;
@@ -57,9 +56,38 @@ impl Journal {
         ensures unchanged { OnErr result (self.new ≡ self.old) }
         ensures refused { IfErr result (IsBeginRefusal self.old number) }
     {
-        let index = match self.place_of(number) {
-            Some(index) => index,
-            None => return Err(Failure::Fault(BeginFault::NoCall)),
-        };
+        if let Some(fault) = self.begin_fault(number) {
+            return Err(Failure::Fault(fault));
+        }
+        let timestamp = self.clock + 1;
+        match self.live.insert(timestamp, number) {
+            Ok(_) => {
+                self.states[number as usize - 1] = CallState::Live(timestamp);
+                self.clock = timestamp;
+                Ok(Attempt::new(self.alloc, number, timestamp))
+            }
+            Err(_) => Err(Failure::Memory),
+        }
+    }
+
+    /// Why a call does not begin, if memory isn't the cause.
+    fn begin_fault(&self, number: u32) -> Option<BeginFault>
+        ensures { result ≡ begin_fault self.now number }
+    {
+        if number == 0 {
+            return Some(BeginFault::NoCall);
+        }
+        match self.states.get(number as usize - 1) {
+            None => Some(BeginFault::NoCall),
+            Some(CallState::Committed) => Some(BeginFault::Done),
+            Some(CallState::Live(_)) => Some(BeginFault::Taken),
+            Some(CallState::Idle) => {
+                if self.clock == u64::MAX {
+                    Some(BeginFault::ClockEnd)
+                } else {
+                    None
+                }
+            }
+        }
     }
 }

@@ -10,7 +10,9 @@ mod begin_fault;
 mod call_state;
 mod entry;
 mod journal;
+mod open_fault;
 
 pub use begin_fault::{BeginError, BeginFault};
 pub use entry::Entry;
 pub use journal::Journal;
+pub use open_fault::{OpenError, OpenFault};
