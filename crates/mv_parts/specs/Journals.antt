@@ -12,7 +12,7 @@ use Rattle.avm_laws.specs.Orderly.{IsOrderly}
 use Rattle.avm_laws.specs.LedgerLooks.{IsOfLedger}
 use Rattle.mv_chain.specs.declared.Version.{Version}
 use Rattle.mv_history.specs.History.{commit_count}
-use Rattle.mv_history.specs.World.{attempt_at, live_count}
+use Rattle.mv_history.specs.World.{attempt_at, first_world, live_count}
 use Rattle.mv_agreement.specs.Stores.{IsStore}
 use Rattle.mv_calls.specs.CallHistory.{CallAttempt, CallEntry, CallWorld, meaning_of, same_item}
 use Rattle.mv_calls.specs.SerialCalls.{AreOfCalls}
@@ -38,6 +38,10 @@ nothing x = tt
 
 abbrev pub versions_indexed : Journal → Item → List (Version (Unit {0}))
 versions_indexed j x = versions_in nothing j.index x
+
+-- the facts of the order theorem, with the marks of the index
+abbrev pub IsIndexedStore : Journal → Type 0
+IsIndexedStore j = IsStore (λ value. tt) same_item IsOfLedger (meaning_of j.header j.calls) (at j.base) 0 j.world.clock j.world.low j.world.entries j.world.live (versions_indexed j)
 
 -- ---- when a call begins
 
@@ -75,6 +79,10 @@ journal_of base header calls clock low es live index = record {
   base = base; header = header; calls = calls; index = touched index;
   world = record { clock = clock; low = low; entries = es; marks = []; live = live_of live };
 }
+
+-- the journal of which no call has begun
+abbrev pub first_journal : Ledger → Header → List CallData → Journal
+first_journal base header calls = record { base = base; header = header; calls = calls; world = first_world; index = [] }
 
 -- where a call stands
 abbrev pub live_state : ℕ → List CallAttempt → CallState

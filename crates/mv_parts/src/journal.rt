@@ -1,8 +1,14 @@
 //! The journal.
 
-ghost use Rattle.std.specs.Prelude.{◌≡◌, ◌+◌, IfOk, IfErr, OnErr, OnOk, None};
-ghost use Rattle.mv_history.specs.World.{after_begin, fresh_attempt};
-ghost use Rattle.mv_parts.specs.Journals.{IsBeginRefusal, begin_fault};
+ghost use Rattle.std.specs.Prelude.{◌≡◌, ◌+◌, ◌↔◌, IfOk, IfErr, IsOk, IsTrue, OnErr, OnOk, None};
+ghost use Rattle.std.specs.Option.{option_copied};
+ghost use Rattle.avm_laws.specs.Orderly.{IsOrderly};
+ghost use Rattle.mv_history.specs.World.{after_abandon, after_begin, fresh_attempt, low_after_prune};
+ghost use Rattle.mv_calls.specs.CallHistory.{call_of};
+ghost use Rattle.mv_calls.specs.SerialCalls.{AreOfCalls, AreSerialCalls};
+ghost use Rattle.mv_shards.specs.Helds.{ArePruned};
+ghost use Rattle.mv_parts.specs.Journals.{AreLiveCalls, IsBeginRefusal, IsIndexedStore, IsLive, begin_fault};
+ghost use Rattle.mv_parts.specs.Opening.{open_fault};
 
 use crate::begin_fault::{BeginError, BeginFault};
 use crate::call_state::CallState;
@@ -10,8 +16,9 @@ use crate::entry::Entry;
 use avm_call::Call;
 use avm_items::Item;
 use avm_ledger::{Header, Ledger};
+use mv_calls::every_consistent_world_of_calls_is_serial;
 use mv_chain::Chain;
-use mv_shards::Attempt;
+use mv_shards::{Attempt, Held};
 use std::alloc::Global;
 use std::collections::BTreeMap;
 use std::marker::Model;
@@ -48,7 +55,7 @@ impl Model for Journal {
 }
 
 impl Journal {
-    /// A call begins, at the next timestamp.
+    /// A call begins, at the next timestamp. The attempt has read nothing.
     pub fn begin(&mut self, number: u32) -> Result<Attempt, BeginError>
         ensures event { OnOk result (self.new ≡ record self.old { world = after_begin self.old.world number }) }
         ensures attempt { IfOk result (λ attempt. attempt ≡ fresh_attempt number (self.old.world.clock + 1)) }
@@ -70,7 +77,7 @@ impl Journal {
         }
     }
 
-    /// Why a call does not begin, if memory isn't the cause.
+    /// Why a call does not begin, want of memory aside.
     fn begin_fault(&self, number: u32) -> Option<BeginFault>
         ensures { result ≡ begin_fault self.now number }
     {
@@ -89,5 +96,122 @@ impl Journal {
                 }
             }
         }
+    }
+
+    /// An attempt ends without a commit, and its call may begin again. One that is not live is handed back.
+    pub fn abandon(&mut self, attempt: Attempt) -> Result<(), Attempt>
+        ensures event { OnOk result (self.new ≡ record self.old { world = after_abandon self.old.world attempt.timestamp }) }
+        ensures live { IsOk result ↔ IsLive self.old.world attempt }
+        ensures unchanged { OnErr result (self.new ≡ self.old) }
+        ensures back { IfErr result (λ back. back ≡ attempt) }
+    {
+        if !self.is_live(&attempt) {
+            return Err(attempt);
+        }
+        // The map is in order, as its reader says.
+        let _count = self.live.len();
+        self.live.remove(&attempt.timestamp());
+        self.states[attempt.number() as usize - 1] = CallState::Idle;
+        Ok(())
+    }
+
+    /// Whether an attempt is live: one of its number, at its timestamp.
+    pub fn is_live(&self, attempt: &Attempt) -> bool
+        ensures { IsTrue result ↔ IsLive self.now.world attempt.now }
+    {
+        match self.live.get(&attempt.timestamp()) {
+            Some(number) => *number == attempt.number(),
+            None => false,
+        }
+    }
+
+    /// Raises the low mark to a timestamp, as far as the clock and the live attempts allow, and that of each shard that is
+    /// held to the journal's. What the journal itself keeps of versions stays. It takes no memory.
+    pub fn prune(&mut self, held: &mut Held, timestamp: u64)
+        ensures event { self.new ≡ record self.old { world = record self.old.world { low = low_after_prune self.old.world timestamp } } }
+        ensures held { ArePruned (low_after_prune self.old.world timestamp) held.old held.new }
+    {
+        let low = self.low_after(timestamp);
+        self.low = low;
+        held.prune(low);
+    }
+
+    /// The low mark after a prune at a timestamp.
+    fn low_after(&self, timestamp: u64) -> u64
+        ensures { result ≡ low_after_prune self.now.world timestamp }
+    {
+        // The map is in order, as its reader says.
+        let _count = self.live.len();
+        let bound = timestamp.min(self.clock);
+        match self.live.first_key_value() {
+            Some((first, _number)) => self.low.max(bound.min(*first)),
+            None => self.low.max(bound),
+        }
+    }
+
+    /// The ledger before all calls.
+    pub fn base(&self) -> &Ledger
+        ensures { result.now ≡ self.now.base }
+    {
+        &self.base
+    }
+
+    /// The header under which the calls are made.
+    pub fn header(&self) -> &Header
+        ensures { result.now ≡ self.now.header }
+    {
+        &self.header
+    }
+
+    /// All calls, in the order of their numbers.
+    pub fn calls(&self) -> &[Call]
+        ensures { result.now ≡ self.now.calls }
+    {
+        self.calls.as_slice()
+    }
+
+    /// The call of a number, from 1.
+    pub fn call(&self, number: u32) -> Option<&Call>
+        ensures { option_copied result ≡ call_of self.now.calls number }
+    {
+        if number == 0 {
+            return None;
+        }
+        self.calls.get(number as usize - 1)
+    }
+
+    /// The last timestamp given.
+    pub fn clock(&self) -> u64
+        ensures { result ≡ self.now.world.clock }
+    {
+        self.clock
+    }
+
+    /// The low mark: no state below it is asked for any more.
+    pub fn low(&self) -> u64
+        ensures { result ≡ self.now.world.low }
+    {
+        self.low
+    }
+
+    /// The committed calls, by rising timestamp.
+    pub fn entries(&self) -> &[Entry]
+        ensures { result.now ≡ self.now.world.entries }
+    {
+        self.entries.as_slice()
+    }
+
+    /// What every journal keeps, whatever was done with it: the committed calls are those of one thread, by rising
+    /// timestamp. It does no work.
+    pub fn holds(&self)
+        ensures serial { AreSerialCalls self.now.base self.now.header self.now.calls self.now.world }
+        ensures orderly { IsOrderly self.now.base }
+        ensures opened { open_fault self.now.header self.now.calls ≡ None }
+        ensures store { IsIndexedStore self.now }
+        ensures are_calls { AreOfCalls self.now.calls self.now.world.entries }
+        ensures live_calls { AreLiveCalls self.now.calls self.now.world.live }
+    {
+        let _clock = self.clock;
+        every_consistent_world_of_calls_is_serial();
     }
 }

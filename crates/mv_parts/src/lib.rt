@@ -11,8 +11,11 @@ mod call_state;
 mod entry;
 mod journal;
 mod open_fault;
+mod opening;
+mod past;
 
 pub use begin_fault::{BeginError, BeginFault};
 pub use entry::Entry;
 pub use journal::Journal;
 pub use open_fault::{OpenError, OpenFault};
+pub use opening::open_parts;
