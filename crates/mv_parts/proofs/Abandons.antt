@@ -22,10 +22,11 @@ use Rattle.mv_history.proofs.Lists.{Equals, equal, unequal, equals}
 use Rattle.mv_history.proofs.Events.{schedule_after_abandon}
 use Rattle.mv_agreement.specs.Stores.{marks_of}
 use Rattle.mv_calls.specs.CallHistory.{CallAttempt, CallEntry, CallWorld, same_item}
-use Rattle.mv_shards.specs.Chains.{ChainMap, touched, versions_of}
 use Rattle.mv_parts.specs.declared.call_state.CallState.{CallState}
 use Rattle.mv_parts.specs.declared.call_state.CallState.TheVariants.{Idle, Live, Committed}
-use Rattle.mv_parts.specs.Journals.{AreLiveCalls, HasStates, IsKept, IsOfNumber, Journal, journal_of, live_of, live_state, nothing, state_in}
+use Rattle.mv_shards.specs.Helds.{Places}
+use Rattle.mv_shards.specs.Writing.{versions_for}
+use Rattle.mv_parts.specs.Journals.{AreLiveCalls, HasStates, IsKept, IsOfNumber, Journal, journal_of, live_of, live_state, state_in}
 
 -- ---- the live attempts, in their map
 
@@ -111,7 +112,7 @@ other_state t number n (e ∷ es) found other = by (is_eq (nat_cmp t e.0)) found
 
 -- ---- what is kept
 
-module _ (base : Ledger) (header : Header) (calls : List CallData) (clock low : ℕ) (es : List CallEntry) (states : List CallState) (live : List (ℕ × ℕ)) (index : ChainMap (Unit {0})) (kept : IsKept base header calls clock low es states live index)
+module _ (base : Ledger) (header : Header) (calls : List CallData) (clock low : ℕ) (es : List CallEntry) (states : List CallState) (live : List (ℕ × ℕ)) (index : Places) (kept : IsKept base header calls clock low es states live index)
   (t number : ℕ) (is_live : IsOfNumber number (attempt_at t (live_of live))) (order : IsStrictlySortedBy nat_cmp (keys_of live)) (new : List (ℕ × ℕ)) (is : new ≡ remove_entry (is_at (nat_cmp t)) live) where
   found : attempt_at t (live_of live) ≡ Some (listed t number)
   found = attempt_found t live ∙ ap (option_map (listed t)) (number_found t number live is_live)
@@ -120,7 +121,7 @@ module _ (base : Ledger) (header : Header) (calls : List CallData) (clock low : 
   live_new = ap live_of is ∙ sym (live_removed t live order)
 
   pub journal_abandoned : journal_of base header calls clock low es new index ≡ record (journal_of base header calls clock low es live index) { world = after_abandon (journal_of base header calls clock low es live index).world t }
-  journal_abandoned = ap (λ as'. record { base = base; header = header; calls = calls; index = touched index; world = record { clock = clock; low = low; entries = es; marks = []; live = as' } }) live_new
+  journal_abandoned = ap (λ as'. record { base = base; header = header; calls = calls; index = index; world = record { clock = clock; low = low; entries = es; marks = []; live = as' } }) live_new
 
   is_call : (0 < number) × (number ≤ length calls)
   is_call = found_attempt (λ (a : CallAttempt). (0 < a.number) × (a.number ≤ length calls)) t (listed t number) (live_of live) found kept.live_calls
@@ -157,11 +158,11 @@ module _ (base : Ledger) (header : Header) (calls : List CallData) (clock low : 
       holds = kept.store.holds;
       consistent = record {
         journal = kept.store.consistent.journal;
-        schedule = subst (λ as'. IsSchedule same_item (at base) (marks_of (versions_of nothing index)) clock low es as') (sym live_new)
-            (schedule_after_abandon same_item (at base) (marks_of (versions_of nothing index)) clock low t es (live_of live) kept.store.consistent.schedule);
+        schedule = subst (λ as'. IsSchedule same_item (at base) (marks_of (versions_for index)) clock low es as') (sym live_new)
+            (schedule_after_abandon same_item (at base) (marks_of (versions_for index)) clock low t es (live_of live) kept.store.consistent.schedule);
       };
     };
-    chains = kept.chains;
+    indexed = kept.indexed;
     are_calls = kept.are_calls;
     live_calls = subst (AreLiveCalls calls) (sym live_new) (all_without _ t (live_of live) kept.live_calls);
     count = length-set states (number - 1) Idle ∙ kept.count;

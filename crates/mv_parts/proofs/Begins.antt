@@ -18,10 +18,11 @@ use Rattle.mv_history.proofs.Lists.{Equals, equal, unequal, equals, all_map, all
 use Rattle.mv_history.proofs.Events.{schedule_after_begin}
 use Rattle.mv_agreement.specs.Stores.{marks_of}
 use Rattle.mv_calls.specs.CallHistory.{CallAttempt, CallEntry, same_item}
-use Rattle.mv_shards.specs.Chains.{ChainMap, touched, versions_of}
 use Rattle.mv_parts.specs.declared.call_state.CallState.{CallState}
 use Rattle.mv_parts.specs.declared.call_state.CallState.TheVariants.{Idle, Live, Committed}
-use Rattle.mv_parts.specs.Journals.{AreLiveCalls, HasStates, IsKept, Journal, begin_fault, journal_of, live_of, live_state, nothing, state_in}
+use Rattle.mv_shards.specs.Helds.{Places}
+use Rattle.mv_shards.specs.Writing.{versions_for}
+use Rattle.mv_parts.specs.Journals.{AreLiveCalls, HasStates, IsKept, Journal, begin_fault, journal_of, live_of, live_state, state_in}
 use Rattle.mv_parts.proofs.States.{begins}
 
 -- ---- the live attempts
@@ -78,13 +79,13 @@ states_begun states es live number t above within uncommitted idle has index ins
 above_clock : (clock : ℕ) (live : List CallAttempt) → AllByRecursion (λ a. (0 < a.timestamp) × (a.timestamp ≤ clock)) live → AllByRecursion (λ a. a.timestamp < clock + 1) live
 above_clock clock live past = all_map (λ a. (0 < a.timestamp) × (a.timestamp ≤ clock)) _ live (λ a h. omega arith) past
 
-module _ (base : Ledger) (header : Header) (calls : List CallData) (clock low : ℕ) (es : List CallEntry) (states : List CallState) (live : List (ℕ × ℕ)) (index : ChainMap (Unit {0})) (kept : IsKept base header calls clock low es states live index) (number : ℕ)
+module _ (base : Ledger) (header : Header) (calls : List CallData) (clock low : ℕ) (es : List CallEntry) (states : List CallState) (live : List (ℕ × ℕ)) (index : Places) (kept : IsKept base header calls clock low es states live index) (number : ℕ)
   (fault : begin_fault (journal_of base header calls clock low es live index) number ≡ None) (new : List (ℕ × ℕ)) (is : new ≡ insert_entry nat_cmp live (clock + 1) number) where
   live_new : live_of new ≡ live_of live ++ fresh_attempt number (clock + 1) ∷ []
   live_new = ap live_of is ∙ live_pushed (clock + 1) number live (above_clock clock (live_of live) kept.store.consistent.schedule.live_past)
 
   pub journal_begun : journal_of base header calls (clock + 1) low es new index ≡ record (journal_of base header calls clock low es live index) { world = after_begin (journal_of base header calls clock low es live index).world number }
-  journal_begun = ap (λ as'. record { base = base; header = header; calls = calls; index = touched index; world = record { clock = clock + 1; low = low; entries = es; marks = []; live = as' } }) live_new
+  journal_begun = ap (λ as'. record { base = base; header = header; calls = calls; index = index; world = record { clock = clock + 1; low = low; entries = es; marks = []; live = as' } }) live_new
 
   pub kept_begun : IsKept base header calls (clock + 1) low es (set states (number - 1) (Live (clock + 1))) new index
   kept_begun =
@@ -98,11 +99,11 @@ module _ (base : Ledger) (header : Header) (calls : List CallData) (clock low : 
           holds = kept.store.holds;
           consistent = record {
             journal = kept.store.consistent.journal;
-            schedule = subst (λ as'. IsSchedule same_item (at base) (marks_of (versions_of nothing index)) (clock + 1) low es as') (sym live_new)
-                (schedule_after_begin same_item (at base) (marks_of (versions_of nothing index)) clock low number es (live_of live) b.uncommitted b.idle kept.store.consistent.schedule);
+            schedule = subst (λ as'. IsSchedule same_item (at base) (marks_of (versions_for index)) (clock + 1) low es as') (sym live_new)
+                (schedule_after_begin same_item (at base) (marks_of (versions_for index)) clock low number es (live_of live) b.uncommitted b.idle kept.store.consistent.schedule);
           };
         };
-        chains = kept.chains;
+        indexed = kept.indexed;
         are_calls = kept.are_calls;
         live_calls = subst (AreLiveCalls calls) (sym live_new) (all_push _ (live_of live) (fresh_attempt number (clock + 1)) kept.live_calls (b.above, b.within));
         count = length-set states (number - 1) (Live (clock + 1)) ∙ kept.count;

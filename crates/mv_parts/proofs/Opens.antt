@@ -18,7 +18,7 @@ use Rattle.mv_shards.specs.Indexes.{shard_count}
 use Rattle.mv_shards.specs.Shards.{Shard}
 use Rattle.mv_parts.specs.declared.call_state.CallState.{CallState}
 use Rattle.mv_parts.specs.declared.call_state.CallState.TheVariants.{Idle}
-use Rattle.mv_parts.specs.Journals.{IsKept, nothing}
+use Rattle.mv_parts.specs.Journals.{IsKept}
 use Rattle.mv_parts.specs.Opening.{AreFirstShards, first_shard, open_fault}
 
 no_marks : (x : Item) (version : ℕ) → marks_of (versions_of nothing []) x version ≡ 0

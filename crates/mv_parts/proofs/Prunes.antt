@@ -16,9 +16,10 @@ use Rattle.mv_history.proofs.Attempts.{lowest_live-at_most, pruned_below}
 use Rattle.mv_history.proofs.Events.{schedule_after_prune}
 use Rattle.mv_agreement.specs.Stores.{marks_of}
 use Rattle.mv_calls.specs.CallHistory.{CallEntry, same_item}
-use Rattle.mv_shards.specs.Chains.{ChainMap, versions_of}
 use Rattle.mv_parts.specs.declared.call_state.CallState.{CallState}
-use Rattle.mv_parts.specs.Journals.{IsKept, journal_of, live_of, nothing}
+use Rattle.mv_shards.specs.Helds.{Places}
+use Rattle.mv_shards.specs.Writing.{versions_for}
+use Rattle.mv_parts.specs.Journals.{IsKept, journal_of, live_of}
 
 less_is : (x y : ℕ) → nat_cmp x y ≡ Less → x < y
 less_is x y e = subst (λ r. MatchOrdering r (x < y) (x ≡ y) (y < x)) e (ranks x y)
@@ -40,7 +41,7 @@ pub none_is_lowest : (bound : ℕ) (live : List (ℕ × ℕ)) → length live �
 none_is_lowest bound [] h = refl
 none_is_lowest bound (e ∷ es) h = absurd (omega (arith, h))
 
-module _ (base : Ledger) (header : Header) (calls : List CallData) (clock low : ℕ) (es : List CallEntry) (states : List CallState) (live : List (ℕ × ℕ)) (index : ChainMap (Unit {0})) (kept : IsKept base header calls clock low es states live index) where
+module _ (base : Ledger) (header : Header) (calls : List CallData) (clock low : ℕ) (es : List CallEntry) (states : List CallState) (live : List (ℕ × ℕ)) (index : Places) (kept : IsKept base header calls clock low es states live index) where
   pub kept_pruned : (t : ℕ) → IsKept base header calls clock (low_after_prune (journal_of base header calls clock low es live index).world t) es states live index
   kept_pruned t =
       let low_past : low ≤ clock = kept.store.consistent.schedule.low_past in
@@ -52,11 +53,11 @@ module _ (base : Ledger) (header : Header) (calls : List CallData) (clock low : 
           holds = kept.store.holds;
           consistent = record {
             journal = kept.store.consistent.journal;
-            schedule = schedule_after_prune same_item (at base) (marks_of (versions_of nothing index)) (marks_of (versions_of nothing index)) clock low (max low (lowest_live (min t clock) (live_of live))) es (live_of live)
+            schedule = schedule_after_prune same_item (at base) (marks_of (versions_for index)) (marks_of (versions_for index)) clock low (max low (lowest_live (min t clock) (live_of live))) es (live_of live)
                 (omega arith) (omega (arith, low_past, past)) (pruned_below low (min t clock) (live_of live) kept.store.consistent.schedule.low_live) (λ x v. omega arith) (λ x s above. refl) kept.store.consistent.schedule;
           };
         };
-        chains = kept.chains;
+        indexed = kept.indexed;
         are_calls = kept.are_calls;
         live_calls = kept.live_calls;
         count = kept.count;

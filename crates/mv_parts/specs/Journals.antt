@@ -16,32 +16,33 @@ use Rattle.mv_history.specs.World.{attempt_at, first_world, live_count}
 use Rattle.mv_agreement.specs.Stores.{IsStore}
 use Rattle.mv_calls.specs.CallHistory.{CallAttempt, CallEntry, CallWorld, meaning_of, same_item}
 use Rattle.mv_calls.specs.SerialCalls.{AreOfCalls}
-use Rattle.mv_shards.specs.Chains.{AreChains, ChainMap, VersionLists, touched, versions_in, versions_of}
+use Rattle.avm_items.specs.declared.item_value.ItemValue.{ItemValue}
+use Rattle.mv_shards.specs.Helds.{Places}
+use Rattle.mv_shards.specs.Indexes.{shard_count}
+use Rattle.mv_shards.specs.Shards.{Shard}
+use Rattle.mv_shards.specs.Writing.{versions_for}
 use Rattle.mv_parts.specs.declared.call_state.CallState.{CallState}
 use Rattle.mv_parts.specs.declared.call_state.CallState.TheVariants.{Idle, Live, Committed}
 use Rattle.mv_parts.specs.declared.begin_fault.BeginFault.{BeginFault}
 use Rattle.mv_parts.specs.declared.begin_fault.BeginFault.TheVariants.{ClockEnd, Done, NoCall, Taken}
-use Rattle.mv_parts.specs.Opening.{open_fault}
+use Rattle.mv_parts.specs.Opening.{first_places, open_fault}
 
 -- What is seen of it: a world of which the live attempts' reads are kept elsewhere, and the marks are those of entries alone,
--- with the timestamps of versions, in the index.
+-- in the index: all versions, apart from those of the shards, so that a commit rests on the journal alone.
 pub record Journal : Type 0 where
   pub base : Ledger
   pub header : Header
   pub calls : List CallData
   pub world : CallWorld
-  pub index : VersionLists (Unit {0})
+  pub index : Places
 
--- the timestamps of an item's versions, with the marks of the entries that read them
-abbrev pub nothing : Item → Unit {0}
-nothing x = tt
-
-abbrev pub versions_indexed : Journal → Item → List (Version (Unit {0}))
-versions_indexed j x = versions_in nothing j.index x
+-- the versions of an item
+abbrev pub versions_indexed : Journal → Item → List (Version ItemValue)
+versions_indexed j x = versions_for j.index x
 
 -- the facts of the order theorem, with the marks of the index
 abbrev pub IsIndexedStore : Journal → Type 0
-IsIndexedStore j = IsStore (λ value. tt) same_item IsOfLedger (meaning_of j.header j.calls) (at j.base) 0 j.world.clock j.world.low j.world.entries j.world.live (versions_indexed j)
+IsIndexedStore j = IsStore (λ value. value) same_item IsOfLedger (meaning_of j.header j.calls) (at j.base) 0 j.world.clock j.world.low j.world.entries j.world.live (versions_indexed j)
 
 -- ---- when a call begins
 
@@ -74,15 +75,15 @@ IsLive w a = IsOfNumber a.number (attempt_at a.timestamp w.live)
 abbrev pub live_of : List (ℕ × ℕ) → List CallAttempt
 live_of = map (λ e. record { number = e.1; timestamp = e.0; reads = [] })
 
-abbrev pub journal_of : Ledger → Header → List CallData → ℕ → ℕ → List CallEntry → List (ℕ × ℕ) → ChainMap (Unit {0}) → Journal
+abbrev pub journal_of : Ledger → Header → List CallData → ℕ → ℕ → List CallEntry → List (ℕ × ℕ) → Places → Journal
 journal_of base header calls clock low es live index = record {
-  base = base; header = header; calls = calls; index = touched index;
+  base = base; header = header; calls = calls; index = index;
   world = record { clock = clock; low = low; entries = es; marks = []; live = live_of live };
 }
 
 -- the journal of which no call has begun
 abbrev pub first_journal : Ledger → Header → List CallData → Journal
-first_journal base header calls = record { base = base; header = header; calls = calls; world = first_world; index = [] }
+first_journal base header calls = record { base = base; header = header; calls = calls; world = first_world; index = first_places base }
 
 -- where a call stands
 abbrev pub live_state : ℕ → List CallAttempt → CallState
@@ -100,12 +101,20 @@ HasStates states es live = (index : ℕ) → index < length states → get_or st
 abbrev pub AreLiveCalls : List CallData → List CallAttempt → Type 0
 AreLiveCalls calls live = AllByRecursion (λ a. (0 < a.number) × (a.number ≤ length calls)) live
 
+-- all shards are there, each over the ledger and with the low mark
+abbrev pub IsOver : Ledger → ℕ → ℕ → Option Shard → Type 0
+IsOver base low index None = ⊥
+IsOver base low index (Some s) = (s.index ≡ index) × (s.low ≡ low) × (s.base ≡ base)
+
+pub record AreAllOver (base : Ledger) (low : ℕ) (places : Places) : Type 0 where
+  pub each : (i : ℕ) → i < shard_count → IsOver base low i (get_or places i None)
+
 -- What a journal keeps: the facts of the order theorem, with the marks of its index, which is never pruned.
-pub record IsKept (base : Ledger) (header : Header) (calls : List CallData) (clock low : ℕ) (es : List CallEntry) (states : List CallState) (live : List (ℕ × ℕ)) (index : ChainMap (Unit {0})) : Type 0 where
+pub record IsKept (base : Ledger) (header : Header) (calls : List CallData) (clock low : ℕ) (es : List CallEntry) (states : List CallState) (live : List (ℕ × ℕ)) (index : Places) : Type 0 where
   pub opened : open_fault header calls ≡ None
   pub orderly : IsOrderly base
-  pub store : IsStore (λ value. tt) same_item IsOfLedger (meaning_of header calls) (at base) 0 clock low es (live_of live) (versions_of nothing index)
-  pub chains : AreChains nothing 0 index
+  pub store : IsStore (λ value. value) same_item IsOfLedger (meaning_of header calls) (at base) 0 clock low es (live_of live) (versions_for index)
+  pub indexed : AreAllOver base 0 index
   pub are_calls : AreOfCalls calls es
   pub live_calls : AreLiveCalls calls (live_of live)
   pub count : length states ≡ length calls

@@ -1,5 +1,5 @@
 -- Of which calls a journal is opened.
-use Rattle.std.specs.Prelude.{◌≡◌, ℕ, ◌<◌, nat_lt, if◌then◌else◌, List, [], length, get_or, Option, None, Some, option_map}
+use Rattle.std.specs.Prelude.{◌≡◌, ℕ, zero, suc, ◌∷◌, ◌<◌, nat_lt, if◌then◌else◌, List, [], length, get_or, Option, None, Some, option_map}
 use Rattle.teal_value.specs.declared.failure.Failure.{Failure}
 use Rattle.teal_value.specs.declared.failure.Failure.TheVariants as failure
 use Rattle.avm_ledger.specs.declared.header.Header.{Header}
@@ -7,6 +7,7 @@ use Rattle.avm_ledger.specs.Ledgers.{Ledger}
 use Rattle.avm_items.specs.declared.call_data.CallData.{CallData}
 use Rattle.avm_replay.specs.Plain.{first_beyond}
 use Rattle.mv_shards.specs.Indexes.{shard_count}
+use Rattle.mv_shards.specs.Helds.{Places}
 use Rattle.mv_shards.specs.Shards.{Shard}
 use Rattle.mv_parts.specs.declared.open_fault.OpenFault.{OpenFault}
 use Rattle.mv_parts.specs.declared.open_fault.OpenFault.TheVariants.{Profile, TooMany}
@@ -23,6 +24,14 @@ IsOpenRefusal header calls (failure.Fault f) = open_fault header calls ≡ Some 
 -- a shard in which nothing was read or written
 abbrev pub first_shard : Ledger → ℕ → Shard
 first_shard base i = record { index = i; low = 0; base = base; chains = [] }
+
+-- all of them, from an index on
+abbrev pub first_places_from : Ledger → ℕ → ℕ → Places
+first_places_from base index zero = []
+first_places_from base index (suc count) = Some (first_shard base index) ∷ first_places_from base (suc index) count
+
+abbrev pub first_places : Ledger → Places
+first_places base = first_places_from base 0 shard_count
 
 -- all shards, in the order of their indexes
 pub record AreFirstShards (base : Ledger) (shards : List Shard) : Type 0 where

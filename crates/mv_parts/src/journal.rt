@@ -38,9 +38,8 @@ pub struct Journal {
     pub(crate) states: Vec<CallState>,
     /// The numbers of the live calls, by their timestamps.
     pub(crate) live: BTreeMap<u64, u32>,
-    /// The timestamps of the versions of each item that an entry read or wrote, with the marks of the entries that
-    /// read them.
-    pub(crate) index: BTreeMap<Item, Chain<()>>,
+    /// All versions, in shards of the journal's own that are never pruned.
+    pub(crate) index: Held,
 }
 
 impl Model for Journal {
@@ -49,9 +48,9 @@ impl Model for Journal {
 
     ghost Value = { Journal };
 
-    ghost view = { λ j. journal_of (arc_value j.base) j.header (arc_value j.calls).items j.clock j.low j.entries.items j.live.entries j.index.entries };
+    ghost view = { λ j. journal_of (arc_value j.base) j.header (arc_value j.calls).items j.clock j.low j.entries.items j.live.entries j.index };
 
-    ghost invariant = { λ j. IsKept (arc_value j.base) j.header (arc_value j.calls).items j.clock j.low j.entries.items j.states.items j.live.entries j.index.entries };
+    ghost invariant = { λ j. IsKept (arc_value j.base) j.header (arc_value j.calls).items j.clock j.low j.entries.items j.states.items j.live.entries j.index };
 }
 
 impl Journal {

@@ -8,6 +8,8 @@
 
 mod begin_fault;
 mod call_state;
+mod commit_fault;
+mod commit_tests;
 mod entry;
 mod journal;
 mod open_fault;
@@ -15,6 +17,7 @@ mod opening;
 mod past;
 
 pub use begin_fault::{BeginError, BeginFault};
+pub use commit_fault::{CommitError, CommitFault, RefusedCommit};
 pub use entry::Entry;
 pub use journal::Journal;
 pub use open_fault::{OpenError, OpenFault};
