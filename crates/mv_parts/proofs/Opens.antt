@@ -24,7 +24,10 @@ use Rattle.mv_parts.specs.Opening.{AreFirstShards, first_shard, open_fault}
 no_marks : (x : Item) (version : ℕ) → marks_of (versions_of nothing []) x version ≡ 0
 no_marks x version = by (0 == version)
   where
-    by : (b : Bool) → (if b then 0 else 0) ≡ 0
+    zero_of : ℕ
+    zero_of = 0
+
+    by : (b : Bool) → (if b then zero_of else zero_of) ≡ zero_of
     by true = refl
     by false = refl
 
