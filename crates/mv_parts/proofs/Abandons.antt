@@ -26,7 +26,7 @@ use Rattle.mv_parts.specs.declared.call_state.CallState.{CallState}
 use Rattle.mv_parts.specs.declared.call_state.CallState.TheVariants.{Idle, Live, Committed}
 use Rattle.mv_shards.specs.Helds.{Places}
 use Rattle.mv_shards.specs.Writing.{versions_for}
-use Rattle.mv_parts.specs.Journals.{AreLiveCalls, HasStates, IsKept, IsOfNumber, Journal, journal_of, live_of, live_state, state_in}
+use Rattle.mv_parts.specs.Journals.{AreLiveCalls, HasStates, IsKept, IsLive, IsOfNumber, Journal, journal_of, live_of, live_state, state_in}
 
 -- ---- the live attempts, in their map
 
@@ -94,7 +94,7 @@ none_live n (a ∷ as') e = by (a.number == n) e (none_live n as')
     by true is rest = absurd (omega (arith, is))
     by false is rest = rest (omega (arith, is))
 
-other_state : (t number n : ℕ) (live : List (ℕ × ℕ)) → lookup (is_at (nat_cmp t)) live ≡ Some number → n ≢ number → live_state n (live_of (remove_entry (is_at (nat_cmp t)) live)) ≡ live_state n (live_of live)
+pub other_state : (t number n : ℕ) (live : List (ℕ × ℕ)) → lookup (is_at (nat_cmp t)) live ≡ Some number → n ≢ number → live_state n (live_of (remove_entry (is_at (nat_cmp t)) live)) ≡ live_state n (live_of live)
 other_state t number n [] found other = absurd cc
 other_state t number n (e ∷ es) found other = by (is_eq (nat_cmp t e.0)) found (λ f. other_state t number n es f other)
   where
@@ -113,7 +113,7 @@ other_state t number n (e ∷ es) found other = by (is_eq (nat_cmp t e.0)) found
 -- ---- what is kept
 
 module _ (base : Ledger) (header : Header) (calls : List CallData) (clock low : ℕ) (es : List CallEntry) (states : List CallState) (live : List (ℕ × ℕ)) (index : Places) (kept : IsKept base header calls clock low es states live index)
-  (t number : ℕ) (is_live : IsOfNumber number (attempt_at t (live_of live))) (order : IsStrictlySortedBy nat_cmp (keys_of live)) (new : List (ℕ × ℕ)) (is : new ≡ remove_entry (is_at (nat_cmp t)) live) where
+    (t number : ℕ) (is_live : IsOfNumber number (attempt_at t (live_of live))) (order : IsStrictlySortedBy nat_cmp (keys_of live)) (new : List (ℕ × ℕ)) (is : new ≡ remove_entry (is_at (nat_cmp t)) live) where
   found : attempt_at t (live_of live) ≡ Some (listed t number)
   found = attempt_found t live ∙ ap (option_map (listed t)) (number_found t number live is_live)
 
@@ -123,7 +123,7 @@ module _ (base : Ledger) (header : Header) (calls : List CallData) (clock low : 
   pub journal_abandoned : journal_of base header calls clock low es new index ≡ record (journal_of base header calls clock low es live index) { world = after_abandon (journal_of base header calls clock low es live index).world t }
   journal_abandoned = ap (λ as'. record { base = base; header = header; calls = calls; index = index; world = record { clock = clock; low = low; entries = es; marks = []; live = as' } }) live_new
 
-  is_call : (0 < number) × (number ≤ length calls)
+  pub is_call : (0 < number) × (number ≤ length calls)
   is_call = found_attempt (λ (a : CallAttempt). (0 < a.number) × (a.number ≤ length calls)) t (listed t number) (live_of live) found kept.live_calls
 
   pub abandoned_within : number - 1 < length states
@@ -148,7 +148,7 @@ module _ (base : Ledger) (header : Header) (calls : List CallData) (clock low : 
       by b (unequal e) =
           get_or-set_other states (number - 1) index Idle Idle e ∙ kept.stands index (subst (λ n. index < n) (length-set states (number - 1) Idle) inside)
           ∙ sym (ap (λ s. if commit_count (index + 1) es == 0 then s else Committed)
-            (ap (live_state (index + 1)) (live_removed t live order) ∙ other_state t number (index + 1) live (number_found t number live is_live) (λ same. e (omega (arith, same)))))
+          (ap (live_state (index + 1)) (live_removed t live order) ∙ other_state t number (index + 1) live (number_found t number live is_live) (λ same. e (omega (arith, same)))))
 
   pub kept_abandoned : IsKept base header calls clock low es (set states (number - 1) Idle) new index
   kept_abandoned = record {
@@ -168,3 +168,9 @@ module _ (base : Ledger) (header : Header) (calls : List CallData) (clock low : 
     count = length-set states (number - 1) Idle ∙ kept.count;
     stands = subst (HasStates (set states (number - 1) Idle) es) (sym live_new) stands_abandoned;
   }
+
+-- an attempt that is live in what is seen is so in the map
+pub live_here : (base : Ledger) (header : Header) (calls : List CallData) (clock low : ℕ) (es : List CallEntry) (live : List (ℕ × ℕ)) (index : Places) (j : Journal) → journal_of base header calls clock low es live index ≡ j
+    → (a : CallAttempt) (t number : ℕ) → t ≡ a.timestamp → number ≡ a.number → IsLive j.world a → IsOfNumber number (attempt_at t (live_of live))
+live_here base header calls clock low es live index j is a t number same_timestamp same_number h =
+    rw same_timestamp (rw same_number (subst (λ k. IsLive k.world a) (sym is) h))

@@ -4,3 +4,6 @@ pub mod Abandons
 pub mod Prunes
 pub mod Opens
 pub mod PutEntries
+pub mod EntryPlaces
+pub mod Commits
+pub mod KeptCommits

@@ -1,5 +1,5 @@
 -- When an attempt commits, why it is refused, and what a commit changes.
-use Rattle.std.specs.Prelude.{◌≡◌, ℕ, ◌-◌, nat_lt, if◌then◌else◌, List, [], ◌∷◌, Option, None, Some}
+use Rattle.std.specs.Prelude.{◌≡◌, ℕ, suc, ◌-◌, nat_le, nat_lt, if◌then◌else◌, List, [], ◌∷◌, Option, None, Some}
 use Rattle.teal_value.specs.declared.failure.Failure.{Failure}
 use Rattle.teal_value.specs.declared.failure.Failure.TheVariants as failure
 use Rattle.avm_ledger.specs.declared.header.Header.{Header}
@@ -17,7 +17,7 @@ use Rattle.mv_chain.specs.Versions.{lateness, newest_at}
 use Rattle.mv_history.specs.History.{state_below}
 use Rattle.mv_history.specs.World.{after_commit}
 use Rattle.mv_agreement.specs.Stores.{after_entry}
-use Rattle.mv_calls.specs.CallHistory.{CallAttempt, call_of, same_item}
+use Rattle.mv_calls.specs.CallHistory.{CallAttempt, CallEntry, call_of, same_item}
 use Rattle.mv_calls.specs.Laws.{entry_of}
 use Rattle.mv_shards.specs.Helds.{AreHeld, Places}
 use Rattle.mv_shards.specs.Writing.{AreWritten, IsFirstForeign, NoneForeign, versions_for}
@@ -118,3 +118,8 @@ pub record IsCommitted (old new : Journal) (before after : Places) (a : CallAtte
   pub world : new.world ≡ after_commit old.world (entry_of a.timestamp a.number f)
   pub index : (x : Item) → versions_indexed new x ≡ after_entry (λ value. value) same_item (entry_of a.timestamp a.number f) (versions_indexed old) x
   pub shards : AreWritten a.timestamp a.reads f.writes before after
+
+-- how many entries, from the first, are not above a timestamp
+abbrev pub count_not_above : ℕ → List CallEntry → ℕ
+count_not_above t [] = 0
+count_not_above t (e ∷ es) = if nat_le e.timestamp t then suc (count_not_above t es) else 0

@@ -77,7 +77,10 @@ live_of = map (λ e. record { number = e.1; timestamp = e.0; reads = [] })
 
 abbrev pub journal_of : Ledger → Header → List CallData → ℕ → ℕ → List CallEntry → List (ℕ × ℕ) → Places → Journal
 journal_of base header calls clock low es live index = record {
-  base = base; header = header; calls = calls; index = index;
+  base = base;
+  header = header;
+  calls = calls;
+  index = index;
   world = record { clock = clock; low = low; entries = es; marks = []; live = live_of live };
 }
 
@@ -107,6 +110,7 @@ IsOver base low index None = ⊥
 IsOver base low index (Some s) = (s.index ≡ index) × (s.low ≡ low) × (s.base ≡ base)
 
 pub record AreAllOver (base : Ledger) (low : ℕ) (places : Places) : Type 0 where
+  pub beyond : (i : ℕ) → shard_count ≤ i → get_or places i None ≡ None
   pub each : (i : ℕ) → i < shard_count → IsOver base low i (get_or places i None)
 
 -- What a journal keeps: the facts of the order theorem, with the marks of its index, which is never pruned.

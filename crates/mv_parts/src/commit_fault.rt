@@ -17,11 +17,7 @@ pub enum CommitFault {
     /// A shard has a low mark above its timestamp, or a version there of an item that it writes: the least such index.
     Foreign { shard: u8 },
     /// The version that a write would follow was read above it: the least such item, with that version and its greatest mark.
-    Late {
-        item: Item,
-        version: u64,
-        mark: u64,
-    },
+    Late { item: Item, version: u64, mark: u64 },
 }
 
 /// A fault, or want of memory.

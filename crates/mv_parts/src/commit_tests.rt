@@ -1,7 +1,9 @@
 //! What is tested of an attempt before it commits.
 
-ghost use Rattle.std.specs.Prelude.{◌≡◌, ◌↔◌, ◌-◌, ◌<◌, IsTrue};
+ghost use Rattle.std.specs.Prelude.{◌≡◌, ◌↔◌, ◌-◌, ◌<◌, IsTrue, Some};
+ghost use Rattle.std.specs.Option.{option_copied};
 ghost use Rattle.mv_chain.specs.Versions.{newest_at};
+ghost use Rattle.mv_calls.specs.CallHistory.{call_of};
 ghost use Rattle.mv_shards.specs.Helds.{AreHeld, IsHeld};
 ghost use Rattle.mv_shards.specs.Writing.{AreLow, versions_for};
 ghost use Rattle.mv_parts.specs.Commits.{IsOwnCall, late_write, lateness_of, later as later_of, moved_item, no_version};
@@ -23,17 +25,37 @@ pub(crate) fn is_own_call(
 ) -> bool
     ensures { IsTrue result ↔ IsOwnCall calls.now header.now attempt.now finished.now }
 {
-    if attempt.number() == 0 {
+    if !is_call(calls, attempt.number(), finished.call()) {
         return false;
     }
-    match calls.get(attempt.number() as usize - 1) {
-        Some(call) => {
-            call.fields().is_same(finished.call().fields())
-                && *header == *finished.header()
-                && finished.reads().is_same(attempt.reads())
-        }
+    is_run_of(header, attempt, finished)
+}
+
+/// Whether a finished call was made for a header, over what an attempt has read.
+fn is_run_of(header: &Header, attempt: &Attempt, finished: &Finished) -> bool
+    ensures { IsTrue result ↔ ((finished.now.header ≡ header.now) × (finished.now.reads ≡ attempt.now.reads)) }
+{
+    *finished.header() == *header && finished.reads().is_same(attempt.reads())
+}
+
+/// Whether the call of a number, from 1, is this one.
+fn is_call(calls: &[Call], number: u32, made: &Call) -> bool
+    ensures { IsTrue result ↔ (call_of calls.now number ≡ Some made.now) }
+{
+    match call_at(calls, number) {
+        Some(call) => call.fields().is_same(made.fields()),
         None => false,
     }
+}
+
+/// The call of a number, from 1.
+fn call_at(calls: &[Call], number: u32) -> Option<&Call>
+    ensures { option_copied result ≡ call_of calls.now number }
+{
+    if number == 0 {
+        return None;
+    }
+    calls.get(number as usize - 1)
 }
 
 /// The least item that was read with another value than it has up to a timestamp.

@@ -1,23 +1,28 @@
 //! The journal.
 
-ghost use Rattle.std.specs.Prelude.{◌≡◌, ◌+◌, ◌↔◌, IfOk, IfErr, IsOk, IsTrue, OnErr, OnOk, None};
+ghost use Rattle.std.specs.Prelude.{◌≡◌, ◌+◌, ◌↔◌, ◌<◌, IfOk, IfErr, IfNone, IfSome, IsOk, IsTrue, OnErr, OnOk, None};
 ghost use Rattle.std.specs.Option.{option_copied};
 ghost use Rattle.avm_laws.specs.Orderly.{IsOrderly};
 ghost use Rattle.mv_history.specs.World.{after_abandon, after_begin, fresh_attempt, low_after_prune};
 ghost use Rattle.mv_calls.specs.CallHistory.{call_of};
 ghost use Rattle.mv_calls.specs.SerialCalls.{AreOfCalls, AreSerialCalls};
 ghost use Rattle.mv_shards.specs.Helds.{ArePruned};
+ghost use Rattle.teal_value.specs.declared.failure.Failure.TheVariants.{Memory};
+ghost use Rattle.mv_parts.specs.Commits.{AreCovered, IsCommitRefusal, IsCommitted, IsTestRefusal, IsWriteRefusal, MayCommit, MayWrite};
 ghost use Rattle.mv_parts.specs.Journals.{AreLiveCalls, IsBeginRefusal, IsIndexedStore, IsLive, begin_fault};
 ghost use Rattle.mv_parts.specs.Opening.{open_fault};
 
 use crate::begin_fault::{BeginError, BeginFault};
 use crate::call_state::CallState;
+use crate::commit_fault::{CommitFault, RefusedCommit};
+use crate::commit_tests::{is_own_call, late, moved};
+use crate::committing::{entry_of, insert_entry, write_all};
 use crate::entry::Entry;
 use avm_call::Call;
-use avm_items::Item;
+use avm_items::ItemMap;
 use avm_ledger::{Header, Ledger};
+use avm_run::Finished;
 use mv_calls::every_consistent_world_of_calls_is_serial;
-use mv_chain::Chain;
 use mv_shards::{Attempt, Held};
 use std::alloc::Global;
 use std::collections::BTreeMap;
@@ -145,6 +150,119 @@ impl Journal {
         match self.live.first_key_value() {
             Some((first, _number)) => self.low.max(bound.min(*first)),
             None => self.low.max(bound),
+        }
+    }
+
+    /// A call that has ended joins the committed ones, at its attempt's timestamp, and is written to the shards that are held.
+    /// Its reads are checked against the entries, and its writes against the marks of the entries' reads and of the shards'. It
+    /// gives the timestamp. Where it is refused, nothing has changed in either, and what was given is handed back.
+    pub fn commit(
+        &mut self,
+        held: &mut Held,
+        attempt: Attempt,
+        finished: Finished,
+    ) -> Result<u64, RefusedCommit>
+        requires { AreCovered held.old attempt.reads finished.writes }
+        ensures committed { IfOk result (λ timestamp. (timestamp ≡ attempt.timestamp) × MayCommit self.old held.old attempt finished × IsCommitted self.old self.new held.old held.new attempt finished) }
+        ensures refused { IfErr result (λ refused. IsCommitRefusal self.old held.old attempt finished refused.error) }
+        ensures back { IfErr result (λ refused. (refused.attempt ≡ attempt) × (refused.finished ≡ finished)) }
+        ensures unchanged { OnErr result ((self.new ≡ self.old) × (held.new ≡ held.old)) }
+    {
+        if let Some(fault) = self.commit_fault(held, &attempt, &finished) {
+            return Err(RefusedCommit {
+                error: Failure::Fault(fault),
+                attempt,
+                finished,
+            });
+        }
+        self.write(held, attempt, finished)
+    }
+
+    /// Why an attempt does not commit, want of memory aside.
+    fn commit_fault(
+        &self,
+        held: &Held,
+        attempt: &Attempt,
+        finished: &Finished,
+    ) -> Option<CommitFault>
+        requires { AreCovered held.now attempt.now.reads finished.now.writes }
+        ensures some { IfSome result (IsTestRefusal self.now held.now attempt.now finished.now) }
+        ensures none { IfNone result (MayCommit self.now held.now attempt.now finished.now) }
+    {
+        if !self.is_live(attempt) {
+            return Some(CommitFault::Unknown);
+        }
+        if is_own_call(&self.calls, &self.header, attempt, finished) {
+            self.write_fault(
+                held,
+                attempt.reads(),
+                finished.writes(),
+                attempt.timestamp(),
+            )
+        } else {
+            Some(CommitFault::Stranger)
+        }
+    }
+
+    /// Why a live attempt's own call does not commit.
+    fn write_fault(
+        &self,
+        held: &Held,
+        reads: &ItemMap,
+        writes: &ItemMap,
+        timestamp: u64,
+    ) -> Option<CommitFault>
+        requires covers { AreCovered held.now reads.now writes.now }
+        requires positive { 0 < timestamp }
+        ensures some { IfSome result (IsWriteRefusal self.now held.now timestamp reads.now writes.now) }
+        ensures none { IfNone result (MayWrite self.now held.now timestamp reads.now writes.now) }
+    {
+        match moved(&self.index, reads, timestamp - 1) {
+            Some(item) => Some(CommitFault::Moved { item }),
+            None => match held.foreign(writes, timestamp) {
+                Some(shard) => Some(CommitFault::Foreign { shard }),
+                None => late(&self.index, held, writes, timestamp),
+            },
+        }
+    }
+
+    /// Commits what passed the tests. Memory is taken before anything changes.
+    fn write(
+        &mut self,
+        held: &mut Held,
+        attempt: Attempt,
+        finished: Finished,
+    ) -> Result<u64, RefusedCommit>
+        requires covers { AreCovered held.old attempt.reads finished.writes }
+        requires may { MayCommit self.old held.old attempt finished }
+        ensures committed { IfOk result (λ timestamp. (timestamp ≡ attempt.timestamp) × IsCommitted self.old self.new held.old held.new attempt finished) }
+        ensures memory { IfErr result (λ refused. refused.error ≡ Memory) }
+        ensures back { IfErr result (λ refused. (refused.attempt ≡ attempt) × (refused.finished ≡ finished)) }
+        ensures unchanged { OnErr result ((self.new ≡ self.old) × (held.new ≡ held.old)) }
+    {
+        let timestamp = attempt.timestamp();
+        // What a finished call keeps, and the order of the map, as their readers say.
+        finished.holds();
+        let _count = self.live.len();
+        match write_all(
+            &mut self.entries,
+            &mut self.index,
+            held,
+            self.alloc,
+            &attempt,
+            &finished,
+        ) {
+            Ok(()) => {
+                self.live.remove(&timestamp);
+                self.states[attempt.number() as usize - 1] = CallState::Committed;
+                insert_entry(&mut self.entries, entry_of(attempt, finished));
+                Ok(timestamp)
+            }
+            Err(_) => Err(RefusedCommit {
+                error: Failure::Memory,
+                attempt,
+                finished,
+            }),
         }
     }
 

@@ -10,6 +10,7 @@ mod begin_fault;
 mod call_state;
 mod commit_fault;
 mod commit_tests;
+mod committing;
 mod entry;
 mod journal;
 mod open_fault;

@@ -5,7 +5,7 @@ ghost use Rattle.std.specs.Arc.{arc_value};
 ghost use Rattle.avm_laws.specs.Orderly.{IsOrderly};
 ghost use Rattle.avm_replay.specs.Plain.{first_beyond};
 ghost use Rattle.mv_parts.specs.Journals.{first_journal};
-ghost use Rattle.mv_parts.specs.Opening.{AreFirstShards, IsOpenRefusal, open_fault};
+ghost use Rattle.mv_parts.specs.Opening.{AreFirstShards, IsOpenRefusal, first_places as first_held, open_fault};
 
 use crate::call_state::CallState;
 use crate::journal::Journal;
@@ -13,7 +13,7 @@ use crate::open_fault::{OpenError, OpenFault};
 use avm_block::{MAX_ENTRIES, accepts};
 use avm_call::Call;
 use avm_ledger::{Header, Ledger, Profile};
-use mv_shards::{SHARD_COUNT, Shard};
+use mv_shards::{Held, SHARD_COUNT, Shard};
 use std::alloc::{AllocError, Global};
 use std::collections::BTreeMap;
 use std::sync::Arc;
@@ -100,6 +100,7 @@ fn first_journal(
 {
     let states = vec![in alloc; CallState::Idle; calls.len()]?;
     let entries = Vec::with_capacity(alloc, calls.len())?;
+    let index = first_places(alloc, &base)?;
     Ok(Journal {
         alloc,
         base,
@@ -110,7 +111,7 @@ fn first_journal(
         entries,
         states,
         live: BTreeMap::new(alloc),
-        index: BTreeMap::new(alloc),
+        index,
     })
 }
 
@@ -123,4 +124,18 @@ fn first_shards(alloc: Global, base: &Arc<Ledger>) -> Result<Vec<Shard>, AllocEr
         shards.push(Shard::new(alloc, index as u8, Arc::try_clone(base)?))?;
     }
     Ok(shards)
+}
+
+/// All shards held together, in which nothing was read or written.
+fn first_places(alloc: Global, base: &Arc<Ledger>) -> Result<Held, AllocError>
+    ensures { IfOk result (λ held. held ≡ first_held (arc_value base.now)) }
+{
+    let mut held = Held::new();
+    for index in 0..SHARD_COUNT {
+        match held.add(Shard::new(alloc, index as u8, Arc::try_clone(base)?)) {
+            Ok(()) => {}
+            Err(_taken) => unreachable!(),
+        }
+    }
+    Ok(held)
 }

@@ -4,7 +4,6 @@ use Rattle.std.specs.Prelude.{◌&&◌, ◌||◌, if◌then◌else◌, slice_ind
 use Rattle.std.specs.List.{AllByRecursion}
 use Rattle.std.specs.Prelude.{IsSome}
 use Rattle.avm_items.specs.declared.item.Item.{Item}
-use Rattle.avm_items.specs.declared.item.Item.TheVariants as item
 use Rattle.avm_items.specs.declared.item_value.ItemValue.{ItemValue}
 use Rattle.avm_items.specs.Items.{ItemMap}
 use Rattle.mv_chain.specs.declared.Version.{Version}
@@ -17,7 +16,7 @@ use Rattle.avm_items.specs.LedgerItems.{at}
 use Rattle.mv_shards.specs.declared.part.Part.{Part}
 use Rattle.mv_shards.proofs.FirstReads.{versions_touched}
 use Rattle.mv_shards.specs.Shards.{IsPart, Shard, seen, versions_held}
-use Rattle.mv_shards.specs.Indexes.{shard_count, shard_of}
+use Rattle.mv_shards.specs.Indexes.{shard_of}
 use Rattle.mv_shards.specs.Helds.{AreHeld, Places, shard_for}
 use Rattle.mv_shards.specs.Writing.{AreAbsent, AreLow, IsLowAt, NoneForeign, NoneForeignBelow, has_timestamp, has_write_at, is_foreign, versions_or_none}
 
@@ -102,25 +101,14 @@ low_of index t writes (Some s) e = by (nat_lt t s.low) (compared t s.low) (both_
     by b (less k) f = absurd cc
     by b (not_less k) f = omega (arith, k)
 
-index_within : (x : Item) → shard_of x < shard_count
-index_within item.NextApp = omega arith
-index_within (item.App id) = omega arith
-index_within (item.Counts id) = omega arith
-index_within (item.Key id key) = omega arith
-index_within (item.Local who id) = omega arith
-
-beyond : (places : Places) (i : ℕ) → length places ≤ i → get_or places i None ≡ None
+pub beyond : (places : Places) (i : ℕ) → length places ≤ i → get_or places i None ≡ None
 beyond [] i above = refl
 beyond (p ∷ ps) zero above = absurd (omega arith)
 beyond (p ∷ ps) (suc i) above = beyond ps i (omega (arith, above))
 
 -- where no shard refuses, none has a higher low mark,
-pub low_all : (t : ℕ) (writes : ItemMap) (places : Places) → length places ≡ shard_count → NoneForeign t writes places → AreLow t places
-low_all t writes places count none i = by (nat_lt i shard_count) (compared i shard_count)
-  where
-    by : (b : Bool) → Compared i shard_count b → IsLowAt t (get_or places i None)
-    by b (less k) = low_of i t writes (get_or places i None) (none i k)
-    by b (not_less k) = subst (IsLowAt t) (sym (beyond places i (omega (arith, k, count)))) tt
+pub low_all : (t : ℕ) (writes : ItemMap) (places : Places) → NoneForeign t writes places → AreLow t places
+low_all t writes places none i = low_of i t writes (get_or places i None) (none i)
 
 absent_in : (t : ℕ) (all writes : ItemMap) (places : Places) → NoneForeign t all places
     → ((index : ℕ) (s : Shard) → has_write_at index t all s ≡ false → has_write_at index t writes s ≡ false) → AreHeld places writes → AreAbsent t places writes
@@ -138,7 +126,7 @@ absent_in t all (e ∷ es) places none part held =
     one : (o : Option Shard) → shard_for places e.0 ≡ o → IsSome o → AllByRecursion (λ v. v.timestamp ≢ t) (versions_or_none o e.0)
     one None is there = absurd cc
     one (Some s) is there =
-        let mine : is_foreign (shard_of e.0) t all (Some s) ≡ false = subst (λ o. is_foreign (shard_of e.0) t all o ≡ false) is (none (shard_of e.0) (index_within e.0)) in
+        let mine : is_foreign (shard_of e.0) t all (Some s) ≡ false = subst (λ o. is_foreign (shard_of e.0) t all o ≡ false) is (none (shard_of e.0)) in
         none_has t (versions_held s e.0) (own s (both_false _ (has_write_at (shard_of e.0) t es s) (part (shard_of e.0) s (both_false _ (has_write_at (shard_of e.0) t all s) mine).1)).0)
 
 -- and none has a version at the timestamp of what is written
@@ -164,3 +152,10 @@ foreign_next t writes n places before here i below = by (i == n) (equals i n)
     by : (b : Bool) → Equals i n b → is_foreign i t writes (get_or places i None) ≡ false
     by b (equal e) = ap (λ j. is_foreign j t writes (get_or places j None)) e ∙ here
     by b (unequal e) = before i (omega (arith, e, below))
+
+pub none_foreign : (t : ℕ) (writes : ItemMap) (n : ℕ) (places : Places) → length places ≤ n → NoneForeignBelow t writes n places → NoneForeign t writes places
+none_foreign t writes n places count before i = by (nat_lt i n) (compared i n)
+  where
+    by : (b : Bool) → Compared i n b → is_foreign i t writes (get_or places i None) ≡ false
+    by b (less k) = before i k
+    by b (not_less k) = ap (is_foreign i t writes) (beyond places i (omega (arith, k, count)))

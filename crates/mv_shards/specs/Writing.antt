@@ -13,7 +13,7 @@ use Rattle.avm_ledger.specs.Ledgers.{Ledger}
 use Rattle.mv_chain.specs.declared.Version.{Version}
 use Rattle.mv_agreement.specs.Stores.{marked_where, written_where}
 use Rattle.mv_shards.specs.declared.part.Part.{Part}
-use Rattle.mv_shards.specs.Indexes.{shard_count, shard_of}
+use Rattle.mv_shards.specs.Indexes.{shard_of}
 use Rattle.mv_shards.specs.Chains.{AllVersions, AreChains, ChainMap, HasPlace, IsGrown, IsReadable, IsRoomier, chain_in, one_installed, one_marked, versions_of}
 use Rattle.mv_shards.specs.Shards.{Shard, versions_held}
 use Rattle.mv_shards.specs.Helds.{AreHeld, Places, shard_for}
@@ -89,7 +89,7 @@ NoneForeignBelow t writes index places = (i : ℕ) → i < index → is_foreign 
 
 -- no shard is one
 abbrev pub NoneForeign : ℕ → ItemMap → Places → Type 0
-NoneForeign t writes places = NoneForeignBelow t writes shard_count places
+NoneForeign t writes places = (i : ℕ) → is_foreign i t writes (get_or places i None) ≡ false
 
 -- the shard of the least index that is one
 pub record IsFirstForeign (t : ℕ) (writes : ItemMap) (index : ℕ) (places : Places) : Type 0 where
