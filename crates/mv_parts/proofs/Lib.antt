@@ -5,3 +5,4 @@ pub mod Prunes
 pub mod Opens
 pub mod PutEntries
 pub mod IndexedStores
+pub mod Counts

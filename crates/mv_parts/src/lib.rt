@@ -13,6 +13,8 @@ mod journal;
 mod open_fault;
 mod opening;
 mod past;
+#[cfg(test)]
+mod tests;
 
 pub use begin_fault::{BeginError, BeginFault};
 pub use entry::Entry;

@@ -1,6 +1,7 @@
 use Rattle.mv_agreement.specs.Stores.{marks_of}
 use Rattle.mv_shards.specs.Chains.{versions_of}
 use Rattle.mv_parts.specs.Journals.{nothing}
+use Rattle.mv_parts.proofs.Counts.{few_entries}
 use Rattle.mv_parts.proofs.IndexedStores.{indexed_store}
 use Rattle.mv_parts.proofs.journal.Journal.holds.Goals as goal
 
@@ -11,3 +12,6 @@ returns-clause-serial c =
 
 pub returns-clause-store : goal.returns-clause-store
 returns-clause-store c = rw (← c.self.view_is) (indexed_store _ _ _ _ _ _ _ _ _ c.self.invariant)
+
+pub returns-clause-few : goal.returns-clause-few
+returns-clause-few c = rw (← c.self.view_is) (few_entries _ _ _ _ _ _ _ _ _ c.self.invariant)
