@@ -21,7 +21,7 @@ use Rattle.mv_calls.specs.CallHistory.{CallAttempt, CallEntry, same_item}
 use Rattle.mv_shards.specs.Chains.{ChainMap, touched, versions_of}
 use Rattle.mv_parts.specs.declared.call_state.CallState.{CallState}
 use Rattle.mv_parts.specs.declared.call_state.CallState.TheVariants.{Idle, Live, Committed}
-use Rattle.mv_parts.specs.Journals.{AreLiveCalls, HasStates, IsKept, Journal, begin_fault, journal_of, live_of, live_state, nothing, state_in}
+use Rattle.mv_parts.specs.Journals.{AreLiveCalls, HasStates, IsKept, begin_fault, journal_of, live_of, live_state, nothing, state_in}
 use Rattle.mv_parts.proofs.States.{begins}
 
 -- ---- the live attempts

@@ -9,12 +9,11 @@ use Rattle.avm_items.specs.declared.item_value.ItemValue.{ItemValue}
 use Rattle.avm_items.specs.LedgerItems.{at}
 use Rattle.avm_call.specs.declared.outcome.Outcome.{Outcome}
 use Rattle.avm_laws.specs.Orderly.{IsOrderly}
-use Rattle.avm_laws.specs.LedgerLooks.{IsOfLedger}
 use Rattle.mv_history.proofs.Events.{schedule_first}
 use Rattle.mv_history.proofs.Lists.{Equals, equal, unequal, equals}
-use Rattle.mv_agreement.specs.Stores.{IsStore, marks_of}
+use Rattle.mv_agreement.specs.Stores.{marks_of}
 use Rattle.mv_agreement.proofs.Agreements.{every_first_version_agrees_lem}
-use Rattle.mv_calls.specs.CallHistory.{CallEntry, meaning_of, same_item}
+use Rattle.mv_calls.specs.CallHistory.{CallEntry, same_item}
 use Rattle.mv_shards.specs.Chains.{AreChains, ChainMap, versions_of}
 use Rattle.mv_shards.specs.Indexes.{shard_count}
 use Rattle.mv_shards.specs.Shards.{Shard}

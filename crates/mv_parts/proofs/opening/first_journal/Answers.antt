@@ -1,4 +1,4 @@
-use Rattle.std.proofs.Common.{◌≡◌, length, arith, sym, subst}
+use Rattle.std.proofs.Common.{◌≡◌, arith, subst}
 use Rattle.std.specs.Arc.{arc_value}
 use Rattle.std.specs.Vec.{vec_len}
 use Rattle.mv_parts.proofs.Opens.{kept_opened}
