@@ -7,3 +7,4 @@ pub mod PutEntries
 pub mod EntryPlaces
 pub mod Commits
 pub mod KeptCommits
+pub mod Counts

@@ -1,5 +1,5 @@
 -- The low mark after a prune.
-use Rattle.std.proofs.Common.{◌≡◌, ℕ, ◌<◌, ◌≤◌, max, min, List, [], ◌∷◌, length, Some, refl, sym, ap, ◌∙◌, subst, arith, le_refl}
+use Rattle.std.proofs.Common.{◌≡◌, ℕ, ◌<◌, ◌≤◌, max, min, List, [], ◌∷◌, length, Some, refl, sym, ap, ◌∙◌, subst, arith}
 use Rattle.std.specs.Prelude.{slice_get}
 use Rattle.std.specs.Ordering.{MatchOrdering, nat_cmp}
 use Rattle.std.specs.declared.cmp.Ordering.TheVariants.{Less}
@@ -11,7 +11,7 @@ use Rattle.avm_ledger.specs.declared.header.Header.{Header}
 use Rattle.avm_ledger.specs.Ledgers.{Ledger}
 use Rattle.avm_items.specs.declared.call_data.CallData.{CallData}
 use Rattle.avm_items.specs.LedgerItems.{at}
-use Rattle.mv_history.specs.World.{IsLowerBound, low_after_prune, lowest_live}
+use Rattle.mv_history.specs.World.{low_after_prune, lowest_live}
 use Rattle.mv_history.proofs.Attempts.{lowest_live-at_most, pruned_below}
 use Rattle.mv_history.proofs.Events.{schedule_after_prune}
 use Rattle.mv_agreement.specs.Stores.{marks_of}

@@ -1,7 +1,6 @@
 -- Entries put into a ledger one after another, and a map of items copied.
 use Rattle.std.proofs.Common.{◌≡◌, ℕ, suc, ◌+◌, ◌<◌, ◌≤◌, Bool, true, false, if◌then◌else◌, nat_lt, List, [], ◌∷◌, ◌++◌, length, drop, refl, sym, ap, ◌∙◌, subst, append_assoc, arith, slice_index_or}
 use Rattle.std.proofs.lemmas.List.{drop_all, drop_more}
-use Rattle.std.specs.BTreeMap.{insert_entry}
 use Rattle.std.specs.List.{AllByRecursion}
 use Rattle.std.specs.List.Sorted.{IsStrictlySortedBy}
 use Rattle.std.specs.Map.{keys_of}
@@ -9,7 +8,7 @@ use Rattle.avm_ledger.specs.Ledgers.{Ledger}
 use Rattle.avm_ledger.proofs.RisingReading.{AllLower, insert_last}
 use Rattle.avm_items.specs.declared.item.Item.{Item}
 use Rattle.avm_items.specs.declared.item_value.ItemValue.{ItemValue}
-use Rattle.avm_items.specs.Items.{IsInItemOrder, ItemMap, item_cmp, with_item}
+use Rattle.avm_items.specs.Items.{IsInItemOrder, ItemMap, with_item}
 use Rattle.avm_items.proofs.Puts.{item_total}
 use Rattle.avm_items.specs.LedgerItems.{put}
 use Rattle.mv_history.specs.History.{entries_below}

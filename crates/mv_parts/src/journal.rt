@@ -1,6 +1,6 @@
 //! The journal.
 
-ghost use Rattle.std.specs.Prelude.{◌≡◌, ◌+◌, ◌↔◌, ◌<◌, IfOk, IfErr, IfNone, IfSome, IsOk, IsTrue, OnErr, OnOk, None};
+ghost use Rattle.std.specs.Prelude.{◌≡◌, ◌+◌, ◌↔◌, ◌<◌, ◌≤◌, length, IfOk, IfErr, IfNone, IfSome, IsOk, IsTrue, OnErr, OnOk, None};
 ghost use Rattle.std.specs.Option.{option_copied};
 ghost use Rattle.avm_laws.specs.Orderly.{IsOrderly};
 ghost use Rattle.mv_history.specs.World.{after_abandon, after_begin, fresh_attempt, low_after_prune};
@@ -327,6 +327,7 @@ impl Journal {
         ensures store { IsIndexedStore self.now }
         ensures are_calls { AreOfCalls self.now.calls self.now.world.entries }
         ensures live_calls { AreLiveCalls self.now.calls self.now.world.live }
+        ensures few { length self.now.world.entries ≤ length self.now.calls }
     {
         let _clock = self.clock;
         every_consistent_world_of_calls_is_serial();

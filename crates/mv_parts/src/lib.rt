@@ -16,6 +16,8 @@ mod journal;
 mod open_fault;
 mod opening;
 mod past;
+#[cfg(test)]
+mod tests;
 
 pub use begin_fault::{BeginError, BeginFault};
 pub use commit_fault::{CommitError, CommitFault, RefusedCommit};

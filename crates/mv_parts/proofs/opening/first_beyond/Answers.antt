@@ -1,4 +1,4 @@
-use Rattle.std.proofs.Common.{◌+◌, ◌∙◌, ap, sym, refl, arith}
+use Rattle.std.proofs.Common.{◌+◌, ◌∙◌, ap, sym, arith}
 use Rattle.avm_replay.proofs.MadeCalls.{beyond_here, none_beyond, within_here}
 use Rattle.mv_parts.proofs.opening.first_beyond.Goals as goal
 
