@@ -5,7 +5,7 @@ ghost use Rattle.std.proofs.Common.{replicate};
 ghost use Rattle.teal_value.specs.declared.failure.Failure.TheVariants.{Fault};
 ghost use Rattle.mv_shards.specs.declared.read_fault.ReadFault.TheVariants.{Pruned};
 ghost use Rattle.mv_shards.specs.Indexes.{shard_count};
-ghost use Rattle.mv_shards.specs.Helds.{AreFree, AreFreeFrom, AreHeld, IsHeld, IsHeldRead, IsLastTaken, IsTakenFrom, ArePruned};
+ghost use Rattle.mv_shards.specs.Helds.{AreFree, AreFreeFrom, AreHeld, IsHeld, IsHeldPruned, IsHeldRead, IsLastTaken, IsTakenFrom, ArePruned};
 ghost use Rattle.mv_shards.specs.Writing.{AreAbsent, AreLow, AreWritten, versions_for};
 ghost use Rattle.mv_chain.specs.Versions.{lateness, newest_at};
 
@@ -96,6 +96,7 @@ impl Held {
     pub fn read(&mut self, attempt: &mut Attempt, item: Item) -> Result<ItemValue, ReadError>
         requires { IsHeld self.old item }
         ensures ok { IfOk result (λ value. IsHeldRead self.old self.new attempt.old attempt.new item value) }
+        ensures pruned { IsErrOf result (Fault Pruned) ↔ IsHeldPruned self.old attempt.old item }
         ensures unchanged { OnErr result (self.new ≡ self.old) }
         ensures attempt { OnErr result (attempt.new ≡ attempt.old) }
     {
