@@ -1,0 +1,21 @@
+//! The journal of a block that is being made: which calls are live, which are committed, in timestamp order, by
+//! multiversion timestamp ordering (Bernstein, Hadzilacos, Goodman, "Concurrency Control and Recovery in Database
+//! Systems", section 5.3). It stands on the shards of mv_shards, which hold the versions of items; what their parts
+//! are told, each by its own lock, this crate joins.
+//!
+//! What is seen of a journal, and what it keeps, is in specs/Journals.antt.
+#![tactic(auto)]
+
+mod begin_fault;
+mod call_state;
+mod entry;
+mod journal;
+mod open_fault;
+mod opening;
+mod past;
+
+pub use begin_fault::{BeginError, BeginFault};
+pub use entry::Entry;
+pub use journal::Journal;
+pub use open_fault::{OpenError, OpenFault};
+pub use opening::open_parts;
