@@ -61,7 +61,7 @@ module _ {Item Value : Type 0} where
       by false rest = rest
 
   pub live_here : (slots : Slots Item Value) (live : List (Attempt Item Value)) (n t : ℕ) → IsLive live n t → IsLive (live_in slots live) n t
-  live_here slots live n t k = record { attempt = record k.attempt { reads = reads_in slots k.attempt.number }; live = attempt_at-in slots t live ∙ ap (with_reads slots) k.live; number = k.number }
+  live_here slots live n t k = record { attempt = record (k.attempt) { reads = reads_in slots k.attempt.number }; live = attempt_at-in slots t live ∙ ap (with_reads slots) k.live; number = k.number }
 
   pub live_there : (slots : Slots Item Value) (live : List (Attempt Item Value)) (n t : ℕ) → IsLive (live_in slots live) n t → IsLive live n t
   live_there slots live n t k = by (attempt_at t live) refl (sym (attempt_at-in slots t live) ∙ k.live)
@@ -116,7 +116,7 @@ module _ {Item Value : Type 0} where
       reads : reads_in slots here.1.attempt.number ≡ a.reads
       reads = ap (reads_in slots) here.1.number ∙ reads_found slots a n above found
 
-      same : record here.1.attempt { reads = reads_in slots here.1.attempt.number } ≡ a
+      same : record (here.1.attempt) { reads = reads_in slots here.1.attempt.number } ≡ a
       same = λ i. record { number = number i; timestamp = time i; reads = reads i }
 
   -- a call is live where its place has an attempt, at that one's timestamp

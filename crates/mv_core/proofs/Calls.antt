@@ -164,6 +164,6 @@ module _ (j : Journal) (places : Places) (slots : CallSlots) where
 
   -- ---- a prune
 
-  pub store_pruned : (new_journal : Journal) (new : Places) (t : ℕ) → new_journal ≡ record j { world = record j.world { low = low_after_prune j.world t } } → ArePruned (low_after_prune j.world t) places new → IsKeptBy j places slots
+  pub store_pruned : (new_journal : Journal) (new : Places) (t : ℕ) → new_journal ≡ record j { world = record (j.world) { low = low_after_prune j.world t } } → ArePruned (low_after_prune j.world t) places new → IsKeptBy j places slots
       → IsKeptBy new_journal new slots × IsPrune (shown_by j places slots) (shown_by new_journal new slots) t
   store_pruned new_journal new t is pruned k = subst (λ i. IsKeptBy i new slots × IsPrune (shown_by j places slots) (shown_by i new slots) t) (sym is) (kept_pruned j.base j.header j.calls j.world places slots k t new pruned)

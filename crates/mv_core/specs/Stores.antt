@@ -1,7 +1,6 @@
 -- The store: what is seen of it, what it keeps, and what its calls do.
 use Rattle.std.specs.Prelude.{◌≡◌, ℕ, suc, ◌+◌, ◌<◌, ◌≤◌, ◌⊎◌, List, [], ◌∷◌, ◌++◌, length, map, get_or, set, Option, None, Some}
 use Rattle.std.specs.Map.{keys_of}
-use Rattle.std.specs.List.{AllByRecursion}
 use Rattle.avm_ledger.specs.declared.header.Header.{Header}
 use Rattle.avm_ledger.specs.Ledgers.{Ledger}
 use Rattle.avm_items.specs.declared.call_data.CallData.{CallData}
@@ -21,7 +20,8 @@ use Rattle.mv_shards.specs.Indexes.{shard_count}
 use Rattle.mv_shards.specs.Shards.{Shard}
 use Rattle.mv_shards.specs.Helds.{IsHeldPruned, IsHeldRead, Places}
 use Rattle.mv_shards.specs.Writing.{versions_for}
-use Rattle.mv_parts.specs.Journals.{Journal}
+use Rattle.mv_parts.specs.Journals.{AreLiveCalls, Journal}
+use Rattle.mv_parts.specs.Opening.{first_shard}
 use Rattle.mv_running.specs.Running.{place_of}
 use Rattle.mv_core.specs.Marks.{marks_among}
 use Rattle.mv_core.specs.Places.{ArePlacesOf, IsLive, Slots, live_in}
@@ -71,10 +71,6 @@ IsOver base low i (Some s) = (s.index ≡ i) × (s.low ≡ low) × (s.base ≡ b
 abbrev pub AreAllOver : Ledger → ℕ → Places → Type 0
 AreAllOver base low places = (i : ℕ) → i < shard_count → IsOver base low i (get_or places i None)
 
--- each live attempt is of one of the calls
-abbrev pub AreLiveOf : List CallData → List CallAttempt → Type 0
-AreLiveOf calls live = AllByRecursion (λ a. (0 < a.number) × (a.number ≤ length calls)) live
-
 -- The facts of the order theorem, with the marks of its versions, each of which is an entry's; all shards, as far as the
 -- journal is; a place for each call. `w` is the journal's world.
 pub record IsKept (base : Ledger) (header : Header) (calls : List CallData) (w : CallWorld) (places : Places) (slots : CallSlots) : Type 0 where
@@ -82,7 +78,7 @@ pub record IsKept (base : Ledger) (header : Header) (calls : List CallData) (w :
   pub store : IsStore (λ value. value) same_item IsOfLedger (meaning_of header calls) (at base) w.low w.clock w.low w.entries (live_in slots w.live) (versions_for places)
   pub shards : AreAllOver base w.low places
   pub are_calls : AreOfCalls calls w.entries
-  pub live_calls : AreLiveOf calls w.live
+  pub live_calls : AreLiveCalls calls w.live
   pub count : length slots ≡ length calls
   pub attempts : ArePlacesOf w.live slots
 
@@ -141,11 +137,11 @@ IsKeptBy j places slots = IsKept j.base j.header j.calls j.world places slots
 
 -- ---- a store in which nothing has begun
 
-abbrev pub first_shard : Ledger → ℕ → Option Shard
-first_shard base i = Some (record { index = i; low = 0; base = base; chains = [] })
+abbrev pub held_first : Ledger → ℕ → Option Shard
+held_first base i = Some (first_shard base i)
 
 abbrev pub first_places : Ledger → Places
-first_places base = map (first_shard base) (0 ∷ 1 ∷ 2 ∷ 3 ∷ 4 ∷ 5 ∷ 6 ∷ 7 ∷ 8 ∷ 9 ∷ 10 ∷ 11 ∷ 12 ∷ 13 ∷ 14 ∷ 15 ∷ [])
+first_places base = map (held_first base) (0 ∷ 1 ∷ 2 ∷ 3 ∷ 4 ∷ 5 ∷ 6 ∷ 7 ∷ 8 ∷ 9 ∷ 10 ∷ 11 ∷ 12 ∷ 13 ∷ 14 ∷ 15 ∷ [])
 
 abbrev pub first_store : Ledger → Header → List CallData → Store
 first_store base header calls = record { base = base; header = header; calls = calls; world = first_world; places = first_places base }

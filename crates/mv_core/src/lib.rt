@@ -6,6 +6,7 @@
 #![tactic(auto)]
 
 mod faults;
+mod opening;
 mod reading;
 mod store;
 mod ticket;
