@@ -25,7 +25,7 @@ use Rattle.mv_calls.specs.CallHistory.{CallAttempt, CallEntry, CallWorld, same_i
 use Rattle.mv_shards.specs.Chains.{ChainMap, touched, versions_of}
 use Rattle.mv_parts.specs.declared.call_state.CallState.{CallState}
 use Rattle.mv_parts.specs.declared.call_state.CallState.TheVariants.{Idle, Live, Committed}
-use Rattle.mv_parts.specs.Journals.{AreLiveCalls, HasStates, IsKept, IsOfNumber, Journal, journal_of, live_of, live_state, nothing, state_in}
+use Rattle.mv_parts.specs.Journals.{AreLiveCalls, HasStates, IsKept, IsLive, IsOfNumber, Journal, journal_of, live_of, live_state, nothing, state_in}
 
 -- ---- the live attempts, in their map
 
@@ -122,7 +122,7 @@ module _ (base : Ledger) (header : Header) (calls : List CallData) (clock low : 
   pub journal_abandoned : journal_of base header calls clock low es new index ≡ record (journal_of base header calls clock low es live index) { world = after_abandon (journal_of base header calls clock low es live index).world t }
   journal_abandoned = ap (λ as'. record { base = base; header = header; calls = calls; index = touched index; world = record { clock = clock; low = low; entries = es; marks = []; live = as' } }) live_new
 
-  is_call : (0 < number) × (number ≤ length calls)
+  pub is_call : (0 < number) × (number ≤ length calls)
   is_call = found_attempt (λ (a : CallAttempt). (0 < a.number) × (a.number ≤ length calls)) t (listed t number) (live_of live) found kept.live_calls
 
   pub abandoned_within : number - 1 < length states
@@ -167,3 +167,9 @@ module _ (base : Ledger) (header : Header) (calls : List CallData) (clock low : 
     count = length-set states (number - 1) Idle ∙ kept.count;
     stands = subst (HasStates (set states (number - 1) Idle) es) (sym live_new) stands_abandoned;
   }
+
+-- an attempt that is live in what is seen is so in the map
+pub live_here : (base : Ledger) (header : Header) (calls : List CallData) (clock low : ℕ) (es : List CallEntry) (live : List (ℕ × ℕ)) (index : ChainMap (Unit {0})) (j : Journal) → journal_of base header calls clock low es live index ≡ j
+    → (a : CallAttempt) (t number : ℕ) → t ≡ a.timestamp → number ≡ a.number → IsLive j.world a → IsOfNumber number (attempt_at t (live_of live))
+live_here base header calls clock low es live index j is a t number same_timestamp same_number h =
+    rw same_timestamp (rw same_number (subst (λ k. IsLive k.world a) (sym is) h))

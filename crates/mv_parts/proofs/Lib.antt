@@ -4,3 +4,4 @@ pub mod Abandons
 pub mod Prunes
 pub mod Opens
 pub mod PutEntries
+pub mod IndexedStores

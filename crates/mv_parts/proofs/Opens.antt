@@ -24,7 +24,10 @@ use Rattle.mv_parts.specs.Opening.{AreFirstShards, first_shard, open_fault}
 no_marks : (x : Item) (version : ℕ) → marks_of (versions_of nothing []) x version ≡ 0
 no_marks x version = by (0 == version)
   where
-    by : (b : Bool) → (if b then 0 else 0) ≡ 0
+    zero_of : ℕ
+    zero_of = 0
+
+    by : (b : Bool) → (if b then zero_of else zero_of) ≡ zero_of
     by true = refl
     by false = refl
 
@@ -60,3 +63,19 @@ kept_first base header calls orderly opened = record {
 pub record AreShardsTo (base : Ledger) (count : ℕ) (shards : List Shard) : Type 0 where
   pub are : length shards ≡ count
   pub each : (i : ℕ) (d : Shard) → i < count → get_or shards i d ≡ first_shard base i
+
+pub no_shards : (base : Ledger) → AreShardsTo base 0 []
+no_shards base = record { are = refl; each = λ i d inside. absurd (omega (arith, inside)) }
+
+pub one_more_shard : (base : Ledger) (count : ℕ) (shards : List Shard) (s : Shard) → s ≡ first_shard base count → AreShardsTo base count shards → AreShardsTo base (count + 1) (shards ++ s ∷ [])
+one_more_shard base count shards s is k = record {
+  are = length-append shards (s ∷ []) ∙ ap (λ n. n + 1) k.are;
+  each = λ i d inside. by i d inside (i == count) (equals i count);
+}
+  where
+    by : (i : ℕ) (d : Shard) → i < count + 1 → (b : Bool) → Equals i count b → get_or (shards ++ s ∷ []) i d ≡ first_shard base i
+    by i d inside b (equal e) = ap (λ n. get_or (shards ++ s ∷ []) n d) (e ∙ sym k.are) ∙ get_or-append-length shards s d ∙ is ∙ ap (first_shard base) (sym e)
+    by i d inside b (unequal e) = get_or-append-lt shards (s ∷ []) i d (omega (arith, inside, e, k.are)) ∙ k.each i d (omega (arith, inside, e))
+
+pub are_first_shards : (base : Ledger) (count : ℕ) (shards : List Shard) → count ≡ shard_count → AreShardsTo base count shards → AreFirstShards base shards
+are_first_shards base count shards is k = record { count = k.are ∙ is; each = λ i d inside. k.each i d (subst (λ n. i < n) (sym is) inside) }

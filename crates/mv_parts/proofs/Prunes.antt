@@ -62,3 +62,9 @@ module _ (base : Ledger) (header : Header) (calls : List CallData) (clock low : 
         count = kept.count;
         stands = kept.stands;
       }
+
+-- the low mark by the first of the live timestamps
+pub low_by_first : (clock low t first number bound least greatest : ℕ) (live : List (ℕ × ℕ)) → greatest ≡ max low least → least ≡ min bound first → bound ≡ min t clock
+    → slice_get live 0 ≡ Some (first, number) → IsStrictlySortedBy nat_cmp (keys_of live) → greatest ≡ max low (lowest_live (min t clock) (live_of live))
+low_by_first clock low t first number bound least greatest live is_max is_min is_bound is_first order =
+    is_max ∙ ap (max low) (is_min ∙ ap (λ b. min b first) is_bound ∙ sym (lowest_is_first (min t clock) first number live is_first order))

@@ -1,15 +1,17 @@
 -- What the states of calls say, and why a call does not begin.
-use Rattle.std.proofs.Common.{◌≡◌, ◌≢◌, ◌⊎◌, inl, inr, ℕ, ◌+◌, ◌-◌, ◌^◌, ◌<◌, ◌≤◌, ◌||◌, Bool, true, false, if◌then◌else◌, ◌==◌, nat_lt, List, [], ◌∷◌, ◌++◌, length, None, Some, refl, sym, ap, ◌∙◌, subst, arith, get_or}
+use Rattle.std.proofs.Common.{◌≡◌, ◌≢◌, ◌⊎◌, inl, inr, ℕ, ◌+◌, ◌-◌, ◌^◌, ◌<◌, ◌≤◌, ◌||◌, Bool, true, false, if◌then◌else◌, ◌==◌, nat_lt, Option, List, [], ◌∷◌, ◌++◌, length, None, Some, refl, sym, ap, ◌∙◌, subst, arith, get_or}
 use Rattle.avm_ledger.specs.declared.header.Header.{Header}
 use Rattle.avm_ledger.specs.Ledgers.{Ledger}
 use Rattle.avm_items.specs.declared.call_data.CallData.{CallData}
 use Rattle.mv_history.specs.History.{commit_count}
 use Rattle.mv_history.specs.World.{live_count}
 use Rattle.mv_calls.specs.CallHistory.{CallAttempt, CallEntry}
+use Rattle.mv_shards.specs.Chains.{ChainMap}
+use Rattle.mv_parts.specs.declared.begin_fault.BeginFault.{BeginFault}
 use Rattle.mv_parts.specs.declared.begin_fault.BeginFault.TheVariants.{ClockEnd, Done, NoCall, Taken}
 use Rattle.mv_parts.specs.declared.call_state.CallState.{CallState}
 use Rattle.mv_parts.specs.declared.call_state.CallState.TheVariants.{Idle, Live, Committed}
-use Rattle.mv_parts.specs.Journals.{HasStates, Journal, begin_fault, live_state, state_in}
+use Rattle.mv_parts.specs.Journals.{HasStates, IsKept, Journal, begin_fault, journal_of, live_of, live_state, state_in}
 
 idle_live : (n : ℕ) (live : List CallAttempt) → live_state n live ≡ Idle → live_count n live ≡ 0
 idle_live n [] e = refl
@@ -144,3 +146,36 @@ begins j number is = by_zero (number == 0) refl is
         → Begins j number
     by_zero true e is = absurd cc
     by_zero false e is = by_count (positive number e) (nat_lt (length j.calls) number) refl is
+
+-- ---- by the state that is kept
+
+abbrev pub fault_by : ℕ → CallState → Option BeginFault
+fault_by clock Idle = if clock == 2 ^ 64 - 1 then Some ClockEnd else None
+fault_by clock (Live t) = Some Taken
+fault_by clock Committed = Some Done
+
+pub fault_found : {base : Ledger} {header : Header} {calls : List CallData} {clock low : ℕ} {es : List CallEntry} {states : List CallState} {live : List (ℕ × ℕ)} {index : ChainMap (Unit {0})} → IsKept base header calls clock low es states live index
+    → (number : ℕ) (s x : CallState) (xs : List CallState) → 0 < number → xs ≡ states → number - 1 < length xs → x ≡ get_or xs (number - 1) Idle → x ≡ s
+    → fault_by clock s ≡ begin_fault (journal_of base header calls clock low es live index) number
+fault_found {base} {header} {calls} {clock} {low} {es} {states} {live} {index} kept number s x xs above same inside found is =
+    by s (state_found states es (live_of live) number s above kept.stands (subst (λ l. number - 1 < length l) same inside) (sym is ∙ found ∙ ap (λ l. get_or l (number - 1) Idle) same))
+  where
+    within : number ≤ length calls
+    within = let h : number - 1 < length states = subst (λ l. number - 1 < length l) same inside in omega (arith, h, above, kept.count)
+
+    by : (r : CallState) → state_in es (live_of live) number ≡ r → fault_by clock r ≡ begin_fault (journal_of base header calls clock low es live index) number
+    by Idle state = sym (idle (journal_of base header calls clock low es live index) number above within state)
+    by (Live t) state = sym (taken (journal_of base header calls clock low es live index) number t above within state)
+    by Committed state = sym (done (journal_of base header calls clock low es live index) number above within state)
+
+pub fault_beyond : {base : Ledger} {header : Header} {calls : List CallData} {clock low : ℕ} {es : List CallEntry} {states : List CallState} {live : List (ℕ × ℕ)} {index : ChainMap (Unit {0})} → IsKept base header calls clock low es states live index
+    → (number : ℕ) (xs : List CallState) → 0 < number → xs ≡ states → length xs ≤ number - 1 → Some NoCall ≡ begin_fault (journal_of base header calls clock low es live index) number
+fault_beyond {base} {header} {calls} {clock} {low} {es} {states} {live} {index} kept number xs above same beyond =
+    let h : length states ≤ number - 1 = subst (λ l. length l ≤ number - 1) same beyond in
+    sym (not_one (journal_of base header calls clock low es live index) number (inr (omega (arith, h, above, kept.count))))
+
+pub clock_ends : (clock : ℕ) → clock ≡ 2 ^ 64 - 1 → Some ClockEnd ≡ fault_by clock Idle
+clock_ends clock is = let e : (clock == 2 ^ 64 - 1) ≡ true = grind (arith, is) in rw e refl
+
+pub clock_goes_on : (clock : ℕ) → clock ≢ 2 ^ 64 - 1 → None ≡ fault_by clock Idle
+clock_goes_on clock other = let e : (clock == 2 ^ 64 - 1) ≡ false = grind (arith, other) in rw e refl
