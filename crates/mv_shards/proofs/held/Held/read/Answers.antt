@@ -35,4 +35,4 @@ pub returns-clause-pruned : goal.returns-clause-pruned
 returns-clause-pruned c =
     let is = c.from-place.ensures ∙ c.shard_of.ensures.index in
     let found = ap (λ i. get_or (seen_all c.self.inside.parts) i None) (sym is) ∙ seen_at c.self.inside.parts c.from-place.result ∙ ap seen_or_none (here c) in
-    rw (← c.self.view_is) (subst (λ o. IsErrOf c.read.result (Fault Pruned) ↔ IsPrunedIn o c.args.attempt.old c.args.item) (sym found) c.read.ensures.pruned)
+    rw (← c.self.view_is) (subst (λ o. IsErrOf c.read.result (Fault Pruned) ↔ IsPrunedIn o c.args.attempt.now c.args.item) (sym found) c.read.ensures.pruned)
