@@ -217,29 +217,32 @@ module _ {Item Value : Type 0} where
     where
       by : None ≡ Some k.attempt → ⊥
       by e = cc
-  live_read slots before after n t place read (a ∷ as') above within found more k once = by (a.timestamp == t) k.live
+  live_read slots before after n t place read (a ∷ as') above within found more k once = by (a.timestamp == t) k.live (λ l one. live_read slots before after n t place read as' above within found more l one)
     where
       here : a.number ≡ n → (b : Bool) → Equals a.number n b → (if b then 1 else 0) + live_count n as' ≤ 1 → live_count n as' ≡ 0
       here e b (equal same) h = omega (arith, h)
       here e b (unequal other) h = absurd (other e)
 
-      later : (attempt_at t as' ≡ Some k.attempt) → (b : Bool) → Equals a.number n b → (if b then 1 else 0) + live_count n as' ≤ 1
+      Rest : Type 0
+      Rest = IsLive as' n t → live_count n as' ≤ 1 → live_in (set slots (n - 1) (Some after)) as' ≡ attempts_with_read t place read (live_in slots as')
+
+      later : Rest → attempt_at t as' ≡ Some k.attempt → (b : Bool) → Equals a.number n b → (if b then 1 else 0) + live_count n as' ≤ 1
           → record a { reads = reads_in (set slots (n - 1) (Some after)) a.number } ∷ live_in (set slots (n - 1) (Some after)) as' ≡ record a { reads = reads_in slots a.number } ∷ attempts_with_read t place read (live_in slots as')
-      later there b (equal same) h = let some : 0 < live_count n as' = live_counts n t as' (record { attempt = k.attempt; live = there; number = k.number }) in absurd (omega (arith, h, some))
-      later there b (unequal other) h =
-          let rest = live_read slots before after n t place read as' above within found more (record { attempt = k.attempt; live = there; number = k.number }) (omega (arith, h)) in
+      later again there b (equal same) h = let some : 0 < live_count n as' = live_counts n t as' (record { attempt = k.attempt; live = there; number = k.number }) in absurd (omega (arith, h, some))
+      later again there b (unequal other) h =
+          let rest = again (record { attempt = k.attempt; live = there; number = k.number }) (omega (arith, h)) in
           let reads = reads_other slots (Some after) a.number n above other in
           λ i. record a { reads = reads i } ∷ rest i
 
-      by : (b : Bool) → (if b then Some a else attempt_at t as') ≡ Some k.attempt
+      by : (b : Bool) → (if b then Some a else attempt_at t as') ≡ Some k.attempt → Rest
           → record a { reads = reads_in (set slots (n - 1) (Some after)) a.number } ∷ live_in (set slots (n - 1) (Some after)) as'
           ≡ (if b then record a { reads = insert (reads_in slots a.number) place read } ∷ live_in slots as' else record a { reads = reads_in slots a.number } ∷ attempts_with_read t place read (live_in slots as'))
-      by true is =
+      by true is again =
           let number : a.number ≡ n = ap (λ (c : Attempt Item Value). c.number) (some_is is) ∙ k.number in
           let rest = live_others slots (Some after) n as' above (here number (a.number == n) (equals a.number n) once) in
           let reads = subst (λ m. reads_in (set slots (n - 1) (Some after)) m ≡ insert (reads_in slots m) place read) (sym number) (read_more slots before after n place read above within found more) in
           λ i. record a { reads = reads i } ∷ rest i
-      by false is = later is (a.number == n) (equals a.number n) once
+      by false is again = later again is (a.number == n) (equals a.number n) once
 
   pub places_read : (slots : Slots Item Value) (before after : Attempt Item Value) (n place : ℕ) (read : Item × Value) (live : List (Attempt Item Value)) → 0 < n → n - 1 < length slots → get_or slots (n - 1) None ≡ Some before
       → IsReadMore before after place read → ArePlacesOf live slots → ArePlacesOf live (set slots (n - 1) (Some after))

@@ -43,7 +43,7 @@ unmarked : (n : ℕ) (o : Option Shard) (x : Item) → is_among same_item x (ite
 unmarked n None x h = refl
 unmarked n (Some s) x h = ap (λ f. mark_in n (versions_or (at s.base x) f)) (no_list x s.chains h) ∙ by (0 == n)
   where
-    by : (b : Bool) → (if b then 0 else 0) ≡ 0
+    by : (b : Bool) → ◌≡◌ {A = ℕ} (if b then 0 else 0) 0
     by true = refl
     by false = refl
 

@@ -1,3 +1,4 @@
 pub mod Places
 pub mod Marks
 pub mod Stores
+pub mod Laws

@@ -1,6 +1,7 @@
 -- The store: what is seen of it, what it keeps, and what its calls do.
-use Rattle.std.specs.Prelude.{◌≡◌, ℕ, suc, ◌+◌, ◌<◌, ◌≤◌, ◌⊎◌, List, [], ◌∷◌, ◌++◌, length, map, get_or, set, Option, None, Some}
+use Rattle.std.specs.Prelude.{◌≡◌, ℕ, suc, ◌+◌, ◌<◌, ◌≤◌, ◌⊎◌, List, [], ◌∷◌, ◌++◌, length, get_or, set, Option, None, Some}
 use Rattle.std.specs.Map.{keys_of}
+use Rattle.std.specs.List.{AllByRecursion}
 use Rattle.avm_ledger.specs.declared.header.Header.{Header}
 use Rattle.avm_ledger.specs.Ledgers.{Ledger}
 use Rattle.avm_items.specs.declared.call_data.CallData.{CallData}
@@ -12,7 +13,7 @@ use Rattle.avm_laws.specs.Orderly.{IsOrderly}
 use Rattle.avm_laws.specs.LedgerLooks.{IsOfLedger}
 use Rattle.mv_history.specs.History.{version_below}
 use Rattle.mv_history.specs.SameWorlds.{IsSameWorld}
-use Rattle.mv_history.specs.World.{Mark, KeepsNeededMarks, after_prune, after_read, attempt_at, first_world}
+use Rattle.mv_history.specs.World.{Mark, KeepsNeededMarks, after_prune, after_read, attempt_at}
 use Rattle.mv_agreement.specs.Stores.{IsStore, after_item_read}
 use Rattle.mv_calls.specs.CallHistory.{CallAttempt, CallWorld, meaning_of, same_item}
 use Rattle.mv_calls.specs.SerialCalls.{AreOfCalls}
@@ -20,8 +21,6 @@ use Rattle.mv_shards.specs.Indexes.{shard_count}
 use Rattle.mv_shards.specs.Shards.{Shard}
 use Rattle.mv_shards.specs.Helds.{IsHeldPruned, IsHeldRead, Places}
 use Rattle.mv_shards.specs.Writing.{versions_for}
-use Rattle.mv_parts.specs.Journals.{AreLiveCalls, Journal}
-use Rattle.mv_parts.specs.Opening.{first_shard}
 use Rattle.mv_running.specs.Running.{place_of}
 use Rattle.mv_core.specs.Marks.{marks_among}
 use Rattle.mv_core.specs.Places.{ArePlacesOf, IsLive, Slots, live_in}
@@ -57,10 +56,6 @@ shown base header calls w places slots = record {
   world = record { clock = w.clock; low = w.low; entries = w.entries; marks = marks_in places; live = live_in slots w.live };
 }
 
--- what a journal with all marks and reads would show
-abbrev pub as_journal : Store → Journal
-as_journal s = record { base = s.base; header = s.header; calls = s.calls; world = s.world; index = [] }
-
 -- ---- what it keeps
 
 -- all shards are held, over the base, with the low mark
@@ -71,6 +66,10 @@ IsOver base low i (Some s) = (s.index ≡ i) × (s.low ≡ low) × (s.base ≡ b
 abbrev pub AreAllOver : Ledger → ℕ → Places → Type 0
 AreAllOver base low places = (i : ℕ) → i < shard_count → IsOver base low i (get_or places i None)
 
+-- each live attempt is of one of the calls
+abbrev pub AreLiveOf : List CallData → List CallAttempt → Type 0
+AreLiveOf calls live = AllByRecursion (λ (a : CallAttempt). (0 < a.number) × (a.number ≤ length calls)) live
+
 -- The facts of the order theorem, with the marks of its versions, each of which is an entry's; all shards, as far as the
 -- journal is; a place for each call. `w` is the journal's world.
 pub record IsKept (base : Ledger) (header : Header) (calls : List CallData) (w : CallWorld) (places : Places) (slots : CallSlots) : Type 0 where
@@ -78,7 +77,7 @@ pub record IsKept (base : Ledger) (header : Header) (calls : List CallData) (w :
   pub store : IsStore (λ value. value) same_item IsOfLedger (meaning_of header calls) (at base) w.low w.clock w.low w.entries (live_in slots w.live) (versions_for places)
   pub shards : AreAllOver base w.low places
   pub are_calls : AreOfCalls calls w.entries
-  pub live_calls : AreLiveCalls calls w.live
+  pub live_calls : AreLiveOf calls w.live
   pub count : length slots ≡ length calls
   pub attempts : ArePlacesOf w.live slots
 
@@ -126,22 +125,3 @@ IsPrunedFor places (Some a) x = IsHeldPruned places a x
 
 abbrev pub IsPrunedPlace : Places → CallSlots → ℕ → Item → Type 0
 IsPrunedPlace places slots i x = IsPrunedFor places (get_or slots i None) x
-
--- ---- by its journal
-
-abbrev pub shown_by : Journal → Places → CallSlots → Store
-shown_by j places slots = shown j.base j.header j.calls j.world places slots
-
-abbrev pub IsKeptBy : Journal → Places → CallSlots → Type 0
-IsKeptBy j places slots = IsKept j.base j.header j.calls j.world places slots
-
--- ---- a store in which nothing has begun
-
-abbrev pub held_first : Ledger → ℕ → Option Shard
-held_first base i = Some (first_shard base i)
-
-abbrev pub first_places : Ledger → Places
-first_places base = map (held_first base) (0 ∷ 1 ∷ 2 ∷ 3 ∷ 4 ∷ 5 ∷ 6 ∷ 7 ∷ 8 ∷ 9 ∷ 10 ∷ 11 ∷ 12 ∷ 13 ∷ 14 ∷ 15 ∷ [])
-
-abbrev pub first_store : Ledger → Header → List CallData → Store
-first_store base header calls = record { base = base; header = header; calls = calls; world = first_world; places = first_places base }
