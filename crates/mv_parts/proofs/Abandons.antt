@@ -112,7 +112,7 @@ other_state t number n (e ∷ es) found other = by (is_eq (nat_cmp t e.0)) found
 -- ---- what is kept
 
 module _ (base : Ledger) (header : Header) (calls : List CallData) (clock low : ℕ) (es : List CallEntry) (states : List CallState) (live : List (ℕ × ℕ)) (index : ChainMap (Unit {0})) (kept : IsKept base header calls clock low es states live index)
-  (t number : ℕ) (is_live : IsOfNumber number (attempt_at t (live_of live))) (order : IsStrictlySortedBy nat_cmp (keys_of live)) (new : List (ℕ × ℕ)) (is : new ≡ remove_entry (is_at (nat_cmp t)) live) where
+    (t number : ℕ) (is_live : IsOfNumber number (attempt_at t (live_of live))) (order : IsStrictlySortedBy nat_cmp (keys_of live)) (new : List (ℕ × ℕ)) (is : new ≡ remove_entry (is_at (nat_cmp t)) live) where
   found : attempt_at t (live_of live) ≡ Some (listed t number)
   found = attempt_found t live ∙ ap (option_map (listed t)) (number_found t number live is_live)
 
@@ -147,7 +147,7 @@ module _ (base : Ledger) (header : Header) (calls : List CallData) (clock low : 
       by b (unequal e) =
           get_or-set_other states (number - 1) index Idle Idle e ∙ kept.stands index (subst (λ n. index < n) (length-set states (number - 1) Idle) inside)
           ∙ sym (ap (λ s. if commit_count (index + 1) es == 0 then s else Committed)
-            (ap (live_state (index + 1)) (live_removed t live order) ∙ other_state t number (index + 1) live (number_found t number live is_live) (λ same. e (omega (arith, same)))))
+          (ap (live_state (index + 1)) (live_removed t live order) ∙ other_state t number (index + 1) live (number_found t number live is_live) (λ same. e (omega (arith, same)))))
 
   pub kept_abandoned : IsKept base header calls clock low es (set states (number - 1) Idle) new index
   kept_abandoned = record {

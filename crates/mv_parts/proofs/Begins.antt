@@ -79,7 +79,7 @@ above_clock : (clock : ℕ) (live : List CallAttempt) → AllByRecursion (λ a. 
 above_clock clock live past = all_map (λ a. (0 < a.timestamp) × (a.timestamp ≤ clock)) _ live (λ a h. omega arith) past
 
 module _ (base : Ledger) (header : Header) (calls : List CallData) (clock low : ℕ) (es : List CallEntry) (states : List CallState) (live : List (ℕ × ℕ)) (index : ChainMap (Unit {0})) (kept : IsKept base header calls clock low es states live index) (number : ℕ)
-  (fault : begin_fault (journal_of base header calls clock low es live index) number ≡ None) (new : List (ℕ × ℕ)) (is : new ≡ insert_entry nat_cmp live (clock + 1) number) where
+    (fault : begin_fault (journal_of base header calls clock low es live index) number ≡ None) (new : List (ℕ × ℕ)) (is : new ≡ insert_entry nat_cmp live (clock + 1) number) where
   live_new : live_of new ≡ live_of live ++ fresh_attempt number (clock + 1) ∷ []
   live_new = ap live_of is ∙ live_pushed (clock + 1) number live (above_clock clock (live_of live) kept.store.consistent.schedule.live_past)
 

@@ -1,5 +1,6 @@
 -- A journal of which no call has begun.
-use Rattle.std.proofs.Common.{◌≡◌, ℕ, ◌+◌, ◌<◌, zero, suc, Bool, true, false, if◌then◌else◌, ◌==◌, None, List, [], ◌∷◌, length, refl, sym, ap, ◌∙◌, arith, get_or, replicate}
+use Rattle.std.proofs.Common.{◌≡◌, ℕ, ◌+◌, ◌<◌, zero, suc, Bool, true, false, if◌then◌else◌, ◌==◌, None, List, [], ◌∷◌, ◌++◌, length, refl, sym, ap, ◌∙◌, subst, arith, get_or, length-append, replicate}
+use Rattle.std.proofs.lemmas.List.{get_or_append_left, get_or_push}
 use Rattle.avm_ledger.specs.declared.header.Header.{Header}
 use Rattle.avm_ledger.specs.Ledgers.{Ledger}
 use Rattle.avm_items.specs.declared.call_data.CallData.{CallData}
@@ -10,10 +11,11 @@ use Rattle.avm_call.specs.declared.outcome.Outcome.{Outcome}
 use Rattle.avm_laws.specs.Orderly.{IsOrderly}
 use Rattle.avm_laws.specs.LedgerLooks.{IsOfLedger}
 use Rattle.mv_history.proofs.Events.{schedule_first}
+use Rattle.mv_history.proofs.Lists.{Equals, equal, unequal, equals}
 use Rattle.mv_agreement.specs.Stores.{IsStore, marks_of}
 use Rattle.mv_agreement.proofs.Agreements.{every_first_version_agrees_lem}
-use Rattle.mv_calls.specs.CallHistory.{meaning_of, same_item}
-use Rattle.mv_shards.specs.Chains.{AreChains, versions_of}
+use Rattle.mv_calls.specs.CallHistory.{CallEntry, meaning_of, same_item}
+use Rattle.mv_shards.specs.Chains.{AreChains, ChainMap, versions_of}
 use Rattle.mv_shards.specs.Indexes.{shard_count}
 use Rattle.mv_shards.specs.Shards.{Shard}
 use Rattle.mv_parts.specs.declared.call_state.CallState.{CallState}
@@ -59,6 +61,11 @@ kept_first base header calls orderly opened = record {
   stands = λ index inside. idle_at (length calls) index;
 }
 
+pub kept_opened : (base : Ledger) (header : Header) (calls : List CallData) (n : ℕ) (es : List CallEntry) (states : List CallState) (live : List (ℕ × ℕ)) (index : ChainMap (Unit {0})) → IsOrderly base → open_fault header calls ≡ None
+    → n ≡ length calls → es ≡ [] → states ≡ replicate n Idle → live ≡ [] → index ≡ [] → IsKept base header calls 0 0 es states live index
+kept_opened base header calls n es states live index orderly opened count no_entries are_idle none_live no_index =
+    rw (no_entries, are_idle, none_live, no_index, count) (kept_first base header calls orderly opened)
+
 -- the first of the shards
 pub record AreShardsTo (base : Ledger) (count : ℕ) (shards : List Shard) : Type 0 where
   pub are : length shards ≡ count
@@ -69,13 +76,13 @@ no_shards base = record { are = refl; each = λ i d inside. absurd (omega (arith
 
 pub one_more_shard : (base : Ledger) (count : ℕ) (shards : List Shard) (s : Shard) → s ≡ first_shard base count → AreShardsTo base count shards → AreShardsTo base (count + 1) (shards ++ s ∷ [])
 one_more_shard base count shards s is k = record {
-  are = length-append shards (s ∷ []) ∙ ap (λ n. n + 1) k.are;
+  are = omega (arith, length-append shards (s ∷ []), k.are);
   each = λ i d inside. by i d inside (i == count) (equals i count);
 }
   where
     by : (i : ℕ) (d : Shard) → i < count + 1 → (b : Bool) → Equals i count b → get_or (shards ++ s ∷ []) i d ≡ first_shard base i
-    by i d inside b (equal e) = ap (λ n. get_or (shards ++ s ∷ []) n d) (e ∙ sym k.are) ∙ get_or-append-length shards s d ∙ is ∙ ap (first_shard base) (sym e)
-    by i d inside b (unequal e) = get_or-append-lt shards (s ∷ []) i d (omega (arith, inside, e, k.are)) ∙ k.each i d (omega (arith, inside, e))
+    by i d inside b (equal e) = get_or_push shards s d i (k.are ∙ sym e) ∙ is ∙ ap (first_shard base) (sym e)
+    by i d inside b (unequal e) = get_or_append_left shards (s ∷ []) d i (omega (arith, inside, e, k.are)) ∙ k.each i d (omega (arith, inside, e))
 
 pub are_first_shards : (base : Ledger) (count : ℕ) (shards : List Shard) → count ≡ shard_count → AreShardsTo base count shards → AreFirstShards base shards
 are_first_shards base count shards is k = record { count = k.are ∙ is; each = λ i d inside. k.each i d (subst (λ n. i < n) (sym is) inside) }

@@ -1,5 +1,5 @@
 -- Entries put into a ledger one after another, and a map of items copied.
-use Rattle.std.proofs.Common.{◌≡◌, ℕ, suc, ◌+◌, ◌<◌, ◌≤◌, true, false, nat_lt, List, [], ◌∷◌, ◌++◌, length, drop, refl, sym, ap, ◌∙◌, subst, append_assoc, arith, slice_index_or}
+use Rattle.std.proofs.Common.{◌≡◌, ℕ, suc, ◌+◌, ◌<◌, ◌≤◌, Bool, true, false, if◌then◌else◌, nat_lt, List, [], ◌∷◌, ◌++◌, length, drop, refl, sym, ap, ◌∙◌, subst, append_assoc, arith, slice_index_or}
 use Rattle.std.proofs.lemmas.List.{drop_all, drop_more}
 use Rattle.std.specs.BTreeMap.{insert_entry}
 use Rattle.std.specs.List.{AllByRecursion}
@@ -16,19 +16,23 @@ use Rattle.mv_history.specs.History.{entries_below}
 use Rattle.mv_calls.specs.CallHistory.{CallEntry}
 use Rattle.mv_calls.specs.Laws.{ledger_with}
 
-pub put_further : (l m : Ledger) (t i : ℕ) (es : List CallEntry) (e : CallEntry) → i < length es → e ≡ slice_index_or es i e → e.timestamp ≤ t → m ≡ put l e.writes
-    → ledger_with m (entries_below (suc t) (drop (i + 1) es)) ≡ ledger_with l (entries_below (suc t) (drop i es))
-put_further l m t i es e lt is le put_is =
-    let more : drop i es ≡ e ∷ drop (i + 1) es = drop_more es i e lt ∙ ap (λ x. x ∷ drop (i + 1) es) (sym is) in
-    let below : nat_lt e.timestamp (suc t) ≡ true = grind (arith, le) in
-    ap (λ k. ledger_with k (entries_below (suc t) (drop (i + 1) es))) put_is ∙ sym (ap (λ xs. ledger_with l (entries_below (suc t) xs)) more ∙ rw below refl)
+-- one entry, below the next timestamp or not
+pub put_one_entry : (l : Ledger) (t : ℕ) (e : CallEntry) → e.timestamp ≤ t → put l e.writes ≡ ledger_with l (entries_below (suc t) (e ∷ []))
+put_one_entry l t e le = let below : nat_lt e.timestamp (suc t) ≡ true = grind (arith, le) in rw below refl
 
-pub pass_further : (l : Ledger) (t i : ℕ) (es : List CallEntry) (e : CallEntry) → i < length es → e ≡ slice_index_or es i e → t < e.timestamp
-    → ledger_with l (entries_below (suc t) (drop (i + 1) es)) ≡ ledger_with l (entries_below (suc t) (drop i es))
-pass_further l t i es e lt is gt =
+pub pass_one_entry : (l : Ledger) (t : ℕ) (e : CallEntry) → t < e.timestamp → l ≡ ledger_with l (entries_below (suc t) (e ∷ []))
+pass_one_entry l t e gt = let above : nat_lt e.timestamp (suc t) ≡ false = grind (arith, gt) in rw above refl
+
+-- one entry more
+pub put_further : (l m : Ledger) (t i : ℕ) (es : List CallEntry) (e : CallEntry) → i < length es → e ≡ slice_index_or es i e → m ≡ ledger_with l (entries_below (suc t) (e ∷ []))
+    → ledger_with m (entries_below (suc t) (drop (i + 1) es)) ≡ ledger_with l (entries_below (suc t) (drop i es))
+put_further l m t i es e lt is put_is =
     let more : drop i es ≡ e ∷ drop (i + 1) es = drop_more es i e lt ∙ ap (λ x. x ∷ drop (i + 1) es) (sym is) in
-    let above : nat_lt e.timestamp (suc t) ≡ false = grind (arith, gt) in
-    sym (ap (λ xs. ledger_with l (entries_below (suc t) xs)) more ∙ rw above refl)
+    ap (λ k. ledger_with k (entries_below (suc t) (drop (i + 1) es))) put_is ∙ by (nat_lt e.timestamp (suc t)) ∙ sym (ap (λ xs. ledger_with l (entries_below (suc t) xs)) more)
+  where
+    by : (b : Bool) → ledger_with (ledger_with l (if b then e ∷ [] else [])) (entries_below (suc t) (drop (i + 1) es)) ≡ ledger_with l (if b then e ∷ entries_below (suc t) (drop (i + 1) es) else entries_below (suc t) (drop (i + 1) es))
+    by true = refl
+    by false = refl
 
 -- the entries from the end on are none
 pub none_further : (l : Ledger) (t i : ℕ) (es : List CallEntry) → length es ≤ i → ledger_with l (entries_below (suc t) (drop i es)) ≡ l

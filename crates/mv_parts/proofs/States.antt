@@ -80,9 +80,9 @@ not_one j number (inr above) =
 
 is_one : (j : Journal) (number : ℕ) → 0 < number → number ≤ length j.calls
     → begin_fault j number ≡ (if nat_lt 0 (commit_count number j.world.entries) then Some Done
-      else if nat_lt 0 (live_count number j.world.live) then Some Taken
-      else if j.world.clock == 2 ^ 64 - 1 then Some ClockEnd
-      else None)
+    else if nat_lt 0 (live_count number j.world.live) then Some Taken
+    else if j.world.clock == 2 ^ 64 - 1 then Some ClockEnd
+    else None)
 is_one j number above within =
     let e : (number == 0) ≡ false = grind (arith, above) in
     let f : nat_lt (length j.calls) number ≡ false = grind (arith, within) in

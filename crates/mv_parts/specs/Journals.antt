@@ -76,7 +76,10 @@ live_of = map (λ e. record { number = e.1; timestamp = e.0; reads = [] })
 
 abbrev pub journal_of : Ledger → Header → List CallData → ℕ → ℕ → List CallEntry → List (ℕ × ℕ) → ChainMap (Unit {0}) → Journal
 journal_of base header calls clock low es live index = record {
-  base = base; header = header; calls = calls; index = touched index;
+  base = base;
+  header = header;
+  calls = calls;
+  index = touched index;
   world = record { clock = clock; low = low; entries = es; marks = []; live = live_of live };
 }
 

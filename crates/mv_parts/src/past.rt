@@ -1,6 +1,6 @@
 //! Ledgers of the past.
 
-ghost use Rattle.std.specs.Prelude.{◌≡◌, suc, IfOk};
+ghost use Rattle.std.specs.Prelude.{◌≡◌, ◌∷◌, [], suc, IfOk};
 ghost use Rattle.mv_history.specs.History.{entries_below};
 ghost use Rattle.mv_calls.specs.Laws.{ledger_with};
 ghost use Rattle.mv_calls.specs.SerialCalls.{ledger_of};
@@ -34,11 +34,24 @@ fn put_entries(
     ensures { IfOk result (λ _. ledger.new ≡ ledger_with ledger.old (entries_below (suc timestamp) entries.now)) }
 {
     for entry in entries {
-        if entry.timestamp <= timestamp {
-            put_items(alloc, ledger, copy_of(alloc, &entry.writes)?)?;
-        }
+        put_entry(alloc, ledger, entry, timestamp)?;
     }
     Ok(())
+}
+
+/// Puts the writes of an entry into a ledger, unless its timestamp is above this one.
+fn put_entry(
+    alloc: Global,
+    ledger: &mut Ledger,
+    entry: &Entry,
+    timestamp: u64,
+) -> Result<(), AllocError>
+    ensures { IfOk result (λ _. ledger.new ≡ ledger_with ledger.old (entries_below (suc timestamp) (entry.now ∷ []))) }
+{
+    if timestamp < entry.timestamp {
+        return Ok(());
+    }
+    put_items(alloc, ledger, copy_of(alloc, &entry.writes)?)
 }
 
 /// A copy of items with their values.
