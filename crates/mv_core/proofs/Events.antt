@@ -317,15 +317,15 @@ module _ (base : Ledger) (header : Header) (calls : List CallData) (w : CallWorl
         → IsKept base header calls (record w { low = low_after_prune w t }) new slots × IsPrune (shown base header calls w places slots) (shown base header calls (record w { low = low_after_prune w t }) new slots) t
     stays same pruned = (
       subst (λ l. IsKept base header calls (record w { low = l }) new slots) (sym same)
-      (record {
-        orderly = k.orderly;
-        store = subst (λ all. IsStore (λ value. value) same_item IsOfLedger (meaning_of header calls) (at base) w.low w.clock w.low w.entries (live_in slots w.live) all) (sym all_same) k.store;
-        shards = λ i inside. subst (λ o. IsOver base w.low i o) (sym (each i inside)) (k.shards i inside);
-        are_calls = k.are_calls;
-        live_calls = k.live_calls;
-        count = k.count;
-        attempts = k.attempts;
-      }),
+          (record {
+            orderly = k.orderly;
+            store = subst (λ all. IsStore (λ value. value) same_item IsOfLedger (meaning_of header calls) (at base) w.low w.clock w.low w.entries (live_in slots w.live) all) (sym all_same) k.store;
+            shards = λ i inside. subst (λ o. IsOver base w.low i o) (sym (each i inside)) (k.shards i inside);
+            are_calls = k.are_calls;
+            live_calls = k.live_calls;
+            count = k.count;
+            attempts = k.attempts;
+          }),
       pruned_world (record { kept_or_dropped = λ x n. inl (same_marks x n); needed = λ x u above. same_marks x (version_below same_item (at base) w.entries (suc u) x).0 }),
     )
       where

@@ -2,3 +2,5 @@ pub mod Attempts
 pub mod MarkLists
 pub mod Held
 pub mod Events
+pub mod Tickets
+pub mod Calls

@@ -2,3 +2,4 @@ pub mod Places
 pub mod Marks
 pub mod Stores
 pub mod Laws
+pub mod Calls

@@ -52,7 +52,10 @@ CallSlots = Slots Item ItemValue
 -- what is seen, where a journal's world lists no marks and no reads
 abbrev pub shown : Ledger → Header → List CallData → CallWorld → Places → CallSlots → Store
 shown base header calls w places slots = record {
-  base = base; header = header; calls = calls; places = places;
+  base = base;
+  header = header;
+  calls = calls;
+  places = places;
   world = record { clock = w.clock; low = w.low; entries = w.entries; marks = marks_in places; live = live_in slots w.live };
 }
 

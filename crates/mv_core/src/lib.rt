@@ -3,10 +3,19 @@
 //! Database Systems", section 5.3). It is a journal with all its shards and the live attempts. What is seen of it, and
 //! what it keeps, is in specs/Stores.antt.
 //!
-//! Here stand the laws of what each event makes of a store; each function is a law and does no work.
+//! What each event makes of a store is a law; those functions do no work.
 #![tactic(auto)]
 
 ghost use Rattle.mv_core.specs.Laws.{EveryAbandonLeavesAStore, EveryBeginLeavesAStore, EveryMarkIsAVersions, EveryPruneLeavesAStore, EveryReadLeavesAStore};
+
+mod faults;
+mod reading;
+mod store;
+mod ticket;
+
+pub use faults::{AbandonFault, ReadError, ReadFault, StateError, StateFault};
+pub use store::Store;
+pub use ticket::Ticket;
 
 /// The events of calls leave a store, and make of the world that is seen what they mean: beginnings, reads, abandoned
 /// attempts and prunes.
