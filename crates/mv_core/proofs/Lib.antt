@@ -4,3 +4,4 @@ pub mod Held
 pub mod Events
 pub mod Tickets
 pub mod Calls
+pub mod Openings

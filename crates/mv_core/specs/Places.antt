@@ -47,3 +47,8 @@ pub record IsPlaced {Item Value : Type 0} (slots : Slots Item Value) (n t place 
 -- the place of the number, if it is one, has no such attempt
 abbrev pub IsNowhere : {Item Value : Type 0} → Slots Item Value → ℕ → ℕ → Type 0
 IsNowhere {Item} {Value} slots n t = (a : Attempt Item Value) → 0 < n → get_or slots (n - 1) None ≡ Some a → a.timestamp ≢ t
+
+-- so many places, none with an attempt
+pub record AreEmpty {Item Value : Type 0} (count : ℕ) (places : Slots Item Value) : Type 0 where
+  pub are : length places ≡ count
+  pub each : (i : ℕ) → get_or places i None ≡ None

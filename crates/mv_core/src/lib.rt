@@ -9,6 +9,7 @@
 ghost use Rattle.mv_core.specs.Laws.{EveryAbandonLeavesAStore, EveryBeginLeavesAStore, EveryMarkIsAVersions, EveryPruneLeavesAStore, EveryReadLeavesAStore};
 
 mod faults;
+mod opening;
 mod reading;
 mod store;
 mod ticket;

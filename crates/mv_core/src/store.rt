@@ -15,19 +15,25 @@ ghost use Rattle.mv_parts.specs.Journals.{IsBeginRefusal, begin_fault};
 ghost use Rattle.mv_core.specs.declared.faults.ReadFault.TheVariants.{Unknown};
 ghost use Rattle.mv_core.specs.declared.faults.StateFault.TheVariants.{Pruned};
 ghost use Rattle.mv_core.specs.Places.{IsLive};
-ghost use Rattle.mv_core.specs.Calls.{as_journal};
+ghost use Rattle.std.specs.Arc.{arc_value};
+ghost use Rattle.avm_laws.specs.Orderly.{IsOrderly};
+ghost use Rattle.mv_parts.specs.Opening.{IsOpenRefusal, open_fault};
+ghost use Rattle.mv_core.specs.Calls.{as_journal, first_store};
 ghost use Rattle.mv_core.specs.Stores.{IsFirstRead, IsPrune, IsReadAgain};
 
 use crate::faults::{AbandonFault, ReadError, ReadFault, StateError, StateFault};
+use crate::opening::empty_places;
 use crate::reading::read_at;
 use crate::ticket::{Ticket, place_of};
+use avm_call::Call;
 use avm_items::{Item, ItemValue};
 use avm_ledger::{Header, Ledger};
 use mv_calls::every_consistent_world_of_calls_is_serial;
-use mv_parts::{BeginError, Journal};
+use mv_parts::{BeginError, Journal, OpenError, open_parts};
 use mv_shards::{Attempt, Held};
 use std::alloc::Global;
 use std::marker::Model;
+use std::sync::Arc;
 use teal_value::Failure;
 
 /// A journal, all shards, and a place for the attempt of each call.
@@ -50,6 +56,32 @@ impl Model for Store {
 }
 
 impl Store {
+    /// A store in which nothing has begun. It takes the memory for the attempts of all calls.
+    pub fn open(
+        alloc: Global,
+        base: Ledger,
+        header: Header,
+        calls: Arc<Vec<Call>>,
+    ) -> Result<Store, OpenError>
+        requires { IsOrderly base }
+        ensures opened { IfOk result (λ store. store ≡ first_store base header (arc_value calls).items) }
+        ensures opens { OnOk result (open_fault header (arc_value calls).items ≡ None) }
+        ensures refused { IfErr result (IsOpenRefusal header (arc_value calls).items) }
+    {
+        let count = calls.len();
+        match open_parts(alloc, base, header, calls) {
+            Ok((journal, held)) => match empty_places(alloc, count) {
+                Ok(attempts) => Ok(Store {
+                    journal,
+                    held,
+                    attempts,
+                }),
+                Err(_) => Err(Failure::Memory),
+            },
+            Err(refused) => Err(refused),
+        }
+    }
+
     /// A call begins, at the next timestamp.
     pub fn begin(&mut self, number: u32) -> Result<Ticket, BeginError>
         ensures event { OnOk result (self.new ≡ record self.old { world = after_begin self.old.world number }) }

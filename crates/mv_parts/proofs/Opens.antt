@@ -1,7 +1,7 @@
 -- A journal of which no call has begun.
 use Rattle.std.proofs.Common.{◌≡◌, ℕ, ◌+◌, ◌<◌, ◌≤◌, nat_lt, zero, suc, Bool, true, false, if◌then◌else◌, ◌==◌, Option, None, Some, List, [], ◌∷◌, ◌++◌, length, refl, sym, ap, ◌∙◌, subst, arith, get_or, length-append, replicate}
 use Rattle.std.specs.Prelude.{set}
-use Rattle.std.proofs.lemmas.List.{get_or-set_same, get_or-set_other, length-set, get_or_append_left, get_or_push}
+use Rattle.std.proofs.lemmas.List.{get_or-set_same, get_or-set_other, length-set}
 use Rattle.mv_shards.proofs.Foreign.{beyond}
 use Rattle.avm_ledger.specs.declared.header.Header.{Header}
 use Rattle.avm_ledger.specs.Ledgers.{Ledger}
@@ -29,7 +29,7 @@ use Rattle.mv_shards.specs.Shards.{Shard}
 use Rattle.mv_parts.specs.declared.call_state.CallState.{CallState}
 use Rattle.mv_parts.specs.declared.call_state.CallState.TheVariants.{Idle}
 use Rattle.mv_parts.specs.Journals.{AreAllOver, IsKept, IsOver}
-use Rattle.mv_parts.specs.Opening.{AreFirstShards, first_places, first_places_from, first_shard, open_fault}
+use Rattle.mv_parts.specs.Opening.{first_places, first_places_from, first_shard, open_fault}
 
 pub index_within : (x : Item) → shard_of x < shard_count
 index_within item.NextApp = omega arith
@@ -46,10 +46,10 @@ place_in base index (suc count) (suc i) inside = place_in base (suc index) count
 pub place_first : (base : Ledger) (i : ℕ) → i < shard_count → get_or (first_places base) i None ≡ Some (first_shard base i)
 place_first base i inside = place_in base 0 shard_count i inside ∙ ap (λ n. Some (first_shard base n)) (omega arith)
 
-versions_first : (base : Ledger) (x : Item) → versions_for (first_places base) x ≡ first_version (at base x)
+pub versions_first : (base : Ledger) (x : Item) → versions_for (first_places base) x ≡ first_version (at base x)
 versions_first base x = ap (λ o. versions_or_none o x) (place_first base (shard_of x) (index_within x))
 
-no_marks : (base : Ledger) (x : Item) (version : ℕ) → marks_of (versions_for (first_places base)) x version ≡ 0
+pub no_marks : (base : Ledger) (x : Item) (version : ℕ) → marks_of (versions_for (first_places base)) x version ≡ 0
 no_marks base x version = ap (mark_in version) (versions_first base x) ∙ by (0 == version)
   where
     zero_of : ℕ
@@ -97,27 +97,6 @@ pub kept_opened : (base : Ledger) (header : Header) (calls : List CallData) (n :
     → n ≡ length calls → es ≡ [] → states ≡ replicate n Idle → live ≡ [] → index ≡ first_places base → IsKept base header calls 0 0 es states live index
 kept_opened base header calls n es states live index orderly opened count no_entries are_idle none_live no_index =
     rw (no_entries, are_idle, none_live, no_index, count) (kept_first base header calls orderly opened)
-
--- the first of the shards
-pub record AreShardsTo (base : Ledger) (count : ℕ) (shards : List Shard) : Type 0 where
-  pub are : length shards ≡ count
-  pub each : (i : ℕ) (d : Shard) → i < count → get_or shards i d ≡ first_shard base i
-
-pub no_shards : (base : Ledger) → AreShardsTo base 0 []
-no_shards base = record { are = refl; each = λ i d inside. absurd (omega (arith, inside)) }
-
-pub one_more_shard : (base : Ledger) (count : ℕ) (shards : List Shard) (s : Shard) → s ≡ first_shard base count → AreShardsTo base count shards → AreShardsTo base (count + 1) (shards ++ s ∷ [])
-one_more_shard base count shards s is k = record {
-  are = omega (arith, length-append shards (s ∷ []), k.are);
-  each = λ i d inside. by i d inside (i == count) (equals i count);
-}
-  where
-    by : (i : ℕ) (d : Shard) → i < count + 1 → (b : Bool) → Equals i count b → get_or (shards ++ s ∷ []) i d ≡ first_shard base i
-    by i d inside b (equal e) = get_or_push shards s d i (k.are ∙ sym e) ∙ is ∙ ap (first_shard base) (sym e)
-    by i d inside b (unequal e) = get_or_append_left shards (s ∷ []) d i (omega (arith, inside, e, k.are)) ∙ k.each i d (omega (arith, inside, e))
-
-pub are_first_shards : (base : Ledger) (count : ℕ) (shards : List Shard) → count ≡ shard_count → AreShardsTo base count shards → AreFirstShards base shards
-are_first_shards base count shards is k = record { count = k.are ∙ is; each = λ i d inside. k.each i d (subst (λ n. i < n) (sym is) inside) }
 
 -- the first places filled, the others free
 pub record ArePlacesTo (base : Ledger) (count : ℕ) (places : Places) : Type 0 where

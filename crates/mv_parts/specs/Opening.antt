@@ -32,8 +32,3 @@ first_places_from base index (suc count) = Some (first_shard base index) ∷ fir
 
 abbrev pub first_places : Ledger → Places
 first_places base = first_places_from base 0 shard_count
-
--- all shards, in the order of their indexes
-pub record AreFirstShards (base : Ledger) (shards : List Shard) : Type 0 where
-  pub count : length shards ≡ shard_count
-  pub each : (i : ℕ) (d : Shard) → i < shard_count → get_or shards i d ≡ first_shard base i

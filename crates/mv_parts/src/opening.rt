@@ -5,7 +5,7 @@ ghost use Rattle.std.specs.Arc.{arc_value};
 ghost use Rattle.avm_laws.specs.Orderly.{IsOrderly};
 ghost use Rattle.avm_replay.specs.Plain.{first_beyond};
 ghost use Rattle.mv_parts.specs.Journals.{first_journal};
-ghost use Rattle.mv_parts.specs.Opening.{AreFirstShards, IsOpenRefusal, first_places as first_held, open_fault};
+ghost use Rattle.mv_parts.specs.Opening.{IsOpenRefusal, first_places as first_held, open_fault};
 
 use crate::call_state::CallState;
 use crate::journal::Journal;
@@ -19,16 +19,16 @@ use std::collections::BTreeMap;
 use std::sync::Arc;
 use teal_value::Failure;
 
-/// A journal of which no call has begun, and all shards, in the order of their indexes, over one base.
+/// A journal of which no call has begun, and all shards, held together, over one base.
 pub fn open_parts(
     alloc: Global,
     base: Ledger,
     header: Header,
     calls: Arc<Vec<Call>>,
-) -> Result<(Journal, Vec<Shard>), OpenError>
+) -> Result<(Journal, Held), OpenError>
     requires { IsOrderly base }
     ensures journal { IfOk result (λ parts. parts.0 ≡ first_journal base header (arc_value calls).items) }
-    ensures shards { IfOk result (λ parts. AreFirstShards base parts.1.items) }
+    ensures shards { IfOk result (λ parts. parts.1 ≡ first_held base) }
     ensures opens { OnOk result (open_fault header (arc_value calls).items ≡ None) }
     ensures refused { IfErr result (IsOpenRefusal header (arc_value calls).items) }
 {
@@ -75,14 +75,14 @@ fn made_parts(
     base: Ledger,
     header: Header,
     calls: Arc<Vec<Call>>,
-) -> Result<(Journal, Vec<Shard>), AllocError>
+) -> Result<(Journal, Held), AllocError>
     requires orderly { IsOrderly base }
     requires opened { open_fault header (arc_value calls).items ≡ None }
     ensures journal { IfOk result (λ parts. parts.0 ≡ first_journal base header (arc_value calls).items) }
-    ensures shards { IfOk result (λ parts. AreFirstShards base parts.1.items) }
+    ensures shards { IfOk result (λ parts. parts.1 ≡ first_held base) }
 {
     let base = Arc::new(alloc, base)?;
-    let shards = first_shards(alloc, &base)?;
+    let shards = first_places(alloc, &base)?;
     let journal = first_journal(alloc, base, header, calls)?;
     Ok((journal, shards))
 }
@@ -113,17 +113,6 @@ fn first_journal(
         live: BTreeMap::new(alloc),
         index,
     })
-}
-
-/// All shards, in which nothing was read or written.
-fn first_shards(alloc: Global, base: &Arc<Ledger>) -> Result<Vec<Shard>, AllocError>
-    ensures { IfOk result (λ shards. AreFirstShards (arc_value base.now) shards.items) }
-{
-    let mut shards = Vec::with_capacity(alloc, SHARD_COUNT)?;
-    for index in 0..SHARD_COUNT {
-        shards.push(Shard::new(alloc, index as u8, Arc::try_clone(base)?))?;
-    }
-    Ok(shards)
 }
 
 /// All shards held together, in which nothing was read or written.
