@@ -7,10 +7,7 @@ use mv_shards::Attempt;
 use std::alloc::{AllocError, Global};
 
 /// So many places without an attempt.
-pub(crate) fn empty_places(
-    alloc: Global,
-    count: usize,
-) -> Result<Vec<Option<Attempt>>, AllocError>
+pub(crate) fn empty_places(alloc: Global, count: usize) -> Result<Vec<Option<Attempt>>, AllocError>
     ensures { IfOk result (λ places. AreEmpty count places.items) }
 {
     let mut places = Vec::with_capacity(alloc, count)?;
