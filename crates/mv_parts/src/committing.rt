@@ -45,7 +45,7 @@ pub(crate) fn entry_of(attempt: Attempt, finished: Finished) -> Entry
     Entry {
         timestamp: attempt.timestamp(),
         number: attempt.number(),
-        outcome: avm_call::Outcome::Approved,
+        outcome: finished.outcome(),
         reads: attempt.into_reads(),
         writes: finished.into_writes(),
     }

@@ -224,8 +224,10 @@ fn reads_next_id(store: &mut Store, ticket: &Ticket) -> bool {
 
 // Whether a ticket is of no live attempt.
 fn is_forged(store: &mut Store, ticket: &Ticket) -> bool {
-    matches!(store.read(ticket, Item::NextApp), Err(Failure::Fault(ReadFault::Unknown)))
-        && store.abandon(ticket).is_err()
+    matches!(
+        store.read(ticket, Item::NextApp),
+        Err(Failure::Fault(ReadFault::Unknown))
+    ) && store.abandon(ticket).is_err()
 }
 
 // A call of a store begins, reads, and is abandoned; other tickets are of no attempt, and pruned states are gone.
@@ -252,7 +254,12 @@ fn a_store_knows_its_tickets(rt: HostRuntime) -> Result<(), Fail> {
     assert!(rt; is_forged(&mut store, &ticket));
     store.prune(1);
     assert!(rt; store.low() == 1);
-    assert!(rt; matches!(store.state_at(alloc, 0), Err(Failure::Fault(StateFault::Pruned))));
+    assert!(rt;
+        matches!(
+            store.state_at(alloc, 0),
+            Err(Failure::Fault(StateFault::Pruned))
+        )
+    );
     match store.state_at(alloc, 1) {
         Ok(ledger) => {
             assert!(rt; ledger.next_id() == 1);
