@@ -1,6 +1,7 @@
 pub mod Questions
 pub mod Counting
 pub mod Puts
+pub mod SameItems
 pub mod Orders
 pub mod PutBack
 pub mod Passes

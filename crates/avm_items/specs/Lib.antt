@@ -1,5 +1,6 @@
 pub mod CallFields
 pub mod Items
+pub mod SameCalls
 pub mod SameValues
 pub mod Asks
 pub mod Acts

@@ -1,6 +1,7 @@
 //! The fields of an application call.
 
-ghost use Rattle.std.specs.Prelude.{◌≡◌};
+ghost use Rattle.std.specs.Prelude.{◌≡◌, ◌↔◌, IsTrue};
+ghost use Rattle.avm_items.specs.SameCalls.{HasSameLists, HasSameTarget, HasSameTerms};
 
 use avm_ledger::Schema;
 use std::marker::Model;
@@ -74,4 +75,82 @@ pub struct CallData {
     pub clear: ByteString,
     pub global_schema: Schema,
     pub local_schema: Schema,
+}
+
+impl CallData {
+    /// Whether two calls have the same fields. Nothing is copied.
+    pub fn is_same(&self, other: &CallData) -> bool
+        ensures { IsTrue result ↔ (self.now ≡ other.now) }
+    {
+        if !self.has_same_terms(other) || !self.has_same_target(other) {
+            return false;
+        }
+        self.has_same_lists(other) && self.has_same_programs(other)
+    }
+
+    /// Whether sender, fee, rounds, lease and new authority are the same.
+    fn has_same_terms(&self, other: &CallData) -> bool
+        ensures { IsTrue result ↔ HasSameTerms self.now other.now }
+    {
+        if self.sender != other.sender || self.rekey_to != other.rekey_to {
+            return false;
+        }
+        if self.fee != other.fee || self.first_valid != other.first_valid {
+            return false;
+        }
+        self.last_valid == other.last_valid && self.lease == other.lease
+    }
+
+    /// Whether application, completion and schemas are the same.
+    fn has_same_target(&self, other: &CallData) -> bool
+        ensures { IsTrue result ↔ HasSameTarget self.now other.now }
+    {
+        if self.application != other.application || self.completion != other.completion {
+            return false;
+        }
+        self.global_schema == other.global_schema && self.local_schema == other.local_schema
+    }
+
+    /// Whether the note and the lists are the same.
+    fn has_same_lists(&self, other: &CallData) -> bool
+        ensures { IsTrue result ↔ HasSameLists self.now other.now }
+    {
+        if self.note.as_slice() != other.note.as_slice()
+            || !are_same_strings(self.arguments.as_slice(), other.arguments.as_slice())
+        {
+            return false;
+        }
+        are_same_accounts(self.accounts.as_slice(), other.accounts.as_slice())
+            && self.foreign_applications.as_slice() == other.foreign_applications.as_slice()
+    }
+
+    /// Whether the programs that they bring are the same.
+    fn has_same_programs(&self, other: &CallData) -> bool
+        ensures { IsTrue result ↔ ((self.now.approval ≡ other.now.approval) × (self.now.clear ≡ other.now.clear)) }
+    {
+        self.approval.as_slice() == other.approval.as_slice()
+            && self.clear.as_slice() == other.clear.as_slice()
+    }
+}
+
+/// Whether two lists of accounts are the same.
+fn are_same_accounts(accounts: &[Address], others: &[Address]) -> bool
+    ensures { IsTrue result ↔ (accounts.now ≡ others.now) }
+{
+    accounts == others
+}
+
+/// Whether two lists of byte strings are the same.
+fn are_same_strings(strings: &[ByteString], others: &[ByteString]) -> bool
+    ensures { IsTrue result ↔ (strings.now ≡ others.now) }
+{
+    if strings.len() != others.len() {
+        return false;
+    }
+    for index in 0..strings.len() {
+        if strings[index].as_slice() != others[index].as_slice() {
+            return false;
+        }
+    }
+    true
 }

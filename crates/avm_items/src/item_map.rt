@@ -1,6 +1,6 @@
 //! Maps from items to their values.
 
-ghost use Rattle.std.specs.Prelude.{◌≡◌, [], IfErr, IfOk, filter, is_some, length, not};
+ghost use Rattle.std.specs.Prelude.{◌≡◌, ◌↔◌, [], IfErr, IfOk, IsTrue, filter, is_some, length, not};
 ghost use Rattle.std.specs.Map.Iter.{GivesInOrder, ShowsInOrder, deref_pair};
 ghost use Rattle.std.specs.Option.{option_copied};
 ghost use Rattle.avm_items.specs.declared.item.Item.{Item as ItemOf};
@@ -15,6 +15,7 @@ use crate::item_value::ItemValue;
 use crate::ledger_items::is_value_in;
 use avm_ledger::Ledger;
 use std::alloc::{AllocError, Global};
+use std::cmp::Ordering;
 use std::collections::BTreeMap;
 use std::collections::btree_map::{IntoIter, Iter};
 use std::marker::Model;
@@ -83,6 +84,24 @@ impl ItemMap {
         self.values.into_iter()
     }
 
+    /// Whether these are the same items with the same values. Nothing is copied.
+    pub fn is_same(&self, other: &ItemMap) -> bool
+        ensures { IsTrue result ↔ (self.now ≡ other.now) }
+    {
+        let mut others = other.values.iter();
+        for (item, value) in self.values.iter() {
+            match others.next() {
+                Some((other_item, other_value)) => {
+                    if !is_same_entry(item, value, other_item, other_value) {
+                        return false;
+                    }
+                }
+                None => return false,
+            }
+        }
+        others.next().is_none()
+    }
+
     /// Takes the items out whose values are those of before; what has no value in `before` was absent.
     pub fn prune(&mut self, before: &ItemMap)
         ensures { self.new ≡ pruned (value_before (value_in before.now)) self.old }
@@ -145,5 +164,23 @@ impl ItemMap {
             return;
         };
         found.remove_entry(key);
+    }
+}
+
+/// Whether an item with its value is the same as another.
+fn is_same_entry(item: &Item, value: &ItemValue, other_item: &Item, other_value: &ItemValue) -> bool
+    ensures { IsTrue result ↔ ((item.now ≡ other_item.now) × (value.now ≡ other_value.now)) }
+{
+    is_same_item(item, other_item) && value.is_same(other_value)
+}
+
+/// Whether two items are the same.
+#[tactic(auto, using(crate::proofs::Puts::item_same, crate::proofs::SameItems::item_ties))]
+fn is_same_item(item: &Item, other: &Item) -> bool
+    ensures { IsTrue result ↔ (item.now ≡ other.now) }
+{
+    match item.cmp(other) {
+        Ordering::Equal => true,
+        Ordering::Less | Ordering::Greater => false,
     }
 }

@@ -36,7 +36,7 @@ pub fn item_of(ledger: &Ledger, item: &Item) -> Result<ItemValue, AllocError>
 }
 
 /// Whether an item has this value in a ledger. Nothing is copied.
-pub(crate) fn is_value_in(ledger: &Ledger, item: &Item, value: &ItemValue) -> bool
+pub fn is_value_in(ledger: &Ledger, item: &Item, value: &ItemValue) -> bool
     ensures { result ≡ is_same_value (at ledger.now item.now) value.now }
 {
     match item {

@@ -22,5 +22,5 @@ pub use env::Env;
 pub use item::Item;
 pub use item_map::ItemMap;
 pub use item_value::ItemValue;
-pub use ledger_items::item_of;
+pub use ledger_items::{is_value_in, item_of};
 pub use writing::put_items;

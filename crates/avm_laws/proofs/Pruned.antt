@@ -60,7 +60,7 @@ application_itself a =
     let q = (bytes_eq-Decides a.clear a.clear).1 refl in
     λ i. creator i && p i && q i && schema_itself a.global_schema i && schema_itself a.local_schema i
 
-same_value : (u v : ItemValue) → is_same_value u v ≡ true → u ≡ v
+pub same_value : (u v : ItemValue) → is_same_value u v ≡ true → u ≡ v
 same_value value.Absent value.Absent e = refl
 same_value (value.NextApp n) (value.NextApp m) e = ap value.NextApp (eqb-true n m e)
 same_value (value.App a) (value.App b) e = ap value.App (same_application a b e)

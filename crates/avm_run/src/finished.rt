@@ -83,6 +83,13 @@ impl Finished {
         &self.writes
     }
 
+    /// The items that it writes, without a copy.
+    pub fn into_writes(self) -> ItemMap
+        ensures { result ≡ self.writes }
+    {
+        self.writes
+    }
+
     /// How the call ended.
     pub fn outcome(&self) -> Outcome
         ensures { result ≡ self.now.outcome }

@@ -4,9 +4,11 @@ pub mod FirstReads
 pub mod Places
 pub mod Steps
 pub mod Rooms
+pub mod ByLookup
 pub mod Writes
 pub mod AfterRoom
 pub mod SeenWrites
 pub mod PartReads
 pub mod Prunes
 pub mod SeenPrunes
+pub mod Foreign

@@ -25,7 +25,7 @@ chain_goes_back p x c t k low found =
     let old : oldest_timestamp c.list ≤ p.low = subst (λ vs. oldest_timestamp vs ≤ p.low) (ap (list_or (at (arc_value p.base) x)) (sym found)) (k.chains.old_enough x) in
     omega (arith, old, low)
 
-newest_first : (t : ℕ) (v : ItemValue) (d : Version ItemValue) → newest_at t (first_version v) d ≡ record { timestamp = 0; mark = 0; value = v }
+pub newest_first : (t : ℕ) (v : ItemValue) (d : Version ItemValue) → newest_at t (first_version v) d ≡ record { timestamp = 0; mark = 0; value = v }
 newest_first t v d = rw (le-leb 0 t (omega arith)) refl
 
 pub first_not_late : (t : ℕ) (v : ItemValue) (d : Version ItemValue) → None ≡ lateness t (newest_at t (first_version v) d)

@@ -1,4 +1,5 @@
 -- What a commit writes in parts, as a change of what is seen of them.
+use Rattle.std.specs.Prelude.{◌==◌, if◌then◌else◌}
 use Rattle.std.proofs.Common.{◌≡◌, ◌≢◌, ◌≤◌, ◌<◌, ℕ, zero, suc, List, [], ◌∷◌, length, Option, None, Some, get_or, refl, sym, ap, ◌∙◌, subst, arith}
 use Rattle.std.specs.Prelude.{IsSome}
 use Rattle.std.specs.Arc.{arc_value}
@@ -11,7 +12,7 @@ use Rattle.mv_shards.specs.declared.part.Part.{Part}
 use Rattle.mv_shards.specs.Indexes.{shard_count, shard_of}
 use Rattle.mv_shards.specs.Chains.{AreChains, ChainMap, touched, versions_of}
 use Rattle.mv_shards.specs.Helds.{AreAtPlaces, AreHeld, IsAt, IsHeld, IsHeldIn, seen_all, seen_or_none}
-use Rattle.mv_shards.specs.Writing.{AreAbsent, AreGrown, AreLow, AreWritten, AreWrittenParts, Frame, IsLowAt, IsWrittenPlace, Parts, chains_at, chains_for, chains_or, first_at, first_or, frame_or, versions_or_none, versions_written}
+use Rattle.mv_shards.specs.Writing.{AreAbsent, AreGrown, AreLow, AreWritten, AreWrittenParts, Frame, IsLowAt, IsWrittenPlace, Parts, chains_at, chains_for, chains_or, first_at, first_or, frame_or, committed_versions, versions_or_none}
 use Rattle.mv_shards.proofs.FirstReads.{versions_touched}
 use Rattle.mv_shards.proofs.Places.{seen_at}
 
@@ -132,7 +133,7 @@ grown_seen old new k g =
     (λ i. seen_at new i ∙ seen_alike i (get_or old i None) (get_or new i None) (g.frames i) (k.each i) (g.maps i).seen ∙ sym (seen_at old i))
 
 written_at : (i t : ℕ) (reads writes : ItemMap) (o p : Option Part) → frame_or p ≡ frame_or o → IsAt i o → IsAt i p
-    → ((x : Item) → versions_of (first_or o) (chains_or p) x ≡ versions_written i t reads writes (versions_of (first_or o) (chains_or o)) x) → IsWrittenPlace i t reads writes (seen_or_none o) (seen_or_none p)
+    → ((x : Item) → versions_of (first_or o) (chains_or p) x ≡ (if shard_of x == i then committed_versions t reads writes x (versions_of (first_or o) (chains_or o) x) else versions_of (first_or o) (chains_or o) x)) → IsWrittenPlace i t reads writes (seen_or_none o) (seen_or_none p)
 written_at i t reads writes None None same is after versions = tt
 written_at i t reads writes None (Some q) same is after versions = absurd cc
 written_at i t reads writes (Some p) None same is after versions = absurd cc
@@ -147,7 +148,7 @@ written_at i t reads writes (Some p) (Some q) same is after versions =
           versions_touched (at (arc_value q.base)) q.low q.chains.entries after.1.chains x
           ∙ ap (λ b. versions_of (at b) q.chains.entries x) base
           ∙ versions x
-          ∙ ap (λ all. versions_written i t reads writes all x) (λ j y. sym (versions_touched (at (arc_value p.base)) p.low p.chains.entries is.1.chains y) j);
+          ∙ ap (λ vs. if shard_of x == i then committed_versions t reads writes x vs else vs) (sym (versions_touched (at (arc_value p.base)) p.low p.chains.entries is.1.chains x));
     }
 
 pub written_seen : (t : ℕ) (reads writes : ItemMap) (old new : Parts) → AreAtPlaces old → AreAtPlaces new → AreWrittenParts t reads writes old new → AreWritten t reads writes (seen_all old) (seen_all new)

@@ -11,13 +11,14 @@ use Rattle.std.proofs.lemmas.List.{length-set}
 use Rattle.avm_ledger.proofs.Maps.{is_Equal}
 use Rattle.avm_items.specs.declared.item.Item.{Item}
 use Rattle.avm_items.specs.declared.item_value.ItemValue.{ItemValue}
-use Rattle.avm_items.specs.Items.{ItemMap, item_cmp}
+use Rattle.avm_items.specs.Items.{IsInItemOrder, ItemMap, item_cmp}
 use Rattle.avm_items.proofs.Puts.{item_same, item_total}
 use Rattle.mv_history.proofs.Lists.{Equals, equal, unequal, equals}
 use Rattle.mv_shards.specs.declared.part.Part.{Part}
 use Rattle.mv_shards.specs.Indexes.{shard_of}
 use Rattle.mv_shards.specs.Chains.{AreChains, ChainMap, HasPlace, IsInstalled, IsMarked, chain_in, one_marked, one_installed, versions_of}
 use Rattle.mv_shards.specs.Writing.{AreGrown, AreInstalledAt, AreMarkedAt, AreReady, AreWrittenParts, HasPlaceIn, IsInstalledItem, IsInstalledMap, IsMarkedItem, IsMarkedMap, IsReadableIn, Parts, chains_at, first_at, frame_at, frame_or, versions_installed, versions_marked}
+use Rattle.mv_shards.proofs.ByLookup.{written_by_lookup}
 use Rattle.mv_shards.proofs.Steps.{alike_at, related_at}
 
 -- ---- one item
@@ -178,12 +179,13 @@ unfolding IsStrictlySortedBy
 ready_by t parts [] order h = tt
 ready_by t parts (e ∷ es) order h = (h.0, all_apart e.0 es order.0, ready_by t parts es order.1 h.1)
 
-pub written : (t : ℕ) (reads writes : ItemMap) (old grown new later : Parts) → AreGrown old grown → AreMarkedAt t reads grown new → AreInstalledAt t writes new later → AreWrittenParts t reads writes old later
-written t reads writes old grown new later g m w = record {
+pub written : (t : ℕ) (reads writes : ItemMap) (old grown new later : Parts) → IsInItemOrder reads → IsInItemOrder writes → AreGrown old grown → AreMarkedAt t reads grown new → AreInstalledAt t writes new later → AreWrittenParts t reads writes old later
+written t reads writes old grown new later rising_reads rising_writes g m w = record {
   count = w.count ∙ m.count ∙ g.count;
   frames = λ i. w.frames i ∙ m.frames i ∙ g.frames i;
   versions = λ i x.
       w.versions i (first_at old i) x ∙ ap (λ all. versions_installed i t writes all x) (λ j y. m.versions i (first_at old i) y j)
-      ∙ ap (λ all. versions_installed i t writes (versions_marked i t reads all) x) (λ j y. (g.maps i).versions y j);
+      ∙ ap (λ all. versions_installed i t writes (versions_marked i t reads all) x) (λ j y. (g.maps i).versions y j)
+      ∙ written_by_lookup i t reads writes (versions_of (first_at old i) (chains_at old i)) x rising_reads rising_writes;
   kept = λ i low in_time k. w.kept i (first_at old i) low in_time (m.kept i (first_at old i) low ((g.maps i).kept low k));
 }

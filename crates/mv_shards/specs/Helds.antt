@@ -7,7 +7,7 @@ use Rattle.avm_items.specs.declared.item_value.ItemValue.{ItemValue}
 use Rattle.mv_shards.specs.declared.part.Part.{Part}
 use Rattle.mv_shards.specs.Attempts.{CallAttempt}
 use Rattle.mv_shards.specs.Indexes.{shard_count, shard_of}
-use Rattle.mv_shards.specs.Shards.{IsFirstRead, IsPart, IsPrunedShard, IsReadAgain, Shard, seen}
+use Rattle.mv_shards.specs.Shards.{IsFirstRead, IsPart, IsPruned, IsPrunedShard, IsReadAgain, Shard, seen}
 
 -- a place for each shard
 abbrev pub Places : Type 0
@@ -48,6 +48,14 @@ pub record IsHeldRead (old new : Places) (before after : CallAttempt) (x : Item)
   pub found : shard_for old x ≡ Some shard
   pub read : IsFirstRead shard read_shard before after x v ⊎ IsReadAgain shard read_shard before after x v
   pub others : new ≡ set old (shard_of x) (Some read_shard)
+
+-- the item's shard is held, and the item is asked for too late there
+abbrev pub IsPrunedIn : Option Shard → CallAttempt → Item → Type 0
+IsPrunedIn None a x = ⊥
+IsPrunedIn (Some s) a x = IsPruned s a x
+
+abbrev pub IsHeldPruned : Places → CallAttempt → Item → Type 0
+IsHeldPruned places a x = IsPrunedIn (shard_for places x) a x
 
 abbrev pub IsPrunedPlace : ℕ → Option Shard → Option Shard → Type 0
 IsPrunedPlace t (Some old) (Some new) = IsPrunedShard t old new

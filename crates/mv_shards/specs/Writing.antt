@@ -1,41 +1,33 @@
 -- What a commit changes in the shards that are held: the reads are marked first, and then the writes are versions.
 use Rattle.std.specs.Ordering.{is_eq}
 use Rattle.avm_items.specs.Items.{item_cmp}
-use Rattle.std.specs.Prelude.{◌≡◌, ◌≢◌, ℕ, ◌≤◌, ◌==◌, Bool, false, if◌then◌else◌, List, [], ◌∷◌, get_or, length, Option, None, Some}
+use Rattle.std.specs.Prelude.{◌≡◌, ◌≢◌, ℕ, ◌<◌, ◌≤◌, ◌==◌, ◌&&◌, ◌||◌, nat_lt, Bool, true, false, if◌then◌else◌, List, [], ◌∷◌, get_or, length, Option, None, Some}
 use Rattle.std.specs.Arc.{arc_value}
 use Rattle.std.specs.List.{AllByRecursion}
 use Rattle.avm_items.specs.declared.item.Item.{Item}
 use Rattle.avm_items.specs.declared.item_value.ItemValue.{ItemValue}
 use Rattle.avm_items.specs.declared.item_value.ItemValue.TheVariants.{Absent}
-use Rattle.avm_items.specs.Items.{ItemMap}
+use Rattle.avm_items.specs.Items.{ItemMap, value_in}
 use Rattle.avm_items.specs.LedgerItems.{at}
 use Rattle.avm_ledger.specs.Ledgers.{Ledger}
 use Rattle.mv_chain.specs.declared.Version.{Version}
+use Rattle.mv_agreement.specs.Stores.{marked_where, written_where}
 use Rattle.mv_shards.specs.declared.part.Part.{Part}
 use Rattle.mv_shards.specs.Indexes.{shard_of}
 use Rattle.mv_shards.specs.Chains.{AllVersions, AreChains, ChainMap, HasPlace, IsGrown, IsReadable, IsRoomier, chain_in, one_installed, one_marked, versions_of}
 use Rattle.mv_shards.specs.Shards.{Shard, versions_held}
-use Rattle.mv_shards.specs.Helds.{Places, shard_for}
+use Rattle.mv_shards.specs.Helds.{AreHeld, Places, shard_for}
 
--- the items of a shard among those read at a timestamp, one after another
-abbrev pub versions_marked : ℕ → ℕ → ItemMap → AllVersions ItemValue → AllVersions ItemValue
-versions_marked index t [] all = all
-versions_marked index t (e ∷ es) all = versions_marked index t es (if shard_of e.0 == index then one_marked t e.0 all else all)
+-- what a commit makes of an item's versions: marked where it read the item, and with one more where it wrote it
+abbrev pub committed_versions : ℕ → ItemMap → ItemMap → Item → List (Version ItemValue) → List (Version ItemValue)
+committed_versions t reads writes x vs = written_where (λ v. v) (value_in writes x) t (marked_where (value_in reads x) t vs)
 
--- the items of a shard among those written at a timestamp, one after another
-abbrev pub versions_installed : ℕ → ℕ → ItemMap → AllVersions ItemValue → AllVersions ItemValue
-versions_installed index t [] all = all
-versions_installed index t (e ∷ es) all = versions_installed index t es (if shard_of e.0 == index then one_installed t e.0 e.1 all else all)
-
-abbrev pub versions_written : ℕ → ℕ → ItemMap → ItemMap → AllVersions ItemValue → AllVersions ItemValue
-versions_written index t reads writes all = versions_installed index t writes (versions_marked index t reads all)
-
--- a shard after the reads and the writes of a commit
+-- a shard after the reads and the writes of a commit: its own items change, and no other does
 pub record IsWrittenShard (index t : ℕ) (reads writes : ItemMap) (old new : Shard) : Type 0 where
   pub index_stays : new.index ≡ old.index
   pub low_stays : new.low ≡ old.low
   pub base_stays : new.base ≡ old.base
-  pub versions : (x : Item) → versions_held new x ≡ versions_written index t reads writes (versions_held old) x
+  pub versions : (x : Item) → versions_held new x ≡ (if shard_of x == index then committed_versions t reads writes x (versions_held old x) else versions_held old x)
 
 abbrev pub IsWrittenPlace : ℕ → ℕ → ItemMap → ItemMap → Option Shard → Option Shard → Type 0
 IsWrittenPlace index t reads writes (Some old) (Some new) = IsWrittenShard index t reads writes old new
@@ -65,6 +57,44 @@ versions_for places x = versions_or_none (shard_for places x) x
 -- no item that is written has a version at a timestamp
 abbrev pub AreAbsent : ℕ → Places → ItemMap → Type 0
 AreAbsent t places writes = AllByRecursion (λ e. AllByRecursion (λ v. v.timestamp ≢ t) (versions_for places e.0)) writes
+
+-- The shards of all items that a commit at a timestamp reads or writes are held, none has a higher low mark, and none has a
+-- version at the timestamp of what it writes.
+pub record CanTake (t : ℕ) (places : Places) (reads writes : ItemMap) : Type 0 where
+  pub reads_held : AreHeld places reads
+  pub writes_held : AreHeld places writes
+  pub low : AreLow t places
+  pub absent : AreAbsent t places writes
+
+-- ---- where a commit can't write
+
+-- a version has the timestamp
+abbrev pub has_timestamp : ℕ → List (Version ItemValue) → Bool
+has_timestamp t [] = false
+has_timestamp t (v ∷ vs) = (v.timestamp == t) || has_timestamp t vs
+
+-- the shard of an index has a version at the timestamp, of one of its items that are written
+abbrev pub has_write_at : ℕ → ℕ → ItemMap → Shard → Bool
+has_write_at index t [] s = false
+has_write_at index t (e ∷ es) s = ((shard_of e.0 == index) && has_timestamp t (versions_held s e.0)) || has_write_at index t es s
+
+-- its low mark is above the timestamp, or it has such a version
+abbrev pub is_foreign : ℕ → ℕ → ItemMap → Option Shard → Bool
+is_foreign index t writes None = false
+is_foreign index t writes (Some s) = nat_lt t s.low || has_write_at index t writes s
+
+-- no shard is one below an index
+abbrev pub NoneForeignBelow : ℕ → ItemMap → ℕ → Places → Type 0
+NoneForeignBelow t writes index places = (i : ℕ) → i < index → is_foreign i t writes (get_or places i None) ≡ false
+
+-- no shard is one
+abbrev pub NoneForeign : ℕ → ItemMap → Places → Type 0
+NoneForeign t writes places = (i : ℕ) → is_foreign i t writes (get_or places i None) ≡ false
+
+-- the shard of the least index that is one
+pub record IsFirstForeign (t : ℕ) (writes : ItemMap) (index : ℕ) (places : Places) : Type 0 where
+  pub foreign : is_foreign index t writes (get_or places index None) ≡ true
+  pub first : NoneForeignBelow t writes index places
 
 -- ---- as they are kept
 
@@ -148,6 +178,19 @@ abbrev pub AreReady : ℕ → Parts → ItemMap → Type 0
 AreReady t parts [] = Unit {0}
 AreReady t parts (e ∷ es) = HasPlaceIn t parts e.0 × AllByRecursion (λ f. is_eq (item_cmp f.0 e.0) ≡ false) es × AreReady t parts es
 
+-- the items of a shard among those read at a timestamp, one after another
+abbrev pub versions_marked : ℕ → ℕ → ItemMap → AllVersions ItemValue → AllVersions ItemValue
+versions_marked index t [] all = all
+versions_marked index t (e ∷ es) all = versions_marked index t es (if shard_of e.0 == index then one_marked t e.0 all else all)
+
+-- the items of a shard among those written at a timestamp, one after another
+abbrev pub versions_installed : ℕ → ℕ → ItemMap → AllVersions ItemValue → AllVersions ItemValue
+versions_installed index t [] all = all
+versions_installed index t (e ∷ es) all = versions_installed index t es (if shard_of e.0 == index then one_installed t e.0 e.1 all else all)
+
+abbrev pub versions_written : ℕ → ℕ → ItemMap → ItemMap → AllVersions ItemValue → AllVersions ItemValue
+versions_written index t reads writes all = versions_installed index t writes (versions_marked index t reads all)
+
 pub record AreMarkedAt (t : ℕ) (reads : ItemMap) (old new : Parts) : Type 0 where
   pub count : length new ≡ length old
   pub frames : (i : ℕ) → frame_at new i ≡ frame_at old i
@@ -165,5 +208,6 @@ pub record AreInstalledAt (t : ℕ) (writes : ItemMap) (old new : Parts) : Type 
 pub record AreWrittenParts (t : ℕ) (reads writes : ItemMap) (old new : Parts) : Type 0 where
   pub count : length new ≡ length old
   pub frames : (i : ℕ) → frame_at new i ≡ frame_at old i
-  pub versions : (i : ℕ) (x : Item) → versions_of (first_at old i) (chains_at new i) x ≡ versions_written i t reads writes (versions_of (first_at old i) (chains_at old i)) x
+  pub versions : (i : ℕ) (x : Item) → versions_of (first_at old i) (chains_at new i) x
+      ≡ (if shard_of x == i then committed_versions t reads writes x (versions_of (first_at old i) (chains_at old i) x) else versions_of (first_at old i) (chains_at old i) x)
   pub kept : (i : ℕ) (low : ℕ) → low ≤ t → AreChains (first_at old i) low (chains_at old i) → AreChains (first_at old i) low (chains_at new i)

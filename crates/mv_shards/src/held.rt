@@ -5,13 +5,14 @@ ghost use Rattle.std.proofs.Common.{replicate};
 ghost use Rattle.teal_value.specs.declared.failure.Failure.TheVariants.{Fault};
 ghost use Rattle.mv_shards.specs.declared.read_fault.ReadFault.TheVariants.{Pruned};
 ghost use Rattle.mv_shards.specs.Indexes.{shard_count};
-ghost use Rattle.mv_shards.specs.Helds.{AreFree, AreFreeFrom, AreHeld, IsHeld, IsHeldRead, IsLastTaken, IsTakenFrom, ArePruned};
-ghost use Rattle.mv_shards.specs.Writing.{AreAbsent, AreLow, AreWritten, versions_for};
+ghost use Rattle.mv_shards.specs.Helds.{AreAtPlaces, AreFree, AreFreeFrom, AreHeld, IsHeld, IsHeldPruned, IsHeldRead, IsLastTaken, IsTakenFrom, ArePruned, seen_or_none};
+ghost use Rattle.avm_items.specs.SameValues.{is_same_value};
+ghost use Rattle.mv_shards.specs.Writing.{AreLow, AreWritten, CanTake, IsFirstForeign, NoneForeign, is_foreign, versions_for};
 ghost use Rattle.mv_chain.specs.Versions.{lateness, newest_at};
 
 use crate::attempt::Attempt;
 use crate::index::{SHARD_COUNT, shard_of};
-use crate::part::{has_version, late, prune, read};
+use crate::part::{has_value, late, prune, read, refuses};
 use crate::read_fault::ReadError;
 use crate::room::Parts;
 use crate::shard::Shard;
@@ -96,6 +97,7 @@ impl Held {
     pub fn read(&mut self, attempt: &mut Attempt, item: Item) -> Result<ItemValue, ReadError>
         requires { IsHeld self.old item }
         ensures ok { IfOk result (λ value. IsHeldRead self.old self.new attempt.old attempt.new item value) }
+        ensures pruned { IsErrOf result (Fault Pruned) ↔ IsHeldPruned self.old attempt.old item }
         ensures unchanged { OnErr result (self.new ≡ self.old) }
         ensures attempt { OnErr result (attempt.new ≡ attempt.old) }
     {
@@ -119,16 +121,30 @@ impl Held {
         }
     }
 
-    /// Whether an item has a version with a timestamp.
-    pub fn has_version(&self, item: &Item, timestamp: u64) -> bool
+    /// Whether the newest version of an item not above a timestamp has this value. Nothing is copied.
+    pub fn has_value(&self, item: &Item, timestamp: u64, value: &ItemValue) -> bool
         requires held { IsHeld self.now item.now }
         requires low { AreLow timestamp self.now }
-        ensures { (d : _) → result ≡ ((newest_at timestamp (versions_for self.now item.now) d).timestamp == timestamp) }
+        ensures { (d : _) → result ≡ is_same_value (newest_at timestamp (versions_for self.now item.now) d).value value.now }
     {
         match &self.parts[usize::from(shard_of(item))] {
-            Some(part) => has_version(part, item, timestamp),
+            Some(part) => has_value(part, item, timestamp, value),
             None => unreachable!(),
         }
+    }
+
+    /// The least index of a shard that can't take a commit's writes at a timestamp: its low mark is above it, or an item of it
+    /// that is written has a version there.
+    pub fn foreign(&self, writes: &ItemMap, timestamp: u64) -> Option<u8>
+        ensures some { IfSome result (λ index. IsFirstForeign timestamp writes.now index self.now) }
+        ensures none { IfNone result (NoneForeign timestamp writes.now self.now) }
+    {
+        for place in 0..SHARD_COUNT {
+            if refuses_at(&self.parts, place, writes, timestamp) {
+                return Some(place as u8);
+            }
+        }
+        None
     }
 
     /// Raises the low mark of each shard that is held and has a lower one, and drops the versions that no read from there
@@ -143,24 +159,42 @@ impl Held {
         }
     }
 
-    /// Marks what a commit at a timestamp has read, and adds a version of each item that it writes. All room is made
-    /// first: where memory is refused, nothing has changed.
-    pub fn write(
+    /// Marks what a commit at a timestamp has read, and adds a version of each item that it writes, here and in other shards.
+    /// All room is made first: where memory is refused, nothing has changed in either.
+    pub fn write_both(
         &mut self,
+        others: &mut Held,
         alloc: Global,
         reads: &ItemMap,
         writes: &ItemMap,
         timestamp: u64,
     ) -> Result<(), AllocError>
-        requires reads { AreHeld self.old reads.now }
-        requires writes { AreHeld self.old writes.now }
-        requires low { AreLow timestamp self.old }
-        requires absent { AreAbsent timestamp self.old writes.now }
+        requires held { CanTake timestamp self.old reads.now writes.now }
+        requires others { CanTake timestamp others.old reads.now writes.now }
         requires positive { 0 < timestamp }
-        ensures written { OnOk result (AreWritten timestamp reads.now writes.now self.old self.new) }
-        ensures unchanged { OnErr result (self.new ≡ self.old) }
+        ensures written { OnOk result (AreWritten timestamp reads.now writes.now self.old self.new × AreWritten timestamp reads.now writes.now others.old others.new) }
+        ensures unchanged { OnErr result ((self.new ≡ self.old) × (others.new ≡ others.old)) }
     {
-        write_parts(alloc, &mut self.parts, reads, writes, timestamp)
+        write_parts(
+            alloc,
+            &mut self.parts,
+            &mut others.parts,
+            reads,
+            writes,
+            timestamp,
+        )
+    }
+}
+
+/// Whether the part at a place, if there is one, can't take a commit's writes.
+fn refuses_at(parts: &Parts, place: usize, writes: &ItemMap, timestamp: u64) -> bool
+    requires places { AreAtPlaces parts.now }
+    requires within { place < shard_count }
+    ensures { result ≡ is_foreign place timestamp writes.now (seen_or_none (get_or parts.now place None)) }
+{
+    match &parts[place] {
+        Some(part) => refuses(part, writes, timestamp),
+        None => false,
     }
 }
 

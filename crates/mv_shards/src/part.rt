@@ -1,18 +1,22 @@
 //! A part of the items with their versions, as a shard keeps them.
 
-ghost use Rattle.std.specs.Prelude.{◌≡◌, ◌≤◌, ◌<◌, ◌⊎◌, ◌↔◌, ◌==◌, IfErr, IfOk, IsErrOf, IsSome, None, OnErr, OnOk};
+ghost use Rattle.std.specs.Prelude.{◌≡◌, ◌≤◌, ◌<◌, ◌⊎◌, ◌↔◌, ◌==◌, ◌&&◌, IfErr, IfOk, IsErrOf, IsSome, None, OnErr, OnOk, Some};
 ghost use Rattle.teal_value.specs.declared.failure.Failure.TheVariants.{Fault};
 ghost use Rattle.avm_items.specs.Items.{value_in};
 ghost use Rattle.avm_items.specs.LedgerItems.{at};
+ghost use Rattle.avm_items.specs.SameValues.{is_same_value};
 ghost use Rattle.mv_chain.specs.Versions.{lateness, newest_at, oldest_timestamp, versions_from};
 ghost use Rattle.mv_shards.specs.declared.read_fault.ReadFault.TheVariants.{Pruned};
 ghost use Rattle.mv_shards.specs.Chains.{AreChains, IsGrown, IsReadable, IsRoomier, chain_in, versions_of};
+ghost use Rattle.mv_shards.specs.Indexes.{shard_of as shard_index};
+ghost use Rattle.mv_shards.specs.Writing.{has_timestamp, is_foreign};
 ghost use Rattle.mv_shards.specs.Shards.{IsFirstRead, IsMarkedRead, IsPart, IsPruned, IsPrunedShard, IsReadAgain, seen, versions_held};
 
 use crate::attempt::Attempt;
 use crate::chains::{make_chain, mark};
+use crate::index::shard_of;
 use crate::read_fault::{ReadError, ReadFault};
-use avm_items::{Item, ItemValue, item_of};
+use avm_items::{Item, ItemMap, ItemValue, is_value_in, item_of};
 use avm_ledger::Ledger;
 use mv_chain::{Chain, Late};
 use std::alloc::{AllocError, Global};
@@ -122,12 +126,50 @@ pub(crate) fn late(part: &Part, item: &Item, timestamp: u64) -> Option<Late>
 pub(crate) fn has_version(part: &Part, item: &Item, timestamp: u64) -> bool
     requires part { IsPart part.now }
     requires low { part.now.low ≤ timestamp }
-    ensures { (d : _) → result ≡ ((newest_at timestamp (versions_held (seen part.now) item.now) d).timestamp == timestamp) }
+    ensures { result ≡ has_timestamp timestamp (versions_held (seen part.now) item.now) }
 {
     match part.chains.get(item) {
         Some(chain) => chain.timestamp_at(timestamp) == timestamp,
         None => timestamp == 0,
     }
+}
+
+/// Whether the newest version of an item not above a timestamp has this value. Nothing is copied.
+pub(crate) fn has_value(part: &Part, item: &Item, timestamp: u64, value: &ItemValue) -> bool
+    requires part { IsPart part.now }
+    requires low { part.now.low ≤ timestamp }
+    ensures { (d : _) → result ≡ is_same_value (newest_at timestamp (versions_held (seen part.now) item.now) d).value value.now }
+{
+    match part.chains.get(item) {
+        Some(chain) => chain.read_at(timestamp).is_same(value),
+        None => is_value_in(&part.base, item, value),
+    }
+}
+
+/// Whether an item is of this part, and has a version with a timestamp.
+fn has_own_version(part: &Part, item: &Item, timestamp: u64) -> bool
+    requires part { IsPart part.now }
+    requires low { part.now.low ≤ timestamp }
+    ensures { result ≡ ((shard_index item.now == part.now.index) && has_timestamp timestamp (versions_held (seen part.now) item.now)) }
+{
+    shard_of(item) == part.index && has_version(part, item, timestamp)
+}
+
+/// Whether a commit at a timestamp can't write here: the low mark is above it, or an item of this part that it writes has a
+/// version there.
+pub(crate) fn refuses(part: &Part, writes: &ItemMap, timestamp: u64) -> bool
+    requires { IsPart part.now }
+    ensures { result ≡ is_foreign part.now.index timestamp writes.now (Some (seen part.now)) }
+{
+    if timestamp < part.low {
+        return true;
+    }
+    for (item, _value) in writes.iter() {
+        if has_own_version(part, item, timestamp) {
+            return true;
+        }
+    }
+    false
 }
 
 /// Raises the low mark, and drops the versions that no read from there on can find.

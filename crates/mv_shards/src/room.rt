@@ -61,6 +61,7 @@ fn place_reads(parts: &mut Parts, reads: &ItemMap) -> Result<(), AllocError>
     ensures grown { AreGrown parts.old parts.new }
     ensures roomier { OnOk result (AreRoomier parts.old parts.new) }
     ensures there { OnOk result (AllByRecursion (λ e. IsSome (chain_in (chains_for parts.new e.0) e.0)) reads.now) }
+    ensures order { OnOk result (IsInItemOrder reads.now) }
 {
     for (item, _value) in reads.iter() {
         place_item(parts, item)?;
@@ -83,7 +84,7 @@ fn room_writes(parts: &mut Parts, writes: &ItemMap) -> Result<(), AllocError>
 }
 
 /// Copies of the writes, by rising item.
-fn copies_of(alloc: Global, writes: &ItemMap) -> Result<Vec<(Item, ItemValue)>, AllocError>
+fn copies_of(alloc: Global, writes: &ItemMap) -> Result<Copies, AllocError>
     ensures { IfOk result (λ copies. copies.items ≡ writes.now) }
 {
     let mut copies = Vec::with_capacity(alloc, writes.len())?;
@@ -100,16 +101,46 @@ pub(crate) fn make_room(
     parts: &mut Parts,
     reads: &ItemMap,
     writes: &ItemMap,
-) -> Result<Vec<(Item, ItemValue)>, AllocError>
+) -> Result<Copies, AllocError>
     requires reads { AllByRecursion (λ e. IsHeldIn parts.old e.0) reads.now }
     requires writes { AllByRecursion (λ e. IsHeldIn parts.old e.0) writes.now }
     ensures grown { AreGrown parts.old parts.new }
     ensures there { OnOk result (AllByRecursion (λ e. IsSome (chain_in (chains_for parts.new e.0) e.0)) reads.now) }
     ensures room { OnOk result (AllByRecursion (λ e. HasRoom (chains_for parts.new e.0) e.0) writes.now) }
     ensures copies { IfOk result (λ copies. copies.items ≡ writes.now) }
-    ensures order { OnOk result (IsInItemOrder writes.now) }
+    ensures order { OnOk result (IsInItemOrder reads.now × IsInItemOrder writes.now) }
 {
     place_reads(parts, reads)?;
     room_writes(parts, writes)?;
     copies_of(alloc, writes)
+}
+
+/// The writes of a commit, to be installed.
+pub(crate) type Copies = Vec<(Item, ItemValue)>;
+
+/// Makes room in two sets of parts, with copies of the writes for each.
+pub(crate) fn make_both(
+    alloc: Global,
+    parts: &mut Parts,
+    others: &mut Parts,
+    reads: &ItemMap,
+    writes: &ItemMap,
+) -> Result<(Copies, Copies), AllocError>
+    requires reads { AllByRecursion (λ e. IsHeldIn parts.old e.0) reads.now }
+    requires writes { AllByRecursion (λ e. IsHeldIn parts.old e.0) writes.now }
+    requires other_reads { AllByRecursion (λ e. IsHeldIn others.old e.0) reads.now }
+    requires other_writes { AllByRecursion (λ e. IsHeldIn others.old e.0) writes.now }
+    ensures grown { AreGrown parts.old parts.new × AreGrown others.old others.new }
+    ensures there { OnOk result (AllByRecursion (λ e. IsSome (chain_in (chains_for parts.new e.0) e.0)) reads.now × AllByRecursion (λ e. IsSome (chain_in (chains_for others.new e.0) e.0)) reads.now) }
+    ensures room { OnOk result (AllByRecursion (λ e. HasRoom (chains_for parts.new e.0) e.0) writes.now × AllByRecursion (λ e. HasRoom (chains_for others.new e.0) e.0) writes.now) }
+    ensures copies { IfOk result (λ copies. (copies.0.items ≡ writes.now) × (copies.1.items ≡ writes.now)) }
+    ensures order { OnOk result (IsInItemOrder reads.now × IsInItemOrder writes.now) }
+{
+    match make_room(alloc, parts, reads, writes) {
+        Ok(copies) => match make_room(alloc, others, reads, writes) {
+            Ok(other_copies) => Ok((copies, other_copies)),
+            Err(refused) => Err(refused),
+        },
+        Err(refused) => Err(refused),
+    }
 }

@@ -51,7 +51,8 @@ fn reads_find_the_newest_version_not_above_them(rt: HostRuntime) -> Result<(), F
     let alloc = rt.alloc();
     let mut held = first_held(alloc)?;
     let writes = next_id_is(alloc, 2)?;
-    held.write(alloc, &ItemMap::new(alloc), &writes, 5)?;
+    let mut others = first_held(alloc)?;
+    held.write_both(&mut others, alloc, &ItemMap::new(alloc), &writes, 5)?;
     for (timestamp, id) in READS {
         let found = next_id_at(alloc, &mut held, timestamp)?;
         assert!(rt; found == id);

@@ -9,7 +9,7 @@ ghost use Rattle.mv_shards.specs.Indexes.{shard_of as shard_index};
 
 use crate::chains::{install, mark};
 use crate::index::shard_of;
-use crate::room::{Parts, make_room};
+use crate::room::{Parts, make_both};
 use avm_items::{Item, ItemMap, ItemValue};
 use std::alloc::{AllocError, Global};
 
@@ -59,11 +59,12 @@ fn install_all(parts: &mut Parts, writes: Vec<(Item, ItemValue)>, timestamp: u64
     }
 }
 
-/// Marks what was read and adds what was written, in this order. Where memory is refused, nothing that is seen of the
-/// parts has changed.
+/// Marks what was read and adds what was written, in this order, in two sets of parts. Where memory is refused, nothing that
+/// is seen of either has changed.
 pub(crate) fn write_parts(
     alloc: Global,
     parts: &mut Parts,
+    others: &mut Parts,
     reads: &ItemMap,
     writes: &ItemMap,
     timestamp: u64,
@@ -72,14 +73,20 @@ pub(crate) fn write_parts(
     requires writes { AllByRecursion (λ e. IsHeldIn parts.old e.0) writes.now }
     requires chains { (i : _) → AreChains (first_at parts.old i) timestamp (chains_at parts.old i) }
     requires absent { AllByRecursion (λ e. AllByRecursion (λ v. v.timestamp ≢ timestamp) (versions_of (first_at parts.old (shard_index e.0)) (chains_for parts.old e.0) e.0)) writes.now }
+    requires other_reads { AllByRecursion (λ e. IsHeldIn others.old e.0) reads.now }
+    requires other_writes { AllByRecursion (λ e. IsHeldIn others.old e.0) writes.now }
+    requires other_chains { (i : _) → AreChains (first_at others.old i) timestamp (chains_at others.old i) }
+    requires other_absent { AllByRecursion (λ e. AllByRecursion (λ v. v.timestamp ≢ timestamp) (versions_of (first_at others.old (shard_index e.0)) (chains_for others.old e.0) e.0)) writes.now }
     requires positive { 0 < timestamp }
-    ensures written { OnOk result (AreWrittenParts timestamp reads.now writes.now parts.old parts.new) }
-    ensures grown { OnErr result (AreGrown parts.old parts.new) }
+    ensures written { OnOk result (AreWrittenParts timestamp reads.now writes.now parts.old parts.new × AreWrittenParts timestamp reads.now writes.now others.old others.new) }
+    ensures grown { OnErr result (AreGrown parts.old parts.new × AreGrown others.old others.new) }
 {
-    match make_room(alloc, parts, reads, writes) {
-        Ok(copies) => {
+    match make_both(alloc, parts, others, reads, writes) {
+        Ok((copies, other_copies)) => {
             mark_all(parts, reads, timestamp);
             install_all(parts, copies, timestamp);
+            mark_all(others, reads, timestamp);
+            install_all(others, other_copies, timestamp);
             Ok(())
         }
         Err(refused) => Err(refused),

@@ -1,0 +1,351 @@
+-- What each event makes of what a store keeps.
+use Rattle.std.proofs.Common.{◌≡◌, ◌≢◌, ℕ, zero, suc, ◌+◌, ◌-◌, ◌<◌, ◌≤◌, ◌==◌, ◌&&◌, min, max, Bool, true, false, nat_lt, if◌then◌else◌, List, [], ◌∷◌, ◌++◌, length, Option, None, Some, get_or, set, refl, sym, ap, ◌∙◌, subst, arith, inl, inr}
+use Rattle.std.specs.Prelude.{◌⊎◌}
+use Rattle.std.specs.List.{AllByRecursion, insert}
+use Rattle.std.proofs.lemmas.List.{length-set}
+use Rattle.avm_ledger.specs.declared.header.Header.{Header}
+use Rattle.avm_ledger.specs.Ledgers.{Ledger}
+use Rattle.avm_items.specs.declared.call_data.CallData.{CallData}
+use Rattle.avm_items.specs.declared.item.Item.{Item}
+use Rattle.avm_items.specs.declared.item_value.ItemValue.{ItemValue}
+use Rattle.avm_items.specs.Items.{with_item}
+use Rattle.avm_items.specs.LedgerItems.{at}
+use Rattle.avm_call.specs.declared.outcome.Outcome.{Outcome}
+use Rattle.avm_laws.specs.LedgerLooks.{IsOfLedger}
+use Rattle.mv_chain.specs.declared.Version.{Version}
+use Rattle.mv_chain.specs.Laws.{HasMarksFrom}
+use Rattle.mv_chain.specs.Versions.{IsChain, mark_in, newest_at, oldest_timestamp, versions_from, versions_read_at}
+use Rattle.mv_chain.proofs.Marks.{every_prune_keeps_marks_lem, every_read_raises_one_mark_lem}
+use Rattle.mv_history.specs.History.{commit_count, version_below}
+use Rattle.mv_history.specs.Schedule.{IsConsistent, IsConsistentWorld, IsSchedule}
+use Rattle.mv_history.specs.World.{IsLowerBound, KeepsNeededMarks, after_abandon, after_begin, after_prune, after_read, attempt_at, attempts_with_read, attempts_without, fresh_attempt, greatest_mark, live_count, low_after_prune, lowest_live}
+use Rattle.mv_history.proofs.Attempts.{all_without, found_attempt, lowest_live-at_most, pruned_below}
+use Rattle.mv_history.proofs.Events.{schedule_after_abandon, schedule_after_begin}
+use Rattle.mv_history.proofs.Lists.{Compared, less, not_less, compared, all_map, all_push}
+use Rattle.mv_history.proofs.SameWorlds.{version_below-monotone}
+use Rattle.mv_history.proofs.Worlds.{greatest_mark-push}
+use Rattle.mv_agreement.specs.Agreement.{HoldsVersions}
+use Rattle.mv_agreement.specs.Stores.{IsStore, KeepsMarksFrom, after_item_read, marks_of}
+use Rattle.mv_agreement.proofs.Stores.{every_prune_leaves_a_store_lem, every_read_leaves_a_store_lem}
+use Rattle.mv_calls.specs.CallHistory.{CallAttempt, CallWorld, meaning_of, same_item}
+use Rattle.mv_calls.proofs.SerialCalls.{items_have_an_equality}
+use Rattle.mv_shards.specs.Indexes.{shard_count, shard_of}
+use Rattle.mv_shards.specs.Chains.{with_versions}
+use Rattle.mv_shards.specs.Shards.{Shard, versions_held}
+use Rattle.mv_shards.specs.Shards as shard
+use Rattle.mv_shards.specs.Helds.{ArePruned, IsPrunedPlace, Places, shard_for}
+use Rattle.mv_shards.specs.Writing.{versions_for, versions_or_none}
+use Rattle.mv_running.specs.Running.{place_of}
+use Rattle.mv_running.proofs.Workers.{with_item-new}
+use Rattle.mv_core.specs.Places.{ArePlacesOf, IsLive, live_in}
+use Rattle.mv_core.specs.Stores.{CallSlots, IsFirstRead, IsKept, IsPrune, IsOver, IsReadAgain, marks_in, shown}
+use Rattle.mv_core.proofs.Attempts.{all_in, attempt_here, count_in, live_begun, live_ended, live_read, places_begun, places_ended, places_read}
+use Rattle.mv_core.proofs.Held.{IsRaisedPlace, marks_of_places, raised_place, same_place, shard_within, shards_after_read, versions_after_read}
+
+-- a read leaves one mark
+one_mark : {V : Type 0} (t n found g : ℕ) (vs : List (Version V)) → IsChain vs → oldest_timestamp vs ≤ t → ((d : Version V) → (newest_at t vs d).timestamp ≡ found) → g ≡ mark_in n vs
+    → mark_in n (versions_read_at t vs) ≡ (if found == n then max t g else g)
+one_mark t n found g [] chain old is same = absurd chain
+one_mark {V} t n found g (v ∷ vs) chain old is same =
+    every_read_raises_one_mark_lem V t n (v ∷ vs) v chain old ∙ ap (λ m. if m == n then max (mark_in n (v ∷ vs)) t else mark_in n (v ∷ vs)) (is v) ∙ by (found == n)
+  where
+    by : (b : Bool) → (if b then max (mark_in n (v ∷ vs)) t else mark_in n (v ∷ vs)) ≡ (if b then max t g else g)
+    by true = omega (arith, same)
+    by false = sym same
+
+lowest_in : (bound : ℕ) (slots : CallSlots) (live : List CallAttempt) → lowest_live bound (live_in slots live) ≡ lowest_live bound live
+lowest_in bound slots [] = refl
+lowest_in bound slots (a ∷ as') = ap (λ m. min a.timestamp m) (lowest_in bound slots as')
+
+set_same : {X : Type 0} (xs : List (Option X)) (i : ℕ) (x : X) → get_or xs i None ≡ Some x → set xs i (Some x) ≡ xs
+set_same [] i x found = refl
+set_same (o ∷ os) zero x found = ap (λ p. p ∷ os) (sym found)
+set_same (o ∷ os) (suc i) x found = ap (λ ps. o ∷ ps) (set_same os i x found)
+
+module _ (base : Ledger) (header : Header) (calls : List CallData) (w : CallWorld) (places : Places) (slots : CallSlots) (k : IsKept base header calls w places slots) where
+  -- the marks that are listed are the versions'
+  pub marks_are : (x : Item) (n : ℕ) → greatest_mark same_item (marks_in places) x n ≡ marks_of (versions_for places) x n
+  marks_are = marks_of_places places (λ x. (k.store.holds x).chain)
+
+  pub consistent_world : IsConsistentWorld same_item IsOfLedger (meaning_of header calls) (at base) (shown base header calls w places slots).world
+  consistent_world =
+      let same : greatest_mark same_item (marks_in places) ≡ marks_of (versions_for places) = λ i x n. marks_are x n i in
+      subst (λ mark. IsConsistent same_item IsOfLedger (meaning_of header calls) (at base) mark w.clock w.low w.entries (live_in slots w.live)) (sym same) k.store.consistent
+
+  pub once : (n : ℕ) → live_count n w.live ≤ 1
+  once n = omega (arith, k.store.consistent.schedule.once n, count_in slots n w.live)
+
+  -- ---- a call begins
+
+  pub kept_begun : (n : ℕ) → 0 < n → n ≤ length calls → commit_count n w.entries ≡ 0 → live_count n w.live ≡ 0
+      → IsKept base header calls (after_begin w n) places (set slots (n - 1) (Some (fresh_attempt n (w.clock + 1))))
+      × (shown base header calls (after_begin w n) places (set slots (n - 1) (Some (fresh_attempt n (w.clock + 1)))) ≡ record (shown base header calls w places slots) { world = after_begin (shown base header calls w places slots).world n })
+  kept_begun n above within uncommitted idle = (
+    record {
+      orderly = k.orderly;
+      store = record {
+        holds = k.store.holds;
+        consistent = record {
+          journal = k.store.consistent.journal;
+          schedule = subst (λ l. IsSchedule same_item (at base) (marks_of (versions_for places)) (w.clock + 1) w.low w.entries l) (sym live)
+              (schedule_after_begin same_item (at base) (marks_of (versions_for places)) w.clock w.low n w.entries (live_in slots w.live) uncommitted (count_in slots n w.live ∙ idle) k.store.consistent.schedule);
+        };
+      };
+      shards = k.shards;
+      are_calls = k.are_calls;
+      live_calls = all_push (λ (a : CallAttempt). (0 < a.number) × (a.number ≤ length calls)) w.live (fresh_attempt n (w.clock + 1)) k.live_calls (above, within);
+      count = length-set slots (n - 1) (Some (fresh_attempt n (w.clock + 1))) ∙ k.count;
+      attempts = places_begun slots w.live n (w.clock + 1) above inside fresh k.attempts;
+    },
+    ap (λ l. record { base = base; header = header; calls = calls; places = places; world = record { clock = w.clock + 1; low = w.low; entries = w.entries; marks = marks_in places; live = l } }) live,
+  )
+    where
+      inside : n - 1 < length slots
+      inside = omega (arith, k.count)
+
+      live : live_in (set slots (n - 1) (Some (fresh_attempt n (w.clock + 1)))) (w.live ++ fresh_attempt n (w.clock + 1) ∷ []) ≡ live_in slots w.live ++ fresh_attempt n (w.clock + 1) ∷ []
+      live = live_begun slots w.live n (w.clock + 1) above inside idle
+
+      past : AllByRecursion (λ (a : CallAttempt). (0 < a.timestamp) × (a.timestamp ≤ w.clock)) w.live
+      past = all_in (λ t. (0 < t) × (t ≤ w.clock)) slots w.live k.store.consistent.schedule.live_past
+
+      fresh : AllByRecursion (λ (a : CallAttempt). a.timestamp ≢ w.clock + 1) w.live
+      fresh = all_map (λ (a : CallAttempt). (0 < a.timestamp) × (a.timestamp ≤ w.clock)) _ w.live (λ a h same. omega (arith, h.1, same)) past
+
+  -- ---- an attempt is abandoned
+
+  pub kept_abandoned : (n t : ℕ) → 0 < n → n - 1 < length slots → IsLive w.live n t
+      → IsKept base header calls (after_abandon w t) places (set slots (n - 1) None)
+      × (shown base header calls (after_abandon w t) places (set slots (n - 1) None) ≡ record (shown base header calls w places slots) { world = after_abandon (shown base header calls w places slots).world t })
+  kept_abandoned n t above inside is_live = (
+    record {
+      orderly = k.orderly;
+      store = record {
+        holds = k.store.holds;
+        consistent = record {
+          journal = k.store.consistent.journal;
+          schedule = subst (λ l. IsSchedule same_item (at base) (marks_of (versions_for places)) w.clock w.low w.entries l) (sym live)
+              (schedule_after_abandon same_item (at base) (marks_of (versions_for places)) w.clock w.low t w.entries (live_in slots w.live) k.store.consistent.schedule);
+        };
+      };
+      shards = k.shards;
+      are_calls = k.are_calls;
+      live_calls = all_without (λ (a : CallAttempt). (0 < a.number) × (a.number ≤ length calls)) t w.live k.live_calls;
+      count = length-set slots (n - 1) None ∙ k.count;
+      attempts = places_ended slots w.live n t above inside is_live (once n) k.attempts;
+    },
+    ap (λ l. record { base = base; header = header; calls = calls; places = places; world = record { clock = w.clock; low = w.low; entries = w.entries; marks = marks_in places; live = l } }) live,
+  )
+    where
+      live : live_in (set slots (n - 1) None) (attempts_without t w.live) ≡ attempts_without t (live_in slots w.live)
+      live = live_ended slots w.live n t above is_live (once n)
+
+  -- ---- an item is read
+
+  module _ (n : ℕ) (before after : CallAttempt) (x : Item) (v : ItemValue) (s new : Shard) (above : 0 < n) (inside : n - 1 < length slots) (found : get_or slots (n - 1) None ≡ Some before) (here : shard_for places x ≡ Some s) where
+    is_here : (IsLive w.live n before.timestamp) × (before.number ≡ n) × (attempt_at before.timestamp (live_in slots w.live) ≡ Some before)
+    is_here = attempt_here slots w.live n before above inside found k.attempts
+
+    from : w.low ≤ before.timestamp
+    from = found_attempt (λ (a : CallAttempt). w.low ≤ a.timestamp) before.timestamp before (live_in slots w.live) is_here.2 k.store.consistent.schedule.low_live
+
+    abbrev new_places : Places
+    new_places = set places (shard_of x) (Some (record s { chains = with_versions s.chains x (versions_read_at before.timestamp (versions_held s x)) }))
+
+    abbrev new_slots : CallSlots
+    new_slots = set slots (n - 1) (Some after)
+
+    value_found : ((d : Version ItemValue) → v ≡ (newest_at before.timestamp (versions_held s x) d).value) → v ≡ (version_below same_item (at base) w.entries (suc before.timestamp) x).1
+    value_found is =
+        let d : Version ItemValue = record { timestamp = 0; mark = 0; value = v } in
+        is d ∙ ap (λ o. (newest_at before.timestamp (versions_or_none o x) d).value) (sym here) ∙ ((k.store.holds x).found before.timestamp d from).value
+
+    read_marks : (y : Item) (m : ℕ) → IsChain (versions_for new_places y)
+        → mark_in m (versions_for new_places y) ≡ greatest_mark same_item (marks_in places ++ record { item = x; version = (version_below same_item (at base) w.entries (suc before.timestamp) x).0; reader = before.timestamp } ∷ []) y m
+    read_marks y m chain =
+        ap (mark_in m) (versions_after_read places x before.timestamp s here y) ∙ by (same_item y x) refl
+        ∙ sym (greatest_mark-push same_item (record { item = x; version = (version_below same_item (at base) w.entries (suc before.timestamp) x).0; reader = before.timestamp }) (marks_in places) y m)
+      where
+        t : ℕ
+        t = before.timestamp
+
+        at_version : ℕ
+        at_version = (version_below same_item (at base) w.entries (suc t) x).0
+
+        by : (b : Bool) → same_item y x ≡ b
+            → mark_in m (if b then versions_read_at t (versions_for places x) else versions_for places y) ≡ (if b && (at_version == m) then max t (greatest_mark same_item (marks_in places) y m) else greatest_mark same_item (marks_in places) y m)
+        by true same =
+            one_mark t m at_version (greatest_mark same_item (marks_in places) y m) (versions_for places x) (k.store.holds x).chain (let old : oldest_timestamp (versions_for places x) ≤ w.low = (k.store.holds x).old_enough in omega (arith, old, from))
+            (λ d. ((k.store.holds x).found t d from).timestamp) (marks_are y m ∙ ap (λ z. mark_in m (versions_for places z)) (items_have_an_equality.exact y x same))
+        by false other = sym (marks_are y m)
+
+    pub kept_read : shard.IsFirstRead s new before after x v
+        → IsKept base header calls w (set places (shard_of x) (Some new)) new_slots × IsFirstRead (shown base header calls w places slots) (shown base header calls w (set places (shard_of x) (Some new)) new_slots) n before.timestamp x v
+    kept_read read = subst
+        (λ (c : Shard). IsKept base header calls w (set places (shard_of x) (Some c)) new_slots × IsFirstRead (shown base header calls w places slots) (shown base header calls w (set places (shard_of x) (Some c)) new_slots) n before.timestamp x v)
+        (sym read.marks) (kept, event)
+      where
+        value : v ≡ (version_below same_item (at base) w.entries (suc before.timestamp) x).1
+        value = value_found read.value
+
+        more : after ≡ record before { reads = insert before.reads (place_of before.reads x) (x, (version_below same_item (at base) w.entries (suc before.timestamp) x).1) }
+        more =
+            read.joins ∙ ap (λ rs. record before { reads = rs }) (with_item-new before.reads x v read.first)
+            ∙ ap (λ u. record before { reads = insert before.reads (place_of before.reads x) (x, u) }) value
+
+        live : live_in new_slots w.live ≡ attempts_with_read before.timestamp (place_of before.reads x) (x, (version_below same_item (at base) w.entries (suc before.timestamp) x).1) (live_in slots w.live)
+        live = live_read slots before after n before.timestamp (place_of before.reads x) (x, (version_below same_item (at base) w.entries (suc before.timestamp) x).1) w.live above inside found more is_here.0 (once n)
+
+        store : IsStore (λ value. value) same_item IsOfLedger (meaning_of header calls) (at base) w.low w.clock w.low w.entries (live_in new_slots w.live) (versions_for new_places)
+        store = subst (λ l. IsStore (λ value. value) same_item IsOfLedger (meaning_of header calls) (at base) w.low w.clock w.low w.entries l (versions_for new_places)) (sym live)
+            (every_read_leaves_a_store_lem Item ItemValue Outcome ItemValue IsOfLedger (λ value. value) same_item items_have_an_equality (meaning_of header calls) (at base) w.low w.clock w.low w.entries (live_in slots w.live)
+            (versions_for places) (versions_for new_places) k.store before.timestamp (place_of before.reads x) x before is_here.2 from (versions_after_read places x before.timestamp s here))
+
+        kept : IsKept base header calls w new_places new_slots
+        kept = record {
+          orderly = k.orderly;
+          store = store;
+          shards = shards_after_read places base w.low (shard_of x) s (record s { chains = with_versions s.chains x (versions_read_at before.timestamp (versions_held s x)) }) here refl refl refl k.shards;
+          are_calls = k.are_calls;
+          live_calls = k.live_calls;
+          count = length-set slots (n - 1) (Some after) ∙ k.count;
+          attempts = places_read slots before after n (place_of before.reads x) (x, (version_below same_item (at base) w.entries (suc before.timestamp) x).1) w.live above inside found more k.attempts;
+        }
+
+        event : IsFirstRead (shown base header calls w places slots) (shown base header calls w new_places new_slots) n before.timestamp x v
+        event = record {
+          attempt = before;
+          live = is_here.2;
+          number = is_here.1;
+          first = read.first;
+          value = value;
+          event = record {
+            clock = refl;
+            low = refl;
+            entries = refl;
+            live = live;
+            marks = λ y m counts. marks_of_places new_places (λ z. (store.holds z).chain) y m ∙ read_marks y m (store.holds y).chain;
+          };
+          versions = versions_after_read places x before.timestamp s here;
+          others = refl;
+        }
+
+    pub kept_again : shard.IsReadAgain s new before after x v
+        → IsKept base header calls w (set places (shard_of x) (Some new)) new_slots × IsReadAgain (shown base header calls w places slots) (shown base header calls w (set places (shard_of x) (Some new)) new_slots) n before.timestamp x v
+    kept_again read =
+        subst (λ ps. IsKept base header calls w ps new_slots × IsReadAgain (shown base header calls w places slots) (shown base header calls w ps new_slots) n before.timestamp x v) (sym same_places)
+        (subst (λ ss. IsKept base header calls w places ss × IsReadAgain (shown base header calls w places slots) (shown base header calls w places ss) n before.timestamp x v) (sym same_slots)
+        (k, record { attempt = before; live = is_here.2; number = is_here.1; known = read.known; unchanged = refl }))
+      where
+        same_places : set places (shard_of x) (Some new) ≡ places
+        same_places = ap (λ c. set places (shard_of x) (Some c)) read.shard ∙ set_same places (shard_of x) s here
+
+        same_slots : set slots (n - 1) (Some after) ≡ slots
+        same_slots = ap (λ a. set slots (n - 1) (Some a)) read.attempt ∙ set_same slots (n - 1) before found
+
+    -- a live attempt is never below the low mark of its item's shard
+    pub never_pruned : shard.IsPruned s before x → ⊥
+    never_pruned pruned = omega (arith, pruned.below, from, (subst (λ o. IsOver base w.low (shard_of x) o) here (k.shards (shard_of x) (shard_within x))).1)
+
+  -- ---- the low mark rises
+
+  module _ (t : ℕ) (new : Places) where
+    low_below : w.low ≤ low_after_prune w t
+    low_below = omega arith
+
+    past_clock : low_after_prune w t ≤ w.clock
+    past_clock = omega (arith, k.store.consistent.schedule.low_past, lowest_live-at_most (min t w.clock) w.live)
+
+    same_low : low_after_prune (shown base header calls w places slots).world t ≡ low_after_prune w t
+    same_low = ap (max w.low) (lowest_in (min t w.clock) slots w.live)
+
+    bound : IsLowerBound (low_after_prune w t) (live_in slots w.live)
+    bound = subst (λ h. IsLowerBound h (live_in slots w.live)) same_low (pruned_below w.low (min t w.clock) (live_in slots w.live) k.store.consistent.schedule.low_live)
+
+    -- what is seen, where the marks are kept that count
+    pruned_world : KeepsNeededMarks same_item (at base) (low_after_prune w t) w.entries (marks_in places) (marks_in new) → IsPrune (shown base header calls w places slots) (shown base header calls (record w { low = low_after_prune w t }) new slots) t
+    pruned_world needed = record {
+      event = ap (λ l. record { clock = w.clock; low = l; entries = w.entries; marks = marks_in new; live = live_in slots w.live }) (sym same_low);
+      marks = needed;
+      others = refl;
+    }
+
+    raised : w.low < low_after_prune w t → ArePruned (low_after_prune w t) places new
+        → IsKept base header calls (record w { low = low_after_prune w t }) new slots × IsPrune (shown base header calls w places slots) (shown base header calls (record w { low = low_after_prune w t }) new slots) t
+    raised below pruned = (
+      record { orderly = k.orderly; store = store.0; shards = λ i inside. (each i inside).over; are_calls = k.are_calls; live_calls = k.live_calls; count = k.count; attempts = k.attempts },
+      pruned_world (record { kept_or_dropped = kept_or_dropped; needed = needed }),
+    )
+      where
+        each : (i : ℕ) → i < shard_count → IsRaisedPlace (low_after_prune w t) i base (get_or places i None) (get_or new i None)
+        each i inside = raised_place (low_after_prune w t) w.low i base (get_or places i None) (get_or new i None) below (k.shards i inside) (pruned i)
+
+        versions : (x : Item) → versions_for new x ≡ versions_from (low_after_prune w t) (versions_for places x)
+        versions x = (each (shard_of x) (shard_within x)).versions x
+
+        store : IsStore (λ value. value) same_item IsOfLedger (meaning_of header calls) (at base) (low_after_prune w t) w.clock (low_after_prune w t) w.entries (live_in slots w.live) (versions_for new)
+            × KeepsMarksFrom same_item (at base) (low_after_prune w t) w.entries (versions_for places) (versions_for new)
+        store = every_prune_leaves_a_store_lem Item ItemValue Outcome ItemValue IsOfLedger (λ value. value) same_item (meaning_of header calls) (at base) w.low w.clock w.low w.entries (live_in slots w.live) (versions_for places) (versions_for new) k.store
+            (low_after_prune w t) low_below low_below past_clock bound versions
+
+        new_marks : (x : Item) (n : ℕ) → greatest_mark same_item (marks_in new) x n ≡ mark_in n (versions_for new x)
+        new_marks = marks_of_places new (λ x. (store.0.holds x).chain)
+
+        kept_or_dropped : (x : Item) (n : ℕ) → (greatest_mark same_item (marks_in new) x n ≡ greatest_mark same_item (marks_in places) x n) ⊎ (greatest_mark same_item (marks_in new) x n ≡ 0)
+        kept_or_dropped x n = at_version (nat_lt n (newest_at (low_after_prune w t) (versions_for places x) nothing).timestamp) (compared n (newest_at (low_after_prune w t) (versions_for places x) nothing).timestamp)
+          where
+            nothing : Version ItemValue
+            nothing = record { timestamp = 0; mark = 0; value = at base x }
+
+            from_list : HasMarksFrom (low_after_prune w t) (versions_for places x) nothing
+            from_list = every_prune_keeps_marks_lem ItemValue (low_after_prune w t) (versions_for places x) nothing (k.store.holds x).chain (omega (arith, (k.store.holds x).old_enough, low_below))
+
+            at_version : (b : Bool) → Compared n (newest_at (low_after_prune w t) (versions_for places x) nothing).timestamp b
+                → (greatest_mark same_item (marks_in new) x n ≡ greatest_mark same_item (marks_in places) x n) ⊎ (greatest_mark same_item (marks_in new) x n ≡ 0)
+            at_version b (less h) = inr (new_marks x n ∙ ap (mark_in n) (versions x) ∙ from_list.dropped n h)
+            at_version b (not_less h) = inl (new_marks x n ∙ ap (mark_in n) (versions x) ∙ from_list.kept n h ∙ sym (marks_are x n))
+
+        needed : (x : Item) (u : ℕ) → low_after_prune w t ≤ u
+            → greatest_mark same_item (marks_in new) x (version_below same_item (at base) w.entries (suc u) x).0 ≡ greatest_mark same_item (marks_in places) x (version_below same_item (at base) w.entries (suc u) x).0
+        needed x u above =
+            new_marks x (version_below same_item (at base) w.entries (suc u) x).0
+            ∙ store.1 x (version_below same_item (at base) w.entries (suc u) x).0 (version_below-monotone same_item (at base) (suc (low_after_prune w t)) (suc u) w.entries x (omega (arith, above)) k.store.consistent.journal.rising)
+            ∙ sym (marks_are x (version_below same_item (at base) w.entries (suc u) x).0)
+
+    -- a low mark that does not rise changes nothing
+    stays : low_after_prune w t ≡ w.low → ArePruned (low_after_prune w t) places new
+        → IsKept base header calls (record w { low = low_after_prune w t }) new slots × IsPrune (shown base header calls w places slots) (shown base header calls (record w { low = low_after_prune w t }) new slots) t
+    stays same pruned = (
+      subst (λ l. IsKept base header calls (record w { low = l }) new slots) (sym same)
+          (record {
+            orderly = k.orderly;
+            store = subst (λ all. IsStore (λ value. value) same_item IsOfLedger (meaning_of header calls) (at base) w.low w.clock w.low w.entries (live_in slots w.live) all) (sym all_same) k.store;
+            shards = λ i inside. subst (λ o. IsOver base w.low i o) (sym (each i inside)) (k.shards i inside);
+            are_calls = k.are_calls;
+            live_calls = k.live_calls;
+            count = k.count;
+            attempts = k.attempts;
+          }),
+      pruned_world (record { kept_or_dropped = λ x n. inl (same_marks x n); needed = λ x u above. same_marks x (version_below same_item (at base) w.entries (suc u) x).0 }),
+    )
+      where
+        each : (i : ℕ) → i < shard_count → get_or new i None ≡ get_or places i None
+        each i inside = same_place w.low i base (get_or places i None) (get_or new i None) (k.shards i inside) (subst (λ l. IsPrunedPlace l (get_or places i None) (get_or new i None)) same (pruned i))
+
+        versions : (x : Item) → versions_for new x ≡ versions_for places x
+        versions x = ap (λ o. versions_or_none o x) (each (shard_of x) (shard_within x))
+
+        all_same : versions_for new ≡ versions_for places
+        all_same = λ i x. versions x i
+
+        same_marks : (x : Item) (n : ℕ) → greatest_mark same_item (marks_in new) x n ≡ greatest_mark same_item (marks_in places) x n
+        same_marks x n = marks_of_places new (λ y. subst IsChain (sym (versions y)) (k.store.holds y).chain) x n ∙ ap (mark_in n) (versions x) ∙ sym (marks_are x n)
+
+    pub kept_pruned : ArePruned (low_after_prune w t) places new
+        → IsKept base header calls (record w { low = low_after_prune w t }) new slots × IsPrune (shown base header calls w places slots) (shown base header calls (record w { low = low_after_prune w t }) new slots) t
+    kept_pruned pruned = by (nat_lt w.low (low_after_prune w t)) (compared w.low (low_after_prune w t))
+      where
+        by : (b : Bool) → Compared w.low (low_after_prune w t) b
+            → IsKept base header calls (record w { low = low_after_prune w t }) new slots × IsPrune (shown base header calls w places slots) (shown base header calls (record w { low = low_after_prune w t }) new slots) t
+        by b (less h) = raised h pruned
+        by b (not_less h) = stays (omega (arith, h, low_below)) pruned

@@ -1,0 +1,126 @@
+-- The shards of a store: the marks of their versions, and their versions after a read and a prune.
+use Rattle.std.proofs.Common.{◌≡◌, ℕ, ◌+◌, zero, suc, ◌<◌, ◌≤◌, ◌==◌, Bool, true, false, cond, nat_lt, if◌then◌else◌, List, [], ◌∷◌, ◌++◌, Option, None, Some, get_or, set, refl, sym, ap, ◌∙◌, subst, arith, inl, inr}
+use Rattle.std.specs.Prelude.{◌%◌, ◌⊎◌, sum, slice_index_or}
+use Rattle.std.proofs.Math.Nat.{mod-lt}
+use Rattle.std.specs.Ordering.{is_eq}
+use Rattle.std.specs.Map.{keys_of, lookup}
+use Rattle.std.specs.BTreeMap.{is_at}
+use Rattle.std.proofs.lemmas.List.{get_or-set_other}
+use Rattle.avm_ledger.specs.Ledgers.{Ledger}
+use Rattle.avm_items.specs.declared.item.Item.{Item}
+use Rattle.avm_items.specs.declared.item.Item.TheVariants.{NextApp, App, Counts, Key, Local}
+use Rattle.avm_items.specs.declared.item_value.ItemValue.{ItemValue}
+use Rattle.avm_items.specs.Items.{item_cmp}
+use Rattle.avm_items.specs.LedgerItems.{at}
+use Rattle.mv_chain.specs.declared.Version.{Version}
+use Rattle.mv_chain.specs.Versions.{IsChain, mark_in, versions_from, versions_read_at}
+use Rattle.mv_history.specs.World.{greatest_mark}
+use Rattle.mv_history.proofs.Lists.{Compared, less, not_less, compared, Equals, equal, unequal, equals}
+use Rattle.mv_agreement.specs.Stores.{after_item_read}
+use Rattle.mv_calls.specs.CallHistory.{same_item}
+use Rattle.mv_calls.proofs.SerialCalls.{items_have_an_equality}
+use Rattle.mv_shards.specs.Chains.{VersionLists, versions_or, with_versions}
+use Rattle.mv_shards.specs.Indexes.{shard_count, shard_of}
+use Rattle.mv_shards.specs.Shards.{IsPrunedShard, Shard, versions_held}
+use Rattle.mv_shards.specs.Helds.{ArePruned, IsPrunedPlace, Places, shard_for}
+use Rattle.mv_shards.specs.Writing.{versions_for, versions_or_none}
+use Rattle.mv_shards.proofs.Steps.{set_here}
+use Rattle.mv_shards.proofs.Touched.{found_inserted}
+use Rattle.mv_core.specs.Stores.{AreAllOver, IsOver, items_in, items_or_none, marks_in}
+use Rattle.mv_core.proofs.MarkLists.{among_both, is_among, marks_listed}
+
+-- ---- marks
+
+no_list : (x : Item) (lists : VersionLists ItemValue) → is_among same_item x (keys_of lists) ≡ false → lookup (is_at (item_cmp x)) lists ≡ None
+no_list x [] h = refl
+no_list x (c ∷ cs) h = by (same_item x c.0) h (no_list x cs)
+  where
+    by : (b : Bool) → (if b then true else is_among same_item x (keys_of cs)) ≡ false → (is_among same_item x (keys_of cs) ≡ false → lookup (is_at (item_cmp x)) cs ≡ None) → cond b (Some c.1) (lookup (is_at (item_cmp x)) cs) ≡ None
+    by true never rest = absurd cc
+    by false h rest = rest h
+
+unmarked : (n : ℕ) (o : Option Shard) (x : Item) → is_among same_item x (items_or_none o) ≡ false → mark_in n (versions_or_none o x) ≡ 0
+unmarked n None x h = refl
+unmarked n (Some s) x h = ap (λ f. mark_in n (versions_or (at s.base x) f)) (no_list x s.chains h) ∙ by (0 == n)
+  where
+    by : (b : Bool) → ◌≡◌ {A = ℕ} (if b then 0 else 0) 0
+    by true = refl
+    by false = refl
+
+unlisted : (places : Places) (x : Item) (i : ℕ) → is_among same_item x (items_in places) ≡ false → is_among same_item x (items_or_none (get_or places i None)) ≡ false
+unlisted [] x i h = refl
+unlisted (o ∷ os) x zero h = (among_both same_item x (items_or_none o) (items_in os) h).0
+unlisted (o ∷ os) x (suc i) h = unlisted os x i (among_both same_item x (items_or_none o) (items_in os) h).1
+
+pub marks_of_places : (places : Places) → ((x : Item) → IsChain (versions_for places x)) → (x : Item) (n : ℕ) → greatest_mark same_item (marks_in places) x n ≡ mark_in n (versions_for places x)
+marks_of_places places chains = marks_listed same_item (versions_for places) items_have_an_equality.exact chains (items_in places) (λ x n h. unmarked n (shard_for places x) x (unlisted places x (shard_of x) h))
+
+-- ---- a read
+
+pub read_in : (s : Shard) (x : Item) (vs : List (Version ItemValue)) (y : Item) → versions_held (record s { chains = with_versions s.chains x vs }) y ≡ (if same_item y x then vs else versions_held s y)
+read_in s x vs y = ap (versions_or (at s.base y)) (found_inserted y x vs s.chains) ∙ by (same_item y x)
+  where
+    by : (b : Bool) → versions_or (at s.base y) (cond b (Some vs) (lookup (is_at (item_cmp y)) s.chains)) ≡ (if b then vs else versions_held s y)
+    by true = refl
+    by false = refl
+
+pub versions_after_read : (places : Places) (x : Item) (t : ℕ) (s : Shard) → shard_for places x ≡ Some s → (y : Item)
+    → versions_for (set places (shard_of x) (Some (record s { chains = with_versions s.chains x (versions_read_at t (versions_held s x)) }))) y ≡ after_item_read same_item t x (versions_for places) y
+versions_after_read places x t s here y = by (shard_of y == shard_of x) (equals (shard_of y) (shard_of x))
+  where
+    new : Shard
+    new = record s { chains = with_versions s.chains x (versions_read_at t (versions_held s x)) }
+
+    old_x : versions_for places x ≡ versions_held s x
+    old_x = ap (λ o. versions_or_none o x) here
+
+    by : (b : Bool) → Equals (shard_of y) (shard_of x) b → versions_for (set places (shard_of x) (Some new)) y ≡ (if same_item y x then versions_read_at t (versions_for places x) else versions_for places y)
+    by b (equal e) =
+        ap (λ i. versions_or_none (get_or (set places (shard_of x) (Some new)) i None) y) e ∙ ap (λ o. versions_or_none o y) (set_here places (shard_of x) s new here)
+        ∙ read_in s x (versions_read_at t (versions_held s x)) y
+        ∙ (λ i. if same_item y x then versions_read_at t (sym old_x i) else sym old_y i)
+      where
+        old_y : versions_for places y ≡ versions_held s y
+        old_y = ap (λ i. versions_or_none (get_or places i None) y) e ∙ ap (λ o. versions_or_none o y) here
+    by b (unequal e) = ap (λ o. versions_or_none o y) (get_or-set_other places (shard_of x) (shard_of y) (Some new) None e) ∙ apart (same_item y x) refl
+      where
+        apart : (c : Bool) → same_item y x ≡ c → versions_for places y ≡ (if c then versions_read_at t (versions_for places x) else versions_for places y)
+        apart true same = absurd (e (ap shard_of (items_have_an_equality.exact y x same)))
+        apart false other = refl
+
+-- each place has a shard over the base still
+pub shards_after_read : (places : Places) (base : Ledger) (low i : ℕ) (s new : Shard) → get_or places i None ≡ Some s → new.index ≡ s.index → new.low ≡ s.low → new.base ≡ s.base
+    → AreAllOver base low places → AreAllOver base low (set places i (Some new))
+shards_after_read places base low i s new here same_index same_low same_base k j within = by (j == i) (equals j i)
+  where
+    by : (b : Bool) → Equals j i b → IsOver base low j (get_or (set places i (Some new)) j None)
+    by b (equal e) =
+        subst (λ o. IsOver base low j o) (sym (ap (λ m. get_or (set places i (Some new)) m None) e ∙ set_here places i s new here))
+        (let was : IsOver base low j (Some s) = subst (λ o. IsOver base low j o) (ap (λ m. get_or places m None) e ∙ here) (k j within) in (same_index ∙ was.0, same_low ∙ was.1, same_base ∙ was.2))
+    by b (unequal e) = subst (λ o. IsOver base low j o) (sym (get_or-set_other places i j (Some new) None e)) (k j within)
+
+-- ---- a prune
+
+pub record IsRaisedPlace (higher i : ℕ) (base : Ledger) (old new : Option Shard) : Type 0 where
+  pub over : IsOver base higher i new
+  pub versions : (x : Item) → versions_or_none new x ≡ versions_from higher (versions_or_none old x)
+
+pub raised_place : (higher low i : ℕ) (base : Ledger) (old new : Option Shard) → low < higher → IsOver base low i old → IsPrunedPlace higher old new → IsRaisedPlace higher i base old new
+raised_place higher low i base None new below over pruned = absurd over
+raised_place higher low i base (Some s) None below over pruned = absurd pruned
+raised_place higher low i base (Some s) (Some n) below over pruned =
+    let raised = pruned.raised (subst (λ l. l < higher) (sym over.1) below) in
+    record { over = (raised.index ∙ over.0, raised.low, raised.base ∙ over.2); versions = raised.versions }
+
+pub same_place : (low i : ℕ) (base : Ledger) (old new : Option Shard) → IsOver base low i old → IsPrunedPlace low old new → new ≡ old
+same_place low i base None new over pruned = absurd over
+same_place low i base (Some s) None over pruned = absurd pruned
+same_place low i base (Some s) (Some n) over pruned = ap Some (pruned.stays (subst (λ l. low ≤ l) (sym over.1) (omega arith)))
+
+-- every item has a shard
+pub shard_within : (x : Item) → shard_of x < shard_count
+shard_within NextApp = omega arith
+shard_within (App id) = mod-lt id (omega arith)
+shard_within (Counts id) = mod-lt id (omega arith)
+shard_within (Key id key) = mod-lt (id + sum key) (omega arith)
+shard_within (Local who id) = mod-lt (id + slice_index_or who.0 31 0) (omega arith)

@@ -1,0 +1,47 @@
+-- A store in which nothing has begun keeps what a store keeps.
+use Rattle.std.proofs.Common.{◌≡◌, ℕ, zero, suc, ◌+◌, ◌<◌, List, [], ◌∷◌, ◌++◌, length, length-append, Option, None, Some, get_or, refl, sym, ap, ◌∙◌, subst, arith}
+use Rattle.avm_ledger.specs.declared.header.Header.{Header}
+use Rattle.avm_ledger.specs.Ledgers.{Ledger}
+use Rattle.avm_items.specs.declared.call_data.CallData.{CallData}
+use Rattle.avm_items.specs.declared.item.Item.{Item}
+use Rattle.avm_items.specs.declared.item_value.ItemValue.{ItemValue}
+use Rattle.avm_items.specs.LedgerItems.{at}
+use Rattle.avm_call.specs.declared.outcome.Outcome.{Outcome}
+use Rattle.avm_laws.specs.Orderly.{IsOrderly}
+use Rattle.mv_history.specs.World.{first_world}
+use Rattle.mv_history.proofs.Events.{schedule_first}
+use Rattle.mv_agreement.specs.Agreement.{HoldsVersions}
+use Rattle.mv_agreement.specs.Stores.{marks_of}
+use Rattle.mv_agreement.proofs.Agreements.{every_first_version_agrees_lem}
+use Rattle.mv_calls.specs.CallHistory.{CallAttempt, same_item}
+use Rattle.mv_shards.specs.Writing.{versions_for}
+use Rattle.mv_parts.specs.Opening.{first_places}
+use Rattle.mv_parts.proofs.Opens.{no_marks, place_first, versions_first}
+use Rattle.mv_core.specs.Places.{AreEmpty, IsPlaceOf}
+use Rattle.mv_core.specs.Stores.{CallSlots, IsKept, IsOver}
+
+pub none_empty : AreEmpty {Item = Item} {Value = ItemValue} 0 []
+none_empty = record { are = refl; each = λ i. refl }
+
+still_empty : (xs : List (Option CallAttempt)) → ((i : ℕ) → get_or xs i None ≡ None) → (i : ℕ) → get_or (xs ++ None ∷ []) i None ≡ None
+still_empty [] h zero = refl
+still_empty [] h (suc i) = refl
+still_empty (x ∷ xs) h zero = h zero
+still_empty (x ∷ xs) h (suc i) = still_empty xs (λ k. h (suc k)) i
+
+pub one_more_empty : (n : ℕ) (xs : List (Option CallAttempt)) → AreEmpty n xs → AreEmpty (n + 1) (xs ++ None ∷ [])
+one_more_empty n xs k = record { are = omega (arith, length-append xs (None ∷ []), k.are); each = still_empty xs k.each }
+
+pub kept_first : (base : Ledger) (header : Header) (calls : List CallData) (slots : CallSlots) → IsOrderly base → AreEmpty (length calls) slots → IsKept base header calls first_world (first_places base) slots
+kept_first base header calls slots orderly empty = record {
+  orderly = orderly;
+  store = record {
+    holds = λ x. subst (HoldsVersions {Outcome = Outcome} (λ value. value) same_item (at base) 0 [] x) (sym (versions_first base x)) (every_first_version_agrees_lem Item ItemValue Outcome ItemValue (λ value. value) same_item (at base) 0 0 x);
+    consistent = record { journal = record { rising = tt; finished = tt; agree = tt }; schedule = schedule_first same_item (at base) (marks_of (versions_for (first_places base))) (no_marks base) };
+  };
+  shards = λ i within. subst (IsOver base 0 i) (sym (place_first base i within)) (refl, refl, refl);
+  are_calls = tt;
+  live_calls = tt;
+  count = empty.are;
+  attempts = λ i within. subst (IsPlaceOf [] (i + 1)) (sym (empty.each i)) refl;
+}

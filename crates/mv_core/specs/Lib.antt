@@ -1,0 +1,5 @@
+pub mod Places
+pub mod Marks
+pub mod Stores
+pub mod Laws
+pub mod Calls

@@ -1,0 +1,130 @@
+-- The store: what is seen of it, what it keeps, and what its calls do.
+use Rattle.std.specs.Prelude.{◌≡◌, ℕ, suc, ◌+◌, ◌<◌, ◌≤◌, ◌⊎◌, List, [], ◌∷◌, ◌++◌, length, get_or, set, Option, None, Some}
+use Rattle.std.specs.Map.{keys_of}
+use Rattle.std.specs.List.{AllByRecursion}
+use Rattle.avm_ledger.specs.declared.header.Header.{Header}
+use Rattle.avm_ledger.specs.Ledgers.{Ledger}
+use Rattle.avm_items.specs.declared.call_data.CallData.{CallData}
+use Rattle.avm_items.specs.declared.item.Item.{Item}
+use Rattle.avm_items.specs.declared.item_value.ItemValue.{ItemValue}
+use Rattle.avm_items.specs.Items.{value_in}
+use Rattle.avm_items.specs.LedgerItems.{at}
+use Rattle.avm_laws.specs.Orderly.{IsOrderly}
+use Rattle.avm_laws.specs.LedgerLooks.{IsOfLedger}
+use Rattle.mv_history.specs.History.{version_below}
+use Rattle.mv_history.specs.SameWorlds.{IsSameWorld}
+use Rattle.mv_history.specs.World.{Mark, KeepsNeededMarks, after_prune, after_read, attempt_at}
+use Rattle.mv_agreement.specs.Stores.{IsStore, after_item_read}
+use Rattle.mv_calls.specs.CallHistory.{CallAttempt, CallWorld, meaning_of, same_item}
+use Rattle.mv_calls.specs.SerialCalls.{AreOfCalls}
+use Rattle.mv_shards.specs.Indexes.{shard_count}
+use Rattle.mv_shards.specs.Shards.{Shard}
+use Rattle.mv_shards.specs.Helds.{IsHeldPruned, IsHeldRead, Places}
+use Rattle.mv_shards.specs.Writing.{versions_for}
+use Rattle.mv_running.specs.Running.{place_of}
+use Rattle.mv_core.specs.Marks.{marks_among}
+use Rattle.mv_core.specs.Places.{ArePlacesOf, IsLive, Slots, live_in}
+
+-- what is seen of it: the world that its events lead to, and the versions of all items, in shards
+pub record Store : Type 0 where
+  pub base : Ledger
+  pub header : Header
+  pub calls : List CallData
+  pub world : CallWorld
+  pub places : Places
+
+-- the items that were read or written in the shards that are held
+abbrev pub items_or_none : Option Shard → List Item
+items_or_none None = []
+items_or_none (Some s) = keys_of s.chains
+
+abbrev pub items_in : Places → List Item
+items_in [] = []
+items_in (o ∷ os) = items_or_none o ++ items_in os
+
+-- the marks of their versions
+abbrev pub marks_in : Places → List (Mark Item)
+marks_in places = marks_among (versions_for places) (items_in places)
+
+abbrev pub CallSlots : Type 0
+CallSlots = Slots Item ItemValue
+
+-- what is seen, where a journal's world lists no marks and no reads
+abbrev pub shown : Ledger → Header → List CallData → CallWorld → Places → CallSlots → Store
+shown base header calls w places slots = record {
+  base = base;
+  header = header;
+  calls = calls;
+  places = places;
+  world = record { clock = w.clock; low = w.low; entries = w.entries; marks = marks_in places; live = live_in slots w.live };
+}
+
+-- ---- what it keeps
+
+-- all shards are held, over the base, with the low mark
+abbrev pub IsOver : Ledger → ℕ → ℕ → Option Shard → Type 0
+IsOver base low i None = ⊥
+IsOver base low i (Some s) = (s.index ≡ i) × (s.low ≡ low) × (s.base ≡ base)
+
+abbrev pub AreAllOver : Ledger → ℕ → Places → Type 0
+AreAllOver base low places = (i : ℕ) → i < shard_count → IsOver base low i (get_or places i None)
+
+-- each live attempt is of one of the calls
+abbrev pub AreLiveOf : List CallData → List CallAttempt → Type 0
+AreLiveOf calls live = AllByRecursion (λ (a : CallAttempt). (0 < a.number) × (a.number ≤ length calls)) live
+
+-- The facts of the order theorem, with the marks of its versions, each of which is an entry's; all shards, as far as the
+-- journal is; a place for each call. `w` is the journal's world.
+pub record IsKept (base : Ledger) (header : Header) (calls : List CallData) (w : CallWorld) (places : Places) (slots : CallSlots) : Type 0 where
+  pub orderly : IsOrderly base
+  pub store : IsStore (λ value. value) same_item IsOfLedger (meaning_of header calls) (at base) w.low w.clock w.low w.entries (live_in slots w.live) (versions_for places)
+  pub shards : AreAllOver base w.low places
+  pub are_calls : AreOfCalls calls w.entries
+  pub live_calls : AreLiveOf calls w.live
+  pub count : length slots ≡ length calls
+  pub attempts : ArePlacesOf w.live slots
+
+-- ---- what its calls do
+
+-- The first read of an item by the live attempt at a timestamp: it gets the newest version not above the timestamp, and
+-- marks it.
+pub record IsFirstRead (old new : Store) (n t : ℕ) (x : Item) (v : ItemValue) : Type 0 where
+  pub attempt : CallAttempt
+  pub live : attempt_at t old.world.live ≡ Some attempt
+  pub number : attempt.number ≡ n
+  pub first : value_in attempt.reads x ≡ None
+  pub value : v ≡ (version_below same_item (at old.base) old.world.entries (suc t) x).1
+  pub event : IsSameWorld same_item (at old.base) new.world (after_read same_item (at old.base) old.world t (place_of attempt.reads x) x)
+  pub versions : (y : Item) → versions_for new.places y ≡ after_item_read same_item t x (versions_for old.places) y
+  pub others : new ≡ record old { world = new.world; places = new.places }
+
+-- an item that was read gives its value again, and nothing changes
+pub record IsReadAgain (old new : Store) (n t : ℕ) (x : Item) (v : ItemValue) : Type 0 where
+  pub attempt : CallAttempt
+  pub live : attempt_at t old.world.live ≡ Some attempt
+  pub number : attempt.number ≡ n
+  pub known : value_in attempt.reads x ≡ Some v
+  pub unchanged : new ≡ old
+
+-- The low mark rises, as far as the live attempts allow. Of the marks only those may be missing that no one from there on
+-- asks for.
+pub record IsPrune (old new : Store) (t : ℕ) : Type 0 where
+  pub event : new.world ≡ after_prune old.world t new.world.marks
+  pub marks : KeepsNeededMarks same_item (at old.base) new.world.low old.world.entries old.world.marks new.world.marks
+  pub others : new ≡ record old { world = new.world; places = new.places }
+
+-- ---- a read of the attempt at a place
+
+pub record IsReadPlace (old new : Places) (slots new_slots : CallSlots) (i : ℕ) (x : Item) (v : ItemValue) : Type 0 where
+  pub before : CallAttempt
+  pub after : CallAttempt
+  pub found : get_or slots i None ≡ Some before
+  pub read : IsHeldRead old new before after x v
+  pub others : new_slots ≡ set slots i (Some after)
+
+abbrev pub IsPrunedFor : Places → Option CallAttempt → Item → Type 0
+IsPrunedFor places None x = ⊥
+IsPrunedFor places (Some a) x = IsHeldPruned places a x
+
+abbrev pub IsPrunedPlace : Places → CallSlots → ℕ → Item → Type 0
+IsPrunedPlace places slots i x = IsPrunedFor places (get_or slots i None) x

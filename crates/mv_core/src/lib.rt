@@ -1,0 +1,34 @@
+//! The store: calls on a ledger that run side by side, each in an attempt that begins, reads, and is committed or
+//! abandoned, by multiversion timestamp ordering (Bernstein, Hadzilacos, Goodman, "Concurrency Control and Recovery in
+//! Database Systems", section 5.3). It is a journal with all its shards and the live attempts. What is seen of it, and
+//! what it keeps, is in specs/Stores.antt.
+//!
+//! What each event makes of a store is a law; those functions do no work.
+#![tactic(auto)]
+
+ghost use Rattle.mv_core.specs.Laws.{EveryAbandonLeavesAStore, EveryBeginLeavesAStore, EveryMarkIsAVersions, EveryPruneLeavesAStore, EveryReadLeavesAStore};
+
+mod faults;
+mod opening;
+mod reading;
+mod store;
+mod ticket;
+
+pub use faults::{AbandonFault, ReadError, ReadFault, StateError, StateFault};
+pub use store::Store;
+pub use ticket::Ticket;
+
+/// The events of calls leave a store, and make of the world that is seen what they mean: beginnings, reads, abandoned
+/// attempts and prunes.
+pub fn every_event_leaves_a_store()
+    ensures begin { EveryBeginLeavesAStore }
+    ensures read { EveryReadLeavesAStore }
+    ensures abandon { EveryAbandonLeavesAStore }
+    ensures prune { EveryPruneLeavesAStore }
+{}
+
+/// The marks that a store is seen with are those of its versions, and the facts of the order theorem hold of the world
+/// that is seen.
+pub fn every_mark_is_a_versions()
+    ensures { EveryMarkIsAVersions }
+{}

@@ -1,0 +1,182 @@
+//! Stores.
+
+ghost use Rattle.std.specs.Prelude.{◌≡◌, ◌⊎◌, ◌↔◌, ◌<◌, ◌+◌, suc, None, IfErr, IfOk, IsErrOf, OnErr, OnOk};
+ghost use Rattle.teal_value.specs.declared.failure.Failure.TheVariants.{Fault};
+ghost use Rattle.avm_items.specs.LedgerItems.{at};
+ghost use Rattle.avm_laws.specs.LedgerLooks.{IsOfLedger};
+ghost use Rattle.mv_history.specs.History.{entries_below};
+ghost use Rattle.mv_history.specs.Schedule.{IsConsistentWorld};
+ghost use Rattle.mv_history.specs.World.{after_abandon, after_begin};
+ghost use Rattle.mv_agreement.specs.Stores.{HoldEntries};
+ghost use Rattle.mv_calls.specs.CallHistory.{meaning_of, same_item};
+ghost use Rattle.mv_calls.specs.SerialCalls.{AreSerialCalls, ledger_of};
+ghost use Rattle.mv_shards.specs.Writing.{versions_for};
+ghost use Rattle.mv_parts.specs.Journals.{IsBeginRefusal, begin_fault};
+ghost use Rattle.mv_core.specs.declared.faults.ReadFault.TheVariants.{Unknown};
+ghost use Rattle.mv_core.specs.declared.faults.StateFault.TheVariants.{Pruned};
+ghost use Rattle.mv_core.specs.Places.{IsLive};
+ghost use Rattle.std.specs.Arc.{arc_value};
+ghost use Rattle.avm_laws.specs.Orderly.{IsOrderly};
+ghost use Rattle.mv_parts.specs.Opening.{IsOpenRefusal, open_fault};
+ghost use Rattle.mv_core.specs.Calls.{as_journal, first_store};
+ghost use Rattle.mv_core.specs.Stores.{IsFirstRead, IsPrune, IsReadAgain};
+
+use crate::faults::{AbandonFault, ReadError, ReadFault, StateError, StateFault};
+use crate::opening::empty_places;
+use crate::reading::read_at;
+use crate::ticket::{Ticket, place_of};
+use avm_call::Call;
+use avm_items::{Item, ItemValue};
+use avm_ledger::{Header, Ledger};
+use mv_calls::every_consistent_world_of_calls_is_serial;
+use mv_parts::{BeginError, Journal, OpenError, open_parts};
+use mv_shards::{Attempt, Held};
+use std::alloc::Global;
+use std::marker::Model;
+use std::sync::Arc;
+use teal_value::Failure;
+
+/// A journal, all shards, and a place for the attempt of each call.
+#[derive(Drop)]
+pub struct Store {
+    journal: Journal,
+    held: Held,
+    attempts: Vec<Option<Attempt>>,
+}
+
+impl Model for Store {
+    ghost use Rattle.mv_core.specs.Calls.{IsKeptBy, shown_by};
+    ghost use Rattle.mv_core.specs.Stores.{Store};
+
+    ghost Value = { Store };
+
+    ghost view = { λ s. shown_by s.journal s.held s.attempts.items };
+
+    ghost invariant = { λ s. IsKeptBy s.journal s.held s.attempts.items };
+}
+
+impl Store {
+    /// A store in which nothing has begun. It takes the memory for the attempts of all calls.
+    pub fn open(
+        alloc: Global,
+        base: Ledger,
+        header: Header,
+        calls: Arc<Vec<Call>>,
+    ) -> Result<Store, OpenError>
+        requires { IsOrderly base }
+        ensures opened { IfOk result (λ store. store ≡ first_store base header (arc_value calls).items) }
+        ensures opens { OnOk result (open_fault header (arc_value calls).items ≡ None) }
+        ensures refused { IfErr result (IsOpenRefusal header (arc_value calls).items) }
+    {
+        let count = calls.len();
+        match open_parts(alloc, base, header, calls) {
+            Ok((journal, held)) => match empty_places(alloc, count) {
+                Ok(attempts) => Ok(Store {
+                    journal,
+                    held,
+                    attempts,
+                }),
+                Err(_) => Err(Failure::Memory),
+            },
+            Err(refused) => Err(refused),
+        }
+    }
+
+    /// A call begins, at the next timestamp.
+    pub fn begin(&mut self, number: u32) -> Result<Ticket, BeginError>
+        ensures event { OnOk result (self.new ≡ record self.old { world = after_begin self.old.world number }) }
+        ensures ticket { IfOk result (λ ticket. ticket ≡ record { number = number; timestamp = self.old.world.clock + 1 }) }
+        ensures begins { OnOk result (begin_fault (as_journal self.old) number ≡ None) }
+        ensures unchanged { OnErr result (self.new ≡ self.old) }
+        ensures refused { IfErr result (IsBeginRefusal (as_journal self.old) number) }
+    {
+        match self.journal.begin(number) {
+            Ok(attempt) => {
+                let timestamp = attempt.timestamp();
+                self.attempts[number as usize - 1] = Some(attempt);
+                Ok(Ticket { number, timestamp })
+            }
+            Err(refused) => Err(refused),
+        }
+    }
+
+    /// Reads an item at the timestamp of a live attempt, and marks the version that is found. An item that the attempt has
+    /// read gives its value again.
+    pub fn read(&mut self, ticket: &Ticket, item: Item) -> Result<ItemValue, ReadError>
+        ensures ok { IfOk result (λ value. IsFirstRead self.old self.new ticket.now.number ticket.now.timestamp item value ⊎ IsReadAgain self.old self.new ticket.now.number ticket.now.timestamp item value) }
+        ensures unchanged { OnErr result (self.new ≡ self.old) }
+        ensures unknown { IsErrOf result (Fault Unknown) ↔ (IsLive self.old.world.live ticket.now.number ticket.now.timestamp → ⊥) }
+    {
+        match place_of(&self.attempts, ticket) {
+            Some(place) => match read_at(&mut self.held, &mut self.attempts, place, item) {
+                Ok(value) => Ok(value),
+                Err(Failure::Memory) => Err(Failure::Memory),
+                Err(Failure::Fault(_pruned)) => unreachable!(),
+            },
+            None => Err(Failure::Fault(ReadFault::Unknown)),
+        }
+    }
+
+    /// A live attempt ends, and leaves its marks.
+    pub fn abandon(&mut self, ticket: &Ticket) -> Result<(), AbandonFault>
+        ensures event { OnOk result (self.new ≡ record self.old { world = after_abandon self.old.world ticket.now.timestamp }) }
+        ensures live { OnOk result (IsLive self.old.world.live ticket.now.number ticket.now.timestamp) }
+        ensures unknown { OnErr result (IsLive self.old.world.live ticket.now.number ticket.now.timestamp → ⊥) }
+        ensures unchanged { OnErr result (self.new ≡ self.old) }
+    {
+        match place_of(&self.attempts, ticket) {
+            Some(place) => match self.attempts[place].take() {
+                Some(attempt) => match self.journal.abandon(attempt) {
+                    Ok(()) => Ok(()),
+                    Err(_back) => unreachable!(),
+                },
+                None => unreachable!(),
+            },
+            None => Err(AbandonFault::Unknown),
+        }
+    }
+
+    /// Raises the low mark to a timestamp, as far as the clock and the live attempts allow, and drops the versions that no
+    /// read from there on can find. It takes no memory.
+    pub fn prune(&mut self, timestamp: u64)
+        ensures { IsPrune self.old self.new timestamp }
+    {
+        self.journal.prune(&mut self.held, timestamp);
+    }
+
+    /// The ledger after the committed calls with timestamps up to this one.
+    pub fn state_at(&self, alloc: Global, timestamp: u64) -> Result<Ledger, StateError>
+        ensures ledger { IfOk result (λ ledger. ledger ≡ ledger_of self.now.base self.now.header self.now.calls (entries_below (suc timestamp) self.now.world.entries)) }
+        ensures pruned { IsErrOf result (Fault Pruned) ↔ timestamp < self.now.world.low }
+    {
+        if timestamp <= self.journal.low() {
+            return Err(Failure::Fault(StateFault::Pruned));
+        }
+        Ok(self.journal.ledger_at(alloc, timestamp)?)
+    }
+
+    /// The low mark: there is no state below it any more.
+    pub fn low(&self) -> u64
+        ensures { result ≡ self.now.world.low }
+    {
+        self.journal.low()
+    }
+
+    /// The header that the calls are made under.
+    pub fn header(&self) -> &Header
+        ensures { result.now ≡ self.now.header }
+    {
+        self.journal.header()
+    }
+
+    /// What every store keeps: its committed calls, by rising timestamp, are those of one thread, and each version that it
+    /// holds is an entry's. It does no work.
+    pub fn holds(&self)
+        ensures serial { AreSerialCalls self.now.base self.now.header self.now.calls self.now.world }
+        ensures consistent { IsConsistentWorld same_item IsOfLedger (meaning_of self.now.header self.now.calls) (at self.now.base) self.now.world }
+        ensures versions { HoldEntries (λ value. value) same_item (at self.now.base) self.now.world.low self.now.world.entries (versions_for self.now.places) }
+    {
+        let _count = self.attempts.len();
+        every_consistent_world_of_calls_is_serial();
+    }
+}

@@ -1,0 +1,40 @@
+//! Tickets.
+
+ghost use Rattle.std.specs.Prelude.{IfNone, IfSome};
+ghost use Rattle.mv_core.specs.Places.{IsNowhere, IsPlaced};
+
+use mv_shards::Attempt;
+
+/// Names an attempt, by the number of its call, from 1, and its timestamp. Anybody can make one: a store knows which
+/// attempts are live.
+#[derive(Clone, Copy, Debug, PartialEq, Eq)]
+pub struct Ticket {
+    /// The number of the call, from 1.
+    pub number: u32,
+    /// The timestamp of the attempt.
+    pub timestamp: u64,
+}
+
+/// The place of a ticket's attempt.
+pub(crate) fn place_of(attempts: &[Option<Attempt>], ticket: &Ticket) -> Option<usize>
+    ensures placed { IfSome result (λ place. IsPlaced attempts.now ticket.now.number ticket.now.timestamp place) }
+    ensures nowhere { IfNone result (IsNowhere attempts.now ticket.now.number ticket.now.timestamp) }
+{
+    if ticket.number == 0 {
+        return None;
+    }
+    let place = ticket.number as usize - 1;
+    if place >= attempts.len() {
+        return None;
+    }
+    match &attempts[place] {
+        Some(attempt) => {
+            if attempt.timestamp() == ticket.timestamp {
+                Some(place)
+            } else {
+                None
+            }
+        }
+        None => None,
+    }
+}

@@ -1,0 +1,10 @@
+pub mod States
+pub mod Begins
+pub mod Abandons
+pub mod Prunes
+pub mod Opens
+pub mod PutEntries
+pub mod EntryPlaces
+pub mod Commits
+pub mod KeptCommits
+pub mod Counts

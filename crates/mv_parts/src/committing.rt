@@ -1,0 +1,73 @@
+//! What a commit writes.
+
+ghost use Rattle.std.specs.Prelude.{◌≡◌, ◌-◌, ◌<◌, OnErr, OnOk, vec_capacity, vec_len};
+ghost use Rattle.mv_history.specs.History.{IsRising, entries_with};
+ghost use Rattle.mv_calls.specs.Laws.{entry_of as entry_at};
+ghost use Rattle.mv_shards.specs.Writing.{AreWritten, CanTake};
+ghost use Rattle.mv_parts.specs.Commits.{count_not_above};
+
+use crate::entry::Entry;
+use avm_run::Finished;
+use mv_shards::{Attempt, Held};
+use std::alloc::{AllocError, Global};
+
+/// Makes room for an entry, and writes to the journal's versions and to the shards that are held.
+pub(crate) fn write_all(
+    entries: &mut Vec<Entry>,
+    index: &mut Held,
+    held: &mut Held,
+    alloc: Global,
+    attempt: &Attempt,
+    finished: &Finished,
+) -> Result<(), AllocError>
+    requires index { CanTake attempt.now.timestamp index.old attempt.now.reads finished.now.writes }
+    requires held { CanTake attempt.now.timestamp held.old attempt.now.reads finished.now.writes }
+    ensures entries { entries.new.items ≡ entries.old.items }
+    ensures room { OnOk result (0 < vec_capacity entries.new - vec_len entries.new) }
+    ensures written { OnOk result (AreWritten attempt.now.timestamp attempt.now.reads finished.now.writes index.old index.new × AreWritten attempt.now.timestamp attempt.now.reads finished.now.writes held.old held.new) }
+    ensures unchanged { OnErr result ((index.new ≡ index.old) × (held.new ≡ held.old)) }
+{
+    entries.reserve(1)?;
+    index.write_both(
+        held,
+        alloc,
+        attempt.reads(),
+        finished.writes(),
+        attempt.timestamp(),
+    )
+}
+
+/// The entry of an attempt's own call.
+pub(crate) fn entry_of(attempt: Attempt, finished: Finished) -> Entry
+    requires { finished.reads ≡ attempt.reads }
+    ensures { result ≡ entry_at attempt.timestamp attempt.number finished }
+{
+    Entry {
+        timestamp: attempt.timestamp(),
+        number: attempt.number(),
+        outcome: finished.outcome(),
+        reads: attempt.into_reads(),
+        writes: finished.into_writes(),
+    }
+}
+
+/// Adds an entry at its place by timestamp. There is room for it.
+pub(crate) fn insert_entry(entries: &mut Vec<Entry>, entry: Entry)
+    requires room { 0 < vec_capacity entries.old - vec_len entries.old }
+    requires rising { IsRising 0 entries.old.items }
+    ensures { entries.new.items ≡ entries_with entry entries.old.items }
+{
+    let place = place_of(entries, entry.timestamp);
+    match entries.insert(place, entry) {
+        Ok(()) => {}
+        Err(_refused) => unreachable!(),
+    }
+}
+
+/// How many entries are not above a timestamp.
+fn place_of(entries: &[Entry], timestamp: u64) -> usize
+    requires { IsRising 0 entries.now }
+    ensures { result ≡ count_not_above timestamp entries.now }
+{
+    entries.partition_point(|entry| entry.timestamp <= timestamp)
+}

@@ -1,0 +1,335 @@
+//! The journal.
+
+ghost use Rattle.std.specs.Prelude.{◌≡◌, ◌+◌, ◌↔◌, ◌<◌, ◌≤◌, length, IfOk, IfErr, IfNone, IfSome, IsOk, IsTrue, OnErr, OnOk, None};
+ghost use Rattle.std.specs.Option.{option_copied};
+ghost use Rattle.avm_laws.specs.Orderly.{IsOrderly};
+ghost use Rattle.mv_history.specs.World.{after_abandon, after_begin, fresh_attempt, low_after_prune};
+ghost use Rattle.mv_calls.specs.CallHistory.{call_of};
+ghost use Rattle.mv_calls.specs.SerialCalls.{AreOfCalls, AreSerialCalls};
+ghost use Rattle.mv_shards.specs.Helds.{ArePruned};
+ghost use Rattle.teal_value.specs.declared.failure.Failure.TheVariants.{Memory};
+ghost use Rattle.mv_parts.specs.Commits.{AreCovered, IsCommitRefusal, IsCommitted, IsTestRefusal, IsWriteRefusal, MayCommit, MayWrite};
+ghost use Rattle.mv_parts.specs.Journals.{AreLiveCalls, IsBeginRefusal, IsIndexedStore, IsLive, begin_fault};
+ghost use Rattle.mv_parts.specs.Opening.{open_fault};
+
+use crate::begin_fault::{BeginError, BeginFault};
+use crate::call_state::CallState;
+use crate::commit_fault::{CommitFault, RefusedCommit};
+use crate::commit_tests::{is_own_call, late, moved};
+use crate::committing::{entry_of, insert_entry, write_all};
+use crate::entry::Entry;
+use avm_call::Call;
+use avm_items::ItemMap;
+use avm_ledger::{Header, Ledger};
+use avm_run::Finished;
+use mv_calls::every_consistent_world_of_calls_is_serial;
+use mv_shards::{Attempt, Held};
+use std::alloc::Global;
+use std::collections::BTreeMap;
+use std::marker::Model;
+use std::sync::Arc;
+use teal_value::Failure;
+
+/// The committed calls by rising timestamp, the clock, and which calls are live.
+#[derive(Drop)]
+pub struct Journal {
+    pub(crate) alloc: Global,
+    pub(crate) base: Arc<Ledger>,
+    pub(crate) header: Header,
+    pub(crate) calls: Arc<Vec<Call>>,
+    pub(crate) clock: u64,
+    pub(crate) low: u64,
+    pub(crate) entries: Vec<Entry>,
+    pub(crate) states: Vec<CallState>,
+    /// The numbers of the live calls, by their timestamps.
+    pub(crate) live: BTreeMap<u64, u32>,
+    /// All versions, in shards of the journal's own that are never pruned.
+    pub(crate) index: Held,
+}
+
+impl Model for Journal {
+    ghost use Rattle.std.specs.Arc.{arc_value};
+    ghost use Rattle.mv_parts.specs.Journals.{IsKept, Journal, journal_of};
+
+    ghost Value = { Journal };
+
+    ghost view = { λ j. journal_of (arc_value j.base) j.header (arc_value j.calls).items j.clock j.low j.entries.items j.live.entries j.index };
+
+    ghost invariant = { λ j. IsKept (arc_value j.base) j.header (arc_value j.calls).items j.clock j.low j.entries.items j.states.items j.live.entries j.index };
+}
+
+impl Journal {
+    /// A call begins, at the next timestamp. The attempt has read nothing.
+    pub fn begin(&mut self, number: u32) -> Result<Attempt, BeginError>
+        ensures event { OnOk result (self.new ≡ record self.old { world = after_begin self.old.world number }) }
+        ensures attempt { IfOk result (λ attempt. attempt ≡ fresh_attempt number (self.old.world.clock + 1)) }
+        ensures begins { OnOk result (begin_fault self.old number ≡ None) }
+        ensures unchanged { OnErr result (self.new ≡ self.old) }
+        ensures refused { IfErr result (IsBeginRefusal self.old number) }
+    {
+        if let Some(fault) = self.begin_fault(number) {
+            return Err(Failure::Fault(fault));
+        }
+        let timestamp = self.clock + 1;
+        match self.live.insert(timestamp, number) {
+            Ok(_) => {
+                self.states[number as usize - 1] = CallState::Live(timestamp);
+                self.clock = timestamp;
+                Ok(Attempt::new(self.alloc, number, timestamp))
+            }
+            Err(_) => Err(Failure::Memory),
+        }
+    }
+
+    /// Why a call does not begin, want of memory aside.
+    fn begin_fault(&self, number: u32) -> Option<BeginFault>
+        ensures { result ≡ begin_fault self.now number }
+    {
+        if number == 0 {
+            return Some(BeginFault::NoCall);
+        }
+        match self.states.get(number as usize - 1) {
+            None => Some(BeginFault::NoCall),
+            Some(CallState::Committed) => Some(BeginFault::Done),
+            Some(CallState::Live(_)) => Some(BeginFault::Taken),
+            Some(CallState::Idle) => {
+                if self.clock == u64::MAX {
+                    Some(BeginFault::ClockEnd)
+                } else {
+                    None
+                }
+            }
+        }
+    }
+
+    /// An attempt ends without a commit, and its call may begin again. One that is not live is handed back.
+    pub fn abandon(&mut self, attempt: Attempt) -> Result<(), Attempt>
+        ensures event { OnOk result (self.new ≡ record self.old { world = after_abandon self.old.world attempt.timestamp }) }
+        ensures live { IsOk result ↔ IsLive self.old.world attempt }
+        ensures unchanged { OnErr result (self.new ≡ self.old) }
+        ensures back { IfErr result (λ back. back ≡ attempt) }
+    {
+        if !self.is_live(&attempt) {
+            return Err(attempt);
+        }
+        // The map is in order, as its reader says.
+        let _count = self.live.len();
+        self.live.remove(&attempt.timestamp());
+        self.states[attempt.number() as usize - 1] = CallState::Idle;
+        Ok(())
+    }
+
+    /// Whether an attempt is live: one of its number, at its timestamp.
+    pub fn is_live(&self, attempt: &Attempt) -> bool
+        ensures { IsTrue result ↔ IsLive self.now.world attempt.now }
+    {
+        match self.live.get(&attempt.timestamp()) {
+            Some(number) => *number == attempt.number(),
+            None => false,
+        }
+    }
+
+    /// Raises the low mark to a timestamp, as far as the clock and the live attempts allow, and that of each shard that is
+    /// held to the journal's. What the journal itself keeps of versions stays. It takes no memory.
+    pub fn prune(&mut self, held: &mut Held, timestamp: u64)
+        ensures event { self.new ≡ record self.old { world = record self.old.world { low = low_after_prune self.old.world timestamp } } }
+        ensures held { ArePruned (low_after_prune self.old.world timestamp) held.old held.new }
+    {
+        let low = self.low_after(timestamp);
+        self.low = low;
+        held.prune(low);
+    }
+
+    /// The low mark after a prune at a timestamp.
+    fn low_after(&self, timestamp: u64) -> u64
+        ensures { result ≡ low_after_prune self.now.world timestamp }
+    {
+        // The map is in order, as its reader says.
+        let _count = self.live.len();
+        let bound = timestamp.min(self.clock);
+        match self.live.first_key_value() {
+            Some((first, _number)) => self.low.max(bound.min(*first)),
+            None => self.low.max(bound),
+        }
+    }
+
+    /// A call that has ended joins the committed ones, at its attempt's timestamp, and is written to the shards that are held.
+    /// Its reads are checked against the entries, and its writes against the marks of the entries' reads and of the shards'. It
+    /// gives the timestamp. Where it is refused, nothing has changed in either, and what was given is handed back.
+    pub fn commit(
+        &mut self,
+        held: &mut Held,
+        attempt: Attempt,
+        finished: Finished,
+    ) -> Result<u64, RefusedCommit>
+        requires { AreCovered held.old attempt.reads finished.writes }
+        ensures committed { IfOk result (λ timestamp. (timestamp ≡ attempt.timestamp) × MayCommit self.old held.old attempt finished × IsCommitted self.old self.new held.old held.new attempt finished) }
+        ensures refused { IfErr result (λ refused. IsCommitRefusal self.old held.old attempt finished refused.error) }
+        ensures back { IfErr result (λ refused. (refused.attempt ≡ attempt) × (refused.finished ≡ finished)) }
+        ensures unchanged { OnErr result ((self.new ≡ self.old) × (held.new ≡ held.old)) }
+    {
+        if let Some(fault) = self.commit_fault(held, &attempt, &finished) {
+            return Err(RefusedCommit {
+                error: Failure::Fault(fault),
+                attempt,
+                finished,
+            });
+        }
+        self.write(held, attempt, finished)
+    }
+
+    /// Why an attempt does not commit, want of memory aside.
+    fn commit_fault(
+        &self,
+        held: &Held,
+        attempt: &Attempt,
+        finished: &Finished,
+    ) -> Option<CommitFault>
+        requires { AreCovered held.now attempt.now.reads finished.now.writes }
+        ensures some { IfSome result (IsTestRefusal self.now held.now attempt.now finished.now) }
+        ensures none { IfNone result (MayCommit self.now held.now attempt.now finished.now) }
+    {
+        if !self.is_live(attempt) {
+            return Some(CommitFault::Unknown);
+        }
+        if is_own_call(&self.calls, &self.header, attempt, finished) {
+            self.write_fault(
+                held,
+                attempt.reads(),
+                finished.writes(),
+                attempt.timestamp(),
+            )
+        } else {
+            Some(CommitFault::Stranger)
+        }
+    }
+
+    /// Why a live attempt's own call does not commit.
+    fn write_fault(
+        &self,
+        held: &Held,
+        reads: &ItemMap,
+        writes: &ItemMap,
+        timestamp: u64,
+    ) -> Option<CommitFault>
+        requires covers { AreCovered held.now reads.now writes.now }
+        requires positive { 0 < timestamp }
+        ensures some { IfSome result (IsWriteRefusal self.now held.now timestamp reads.now writes.now) }
+        ensures none { IfNone result (MayWrite self.now held.now timestamp reads.now writes.now) }
+    {
+        match moved(&self.index, reads, timestamp - 1) {
+            Some(item) => Some(CommitFault::Moved { item }),
+            None => match held.foreign(writes, timestamp) {
+                Some(shard) => Some(CommitFault::Foreign { shard }),
+                None => late(&self.index, held, writes, timestamp),
+            },
+        }
+    }
+
+    /// Commits what passed the tests. Memory is taken before anything changes.
+    fn write(
+        &mut self,
+        held: &mut Held,
+        attempt: Attempt,
+        finished: Finished,
+    ) -> Result<u64, RefusedCommit>
+        requires covers { AreCovered held.old attempt.reads finished.writes }
+        requires may { MayCommit self.old held.old attempt finished }
+        ensures committed { IfOk result (λ timestamp. (timestamp ≡ attempt.timestamp) × IsCommitted self.old self.new held.old held.new attempt finished) }
+        ensures memory { IfErr result (λ refused. refused.error ≡ Memory) }
+        ensures back { IfErr result (λ refused. (refused.attempt ≡ attempt) × (refused.finished ≡ finished)) }
+        ensures unchanged { OnErr result ((self.new ≡ self.old) × (held.new ≡ held.old)) }
+    {
+        let timestamp = attempt.timestamp();
+        // What a finished call keeps, and the order of the map, as their readers say.
+        finished.holds();
+        let _count = self.live.len();
+        match write_all(
+            &mut self.entries,
+            &mut self.index,
+            held,
+            self.alloc,
+            &attempt,
+            &finished,
+        ) {
+            Ok(()) => {
+                self.live.remove(&timestamp);
+                self.states[attempt.number() as usize - 1] = CallState::Committed;
+                insert_entry(&mut self.entries, entry_of(attempt, finished));
+                Ok(timestamp)
+            }
+            Err(_) => Err(RefusedCommit {
+                error: Failure::Memory,
+                attempt,
+                finished,
+            }),
+        }
+    }
+
+    /// The ledger before all calls.
+    pub fn base(&self) -> &Ledger
+        ensures { result.now ≡ self.now.base }
+    {
+        &self.base
+    }
+
+    /// The header under which the calls are made.
+    pub fn header(&self) -> &Header
+        ensures { result.now ≡ self.now.header }
+    {
+        &self.header
+    }
+
+    /// All calls, in the order of their numbers.
+    pub fn calls(&self) -> &[Call]
+        ensures { result.now ≡ self.now.calls }
+    {
+        self.calls.as_slice()
+    }
+
+    /// The call of a number, from 1.
+    pub fn call(&self, number: u32) -> Option<&Call>
+        ensures { option_copied result ≡ call_of self.now.calls number }
+    {
+        if number == 0 {
+            return None;
+        }
+        self.calls.get(number as usize - 1)
+    }
+
+    /// The last timestamp given.
+    pub fn clock(&self) -> u64
+        ensures { result ≡ self.now.world.clock }
+    {
+        self.clock
+    }
+
+    /// The low mark: no state below it is asked for any more.
+    pub fn low(&self) -> u64
+        ensures { result ≡ self.now.world.low }
+    {
+        self.low
+    }
+
+    /// The committed calls, by rising timestamp.
+    pub fn entries(&self) -> &[Entry]
+        ensures { result.now ≡ self.now.world.entries }
+    {
+        self.entries.as_slice()
+    }
+
+    /// What every journal keeps, whatever was done with it: the committed calls are those of one thread, by rising
+    /// timestamp. It does no work.
+    pub fn holds(&self)
+        ensures serial { AreSerialCalls self.now.base self.now.header self.now.calls self.now.world }
+        ensures orderly { IsOrderly self.now.base }
+        ensures opened { open_fault self.now.header self.now.calls ≡ None }
+        ensures store { IsIndexedStore self.now }
+        ensures are_calls { AreOfCalls self.now.calls self.now.world.entries }
+        ensures live_calls { AreLiveCalls self.now.calls self.now.world.live }
+        ensures few { length self.now.world.entries ≤ length self.now.calls }
+    {
+        let _clock = self.clock;
+        every_consistent_world_of_calls_is_serial();
+    }
+}

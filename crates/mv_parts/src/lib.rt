@@ -1,0 +1,27 @@
+//! The journal of a block that is being made: which calls are live, which are committed, in timestamp order, by
+//! multiversion timestamp ordering (Bernstein, Hadzilacos, Goodman, "Concurrency Control and Recovery in Database
+//! Systems", section 5.3). It stands on the shards of mv_shards, which hold the versions of items; what their parts
+//! are told, each by its own lock, this crate joins.
+//!
+//! What is seen of a journal, and what it keeps, is in specs/Journals.antt.
+#![tactic(auto)]
+
+mod begin_fault;
+mod call_state;
+mod commit_fault;
+mod commit_tests;
+mod committing;
+mod entry;
+mod journal;
+mod open_fault;
+mod opening;
+mod past;
+#[cfg(test)]
+mod tests;
+
+pub use begin_fault::{BeginError, BeginFault};
+pub use commit_fault::{CommitError, CommitFault, RefusedCommit};
+pub use entry::Entry;
+pub use journal::Journal;
+pub use open_fault::{OpenError, OpenFault};
+pub use opening::open_parts;

@@ -1,0 +1,270 @@
+//! A creation that begins, reads, ends and is committed, and what a store answers before any commit.
+
+ghost use Rattle.avm_laws.specs.Orderly.{IsOrderly};
+ghost use Rattle.avm_ops.specs.Objects.{IsFull};
+
+use avm_arith::ArithOp;
+use avm_call::{Call, Outcome};
+use avm_flow_ops::FlowOp;
+use avm_items::{Addresses, CallData, Completion, Item, ItemMap, ItemValue};
+use avm_ledger::{Header, Ledger, Profile, Schema};
+use avm_ops::{BoxedOp, Op, OpSet, Ops};
+use avm_run::{Advance, CallRun, Finished};
+use avm_state_ops::StateOp;
+use mv_core::{ReadFault, StateFault, Store, Ticket};
+use mv_parts::{CommitFault, Journal, open_parts};
+use mv_shards::{Attempt, Held};
+use std::alloc::Global;
+use std::sync::Arc;
+use std::test::Fail;
+use teal_value::{Address, ByteString, ByteStrings, Failure, Uints};
+
+const NOBODY: Address = Address([0; 32]);
+
+const NO_ENTRY: Schema = Schema { uints: 0, bytes: 0 };
+
+// `int 1` of version 2.
+const APPROVES: &str = "0220010122";
+
+const HEADER: Header = Header {
+    profile: Profile::Two,
+    round: 0,
+    latest_timestamp: 0,
+    min_fee: 0,
+    min_balance: 0,
+    max_life: 0,
+};
+
+// The ledger without applications.
+fn no_applications(alloc: Global) -> Ledger
+    ensures { IsOrderly result }
+{
+    let ledger = Ledger::new(alloc);
+    let _next_id = ledger.next_id();
+    ledger
+}
+
+// A creation whose programs approve.
+fn creation(alloc: Global) -> Result<Call, Fail> {
+    let fields = CallData {
+        sender: NOBODY,
+        fee: 0,
+        first_valid: 0,
+        last_valid: 0,
+        note: ByteString::new(alloc),
+        lease: [0; 32],
+        rekey_to: NOBODY,
+        application: 0,
+        completion: Completion::NoOp,
+        arguments: ByteStrings::from_vec(Vec::new(alloc)),
+        accounts: Addresses::from_vec(Vec::new(alloc)),
+        foreign_applications: Uints::from_vec(Vec::new(alloc)),
+        approval: ByteString::from_vec(hex::decode(alloc, APPROVES)?),
+        clear: ByteString::from_vec(hex::decode(alloc, APPROVES)?),
+        global_schema: NO_ENTRY,
+        local_schema: NO_ENTRY,
+    };
+    match Call::check(alloc, fields) {
+        Ok(call) => Ok(call),
+        Err(_) => Err("these fields make a call".into()),
+    }
+}
+
+// The calls: one creation.
+fn one_creation(alloc: Global) -> Result<Arc<Vec<Call>>, Fail> {
+    Ok(Arc::new(alloc, vec![in alloc; creation(alloc)?]?)?)
+}
+
+// Reads an item of the shards, if its shard is held.
+fn read_of(
+    alloc: Global,
+    held: &mut Held,
+    attempt: &mut Attempt,
+    item: Item,
+) -> Result<ItemValue, Fail> {
+    let mut wanted = ItemMap::new(alloc);
+    wanted.insert(item.copied(), ItemValue::Absent)?;
+    if !held.covers(&wanted) {
+        return Err("all shards are held".into());
+    }
+    for (item, _value) in wanted.iter() {
+        return match held.read(attempt, item.copied()) {
+            Ok(value) => Ok(value),
+            Err(_) => Err("an item is read".into()),
+        };
+    }
+    Err("one item is wanted".into())
+}
+
+// A run of a call to its end, over what an attempt reads.
+fn finished(
+    alloc: Global,
+    ops: &OpSet,
+    held: &mut Held,
+    attempt: &mut Attempt,
+) -> Result<Finished, Fail>
+    requires full { IsFull ⟦<BoxedOp as Op>⟧.opcode ops.now }
+{
+    let mut run = CallRun::start(alloc, &creation(alloc)?, &HEADER, None)?;
+    for _ in 0..16 {
+        match run.advance(alloc, ops) {
+            Ok(Advance::Done(finished)) => return Ok(finished),
+            Ok(Advance::Need(item)) => {
+                let value = read_of(alloc, held, attempt, item.copied())?;
+                if run.supply(item, value).is_err() {
+                    return Err("what is asked for is taken".into());
+                }
+            }
+            Err(_) => return Err("a creation ends".into()),
+        }
+    }
+    Err("a creation asks for few items".into())
+}
+
+// Whether the shards take a commit, and the call ends approved at timestamp 1; committed once more, it is unknown.
+fn is_committed(
+    alloc: Global,
+    ops: &OpSet,
+    journal: &mut Journal,
+    held: &mut Held,
+) -> Result<bool, Fail>
+    requires full { IsFull ⟦<BoxedOp as Op>⟧.opcode ops.now }
+{
+    let mut attempt = match journal.begin(1) {
+        Ok(attempt) => attempt,
+        Err(_) => return Err("an idle call begins".into()),
+    };
+    let done = finished(alloc, ops, held, &mut attempt)?;
+    if !held.covers(attempt.reads()) || !held.covers(done.writes()) {
+        return Err("all shards are held".into());
+    }
+    match journal.commit(held, attempt, done) {
+        Ok(timestamp) => Ok(timestamp == 1),
+        Err(_) => Ok(false),
+    }
+}
+
+// Whether a stranger's attempt is refused.
+fn is_unknown(
+    alloc: Global,
+    ops: &OpSet,
+    journal: &mut Journal,
+    held: &mut Held,
+) -> Result<bool, Fail>
+    requires full { IsFull ⟦<BoxedOp as Op>⟧.opcode ops.now }
+{
+    let mut attempt = Attempt::new(alloc, 1, 7);
+    let done = finished(alloc, ops, held, &mut attempt)?;
+    if !held.covers(attempt.reads()) || !held.covers(done.writes()) {
+        return Err("all shards are held".into());
+    }
+    match journal.commit(held, attempt, done) {
+        Ok(_timestamp) => Ok(false),
+        Err(refused) => Ok(matches!(refused.error, Failure::Fault(CommitFault::Unknown))),
+    }
+}
+
+// What goes wrong first with a creation that is committed, if something does.
+fn first_wrong(alloc: Global, ops: &OpSet) -> Result<Option<&'static str>, Fail>
+    requires full { IsFull ⟦<BoxedOp as Op>⟧.opcode ops.now }
+{
+    let (mut journal, mut held) = match open_parts(
+        alloc,
+        no_applications(alloc),
+        HEADER,
+        one_creation(alloc)?,
+    ) {
+        Ok(parts) => parts,
+        Err(_) => return Err("one call makes a journal".into()),
+    };
+    if !is_committed(alloc, ops, &mut journal, &mut held)? {
+        return Ok(Some("the commit"));
+    }
+    if !is_unknown(alloc, ops, &mut journal, &mut held)? {
+        return Ok(Some("an attempt that is not live"));
+    }
+    if journal.entries().len() != 1 || journal.entries()[0].outcome() != Outcome::Approved {
+        return Ok(Some("the entry"));
+    }
+    if journal.ledger_at(alloc, 0)?.next_id() != 1 || journal.ledger_at(alloc, 1)?.next_id() != 2 {
+        return Ok(Some("the ledgers"));
+    }
+    Ok(None)
+}
+
+// A creation is committed, and the ledger after it has the next id.
+#[test]
+fn a_creation_is_committed(rt: HostRuntime) -> Result<(), Fail> {
+    let alloc = rt.alloc();
+    let mut ops: OpSet = Ops::new(alloc)?;
+    for code in 0..256usize {
+        let code = code as u8;
+        let op: Box<dyn Op> = if let Some(op) = ArithOp::of(code) {
+            Box::new(alloc, op)?
+        } else if let Some(op) = FlowOp::of(code) {
+            Box::new(alloc, op)?
+        } else if let Some(op) = StateOp::of(code) {
+            Box::new(alloc, op)?
+        } else {
+            continue;
+        };
+        assert!(rt; ops.push(BoxedOp { op }).is_ok());
+    }
+    assert!(rt; ops.missing().is_none());
+    match first_wrong(alloc, &ops)? {
+        None => Ok(()),
+        Some(wrong) => Err(wrong.into()),
+    }
+}
+
+// Whether an item is read by a ticket, as the next id of the ledger without applications.
+fn reads_next_id(store: &mut Store, ticket: &Ticket) -> bool {
+    matches!(store.read(ticket, Item::NextApp), Ok(ItemValue::NextApp(1)))
+}
+
+// Whether a ticket is of no live attempt.
+fn is_forged(store: &mut Store, ticket: &Ticket) -> bool {
+    matches!(
+        store.read(ticket, Item::NextApp),
+        Err(Failure::Fault(ReadFault::Unknown))
+    ) && store.abandon(ticket).is_err()
+}
+
+// A call of a store begins, reads, and is abandoned; other tickets are of no attempt, and pruned states are gone.
+#[test]
+fn a_store_knows_its_tickets(rt: HostRuntime) -> Result<(), Fail> {
+    let alloc = rt.alloc();
+    let mut store = match Store::open(alloc, no_applications(alloc), HEADER, one_creation(alloc)?) {
+        Ok(store) => store,
+        Err(_) => return Err("one call makes a store".into()),
+    };
+    let ticket = match store.begin(1) {
+        Ok(ticket) => ticket,
+        Err(_) => return Err("an idle call begins".into()),
+    };
+    let forged = Ticket {
+        number: 1,
+        timestamp: 2,
+    };
+    assert!(rt; store.begin(1).is_err());
+    assert!(rt; reads_next_id(&mut store, &ticket));
+    assert!(rt; reads_next_id(&mut store, &ticket));
+    assert!(rt; is_forged(&mut store, &forged));
+    assert!(rt; store.abandon(&ticket).is_ok());
+    assert!(rt; is_forged(&mut store, &ticket));
+    store.prune(1);
+    assert!(rt; store.low() == 1);
+    assert!(rt;
+        matches!(
+            store.state_at(alloc, 0),
+            Err(Failure::Fault(StateFault::Pruned))
+        )
+    );
+    match store.state_at(alloc, 1) {
+        Ok(ledger) => {
+            assert!(rt; ledger.next_id() == 1);
+        }
+        Err(_) => return Err("the last state is there".into()),
+    }
+    Ok(())
+}
