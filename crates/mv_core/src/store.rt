@@ -149,7 +149,7 @@ impl Store {
         ensures ledger { IfOk result (λ ledger. ledger ≡ ledger_of self.now.base self.now.header self.now.calls (entries_below (suc timestamp) self.now.world.entries)) }
         ensures pruned { IsErrOf result (Fault Pruned) ↔ timestamp < self.now.world.low }
     {
-        if timestamp <= self.journal.low() {
+        if timestamp < self.journal.low() {
             return Err(Failure::Fault(StateFault::Pruned));
         }
         Ok(self.journal.ledger_at(alloc, timestamp)?)

@@ -230,41 +230,47 @@ fn is_forged(store: &mut Store, ticket: &Ticket) -> bool {
     ) && store.abandon(ticket).is_err()
 }
 
-// A call of a store begins, reads, and is abandoned; other tickets are of no attempt, and pruned states are gone.
-#[test]
-fn a_store_knows_its_tickets(rt: HostRuntime) -> Result<(), Fail> {
-    let alloc = rt.alloc();
-    let mut store = match Store::open(alloc, no_applications(alloc), HEADER, one_creation(alloc)?) {
-        Ok(store) => store,
-        Err(_) => return Err("one call makes a store".into()),
-    };
+// Whether a call begins once, reads twice by its own ticket and by no other, and is abandoned once.
+fn knows_its_tickets(store: &mut Store) -> bool {
     let ticket = match store.begin(1) {
         Ok(ticket) => ticket,
-        Err(_) => return Err("an idle call begins".into()),
+        Err(_) => return false,
     };
     let forged = Ticket {
         number: 1,
         timestamp: 2,
     };
-    assert!(rt; store.begin(1).is_err());
-    assert!(rt; reads_next_id(&mut store, &ticket));
-    assert!(rt; reads_next_id(&mut store, &ticket));
-    assert!(rt; is_forged(&mut store, &forged));
-    assert!(rt; store.abandon(&ticket).is_ok());
-    assert!(rt; is_forged(&mut store, &ticket));
+    store.begin(1).is_err()
+        && reads_next_id(store, &ticket)
+        && reads_next_id(store, &ticket)
+        && is_forged(store, &forged)
+        && store.abandon(&ticket).is_ok()
+        && is_forged(store, &ticket)
+}
+
+// Whether the state below the low mark is gone, and that at it is the ledger without applications.
+fn drops_what_is_pruned(alloc: Global, store: &mut Store) -> bool {
     store.prune(1);
-    assert!(rt; store.low() == 1);
-    assert!(rt;
-        matches!(
-            store.state_at(alloc, 0),
-            Err(Failure::Fault(StateFault::Pruned))
-        )
+    let pruned = matches!(
+        store.state_at(alloc, 0),
+        Err(Failure::Fault(StateFault::Pruned))
     );
     match store.state_at(alloc, 1) {
-        Ok(ledger) => {
-            assert!(rt; ledger.next_id() == 1);
-        }
-        Err(_) => return Err("the last state is there".into()),
+        Ok(ledger) => pruned && store.low() == 1 && ledger.next_id() == 1,
+        Err(_) => false,
     }
-    Ok(())
+}
+
+// A call of a store begins, reads, and is abandoned; other tickets are of no attempt, and pruned states are gone.
+#[test]
+fn a_store_knows_its_tickets(rt: HostRuntime) -> Result<(), Fail> {
+    let alloc = rt.alloc();
+    match Store::open(alloc, no_applications(alloc), HEADER, one_creation(alloc)?) {
+        Ok(mut store) => {
+            assert!(rt; knows_its_tickets(&mut store));
+            assert!(rt; drops_what_is_pruned(alloc, &mut store));
+            Ok(())
+        }
+        Err(_) => Err("one call makes a store".into()),
+    }
 }
