@@ -1,5 +1,8 @@
 //! A creation that begins, reads, ends and is committed, and what a store answers before any commit.
 
+ghost use Rattle.std.specs.Prelude.{◌≡◌, [], IfOk};
+ghost use Rattle.avm_items.specs.declared.item_value.ItemValue.TheVariants.{Absent};
+ghost use Rattle.avm_items.specs.Items.{with_item};
 ghost use Rattle.avm_laws.specs.Orderly.{IsOrderly};
 ghost use Rattle.avm_ops.specs.Objects.{IsFull};
 
@@ -14,7 +17,7 @@ use avm_state_ops::StateOp;
 use mv_core::{ReadFault, StateFault, Store, Ticket};
 use mv_parts::{CommitFault, Journal, open_parts};
 use mv_shards::{Attempt, Held};
-use std::alloc::Global;
+use std::alloc::{AllocError, Global};
 use std::sync::Arc;
 use std::test::Fail;
 use teal_value::{Address, ByteString, ByteStrings, Failure, Uints};
@@ -75,6 +78,15 @@ fn one_creation(alloc: Global) -> Result<Arc<Vec<Call>>, Fail> {
     Ok(Arc::new(alloc, vec![in alloc; creation(alloc)?]?)?)
 }
 
+// An item alone.
+fn alone(alloc: Global, item: Item) -> Result<ItemMap, AllocError>
+    ensures { IfOk result (λ items. items ≡ with_item [] item Absent) }
+{
+    let mut items = ItemMap::new(alloc);
+    items.insert(item, ItemValue::Absent)?;
+    Ok(items)
+}
+
 // Reads an item of the shards, if its shard is held.
 fn read_of(
     alloc: Global,
@@ -82,18 +94,14 @@ fn read_of(
     attempt: &mut Attempt,
     item: Item,
 ) -> Result<ItemValue, Fail> {
-    let mut wanted = ItemMap::new(alloc);
-    wanted.insert(item.copied(), ItemValue::Absent)?;
+    let wanted = alone(alloc, item.copied())?;
     if !held.covers(&wanted) {
         return Err("all shards are held".into());
     }
-    for (item, _value) in wanted.iter() {
-        return match held.read(attempt, item.copied()) {
-            Ok(value) => Ok(value),
-            Err(_) => Err("an item is read".into()),
-        };
+    match held.read(attempt, item) {
+        Ok(value) => Ok(value),
+        Err(_) => Err("an item is read".into()),
     }
-    Err("one item is wanted".into())
 }
 
 // A run of a call to its end, over what an attempt reads.
