@@ -87,7 +87,7 @@ keys_with e keys = insert_entry byte_cmp keys e.0 tt
 
 abbrev keys_in : Entries → List (List ℕ × Unit {0}) → List (List ℕ × Unit {0})
 keys_in [] keys = keys
-keys_in (e ∷ es) keys = keys_with e (keys_in es keys)
+keys_in (e ∷ es) keys = keys_in es (keys_with e keys)
 
 abbrev changes_along : Entries → Entries → List (List ℕ × Unit {0}) → List KeyChange
 changes_along before after [] = []

@@ -18,6 +18,7 @@ returns-in-Err-Refused c =
         definition = refused (value_in c.args.items) c.args.call c.args.header c.in-Err-Refused.why tests ∙ ap (λ w. Ok (Refused c.in-Err-Refused.why, w)) (sym c.new-in-Err-Refused.ensures);
       },
       record { reached = None; last = no_path (value_in c.args.items) c.args.call c.args.header 0 (Ok (Err c.in-Err-Refused.why)) tests; outcome = tt },
+      refl,
     )
 
 pub returns-in-Err-Need : goal.returns-in-Err-Need
@@ -48,4 +49,5 @@ returns-in_ok-end-in-Ok-None c =
         last = no_path known c.args.call c.args.header 0 (Ok (Ok (record { id = c.in-Ok-None.field-0.id; row = None }))) tests;
         outcome = subst (λ o. IsOutcomeAt c.args.call.completion o None) (sym (ap (λ (e : CallResult). e.0) c.in_ok-end-in-Ok-None.ensures)) tt;
       },
+      refl,
     )
