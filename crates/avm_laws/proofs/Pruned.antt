@@ -69,7 +69,7 @@ same_value (value.Key v) (value.Key w) e = ap value.Key ((is_same-Decides v w).0
 same_value (value.Local s) (value.Local t) e = ap value.Local ((states-Decides s t (pointwise is_same_entry s t) refl).0 e)
 same_value u v e = absurd cc
 
-value_itself : (v : ItemValue) → is_same_value v v ≡ true
+pub value_itself : (v : ItemValue) → is_same_value v v ≡ true
 value_itself value.Absent = refl
 value_itself (value.NextApp n) = eq-eqb n n refl
 value_itself (value.App a) = application_itself a
