@@ -6,6 +6,7 @@ use Rattle.teal_value.specs.declared.failure.Failure.TheVariants as failure
 use Rattle.avm_items.specs.declared.item.Item.{Item}
 use Rattle.avm_items.specs.declared.item_value.ItemValue.{ItemValue}
 use Rattle.avm_items.specs.LedgerItems.{at}
+use Rattle.mv_chain.specs.Versions.{mark_in, oldest_timestamp}
 use Rattle.mv_history.specs.History.{commit_count}
 use Rattle.mv_history.specs.World.{after_abandon, after_begin, attempt_at, fresh_attempt, live_count, low_after_prune}
 use Rattle.mv_history.proofs.Attempts.{found_attempt}
@@ -20,13 +21,15 @@ use Rattle.mv_shards.specs.Helds.{ArePruned, IsHeld, IsHeldPruned, IsHeldRead, I
 use Rattle.mv_parts.specs.declared.begin_fault.BeginFault.{BeginFault}
 use Rattle.mv_parts.specs.declared.begin_fault.BeginFault.TheVariants.{ClockEnd, Done, NoCall, Taken}
 use Rattle.mv_parts.specs.Journals as journal
-use Rattle.mv_parts.specs.Journals.{IsBeginRefusal, IsOfNumber, Journal, begin_fault}
+use Rattle.mv_parts.specs.Journals.{IsBeginRefusal, IsOfNumber, IsOver, Journal, begin_fault, versions_indexed}
+use Rattle.mv_parts.proofs.Opens.{index_within}
+use Rattle.mv_shards.specs.Writing.{versions_for}
 use Rattle.mv_core.specs.Places.{IsLive, IsNowhere, IsPlaced, live_in}
-use Rattle.mv_core.specs.Calls.{IsKeptBy, as_journal, shown_by}
-use Rattle.mv_core.specs.Stores.{CallSlots, IsFirstRead, IsOver, IsPrune, IsPrunedFor, IsPrunedPlace, IsReadAgain, IsReadPlace}
+use Rattle.mv_core.specs.Calls.{AreMarksBelow, IsKeptBy, as_journal, shown_by}
+use Rattle.mv_core.specs.Stores.{CallSlots, IsFirstRead, IsPrune, IsPrunedFor, IsPrunedPlace, IsReadAgain, IsReadPlace, Store}
 use Rattle.mv_core.proofs.Attempts.{attempt_here, count_in, live_here, live_there, not_live_none, not_live_other}
-use Rattle.mv_core.proofs.Events.{kept_abandoned, kept_again, kept_begun, kept_pruned, kept_read, never_pruned, once}
-use Rattle.mv_core.proofs.Held.{shard_within}
+use Rattle.mv_core.proofs.Events.{kept_abandoned, kept_again, kept_begun, kept_pruned, kept_read, marks_left, never_pruned, once, still_above}
+use Rattle.mv_core.proofs.MarksBelow.{below_read}
 use Rattle.mv_core.proofs.Tickets.{at_none}
 
 some_is : {X : Type 0} {a b : X} → Some a ≡ Some b → a ≡ b
@@ -74,10 +77,10 @@ module _ (j : Journal) (places : Places) (slots : CallSlots) where
       let b = begins_at j n none in
       subst (λ c. IsKeptBy new places (set slots (n - 1) (Some c)) × (shown_by new places (set slots (n - 1) (Some c)) ≡ record (shown_by j places slots) { world = after_begin (shown_by j places slots).world n })) (sym begun)
       (subst (λ i. IsKeptBy i places (set slots (n - 1) (Some (fresh_attempt n (j.world.clock + 1)))) × (shown_by i places (set slots (n - 1) (Some (fresh_attempt n (j.world.clock + 1)))) ≡ record (shown_by j places slots) { world = after_begin (shown_by j places slots).world n })) (sym is)
-      (kept_begun j.base j.header j.calls j.world places slots k n b.above b.within b.uncommitted b.idle))
+      (let h = kept_begun j.base j.header j.calls j.world places slots k.kept n b.above b.within b.uncommitted b.idle in (record { kept = h.0; marks = k.marks }, h.1)))
 
   pub begun_within : (n : ℕ) → begin_fault j n ≡ None → IsKeptBy j places slots → n - 1 < length slots
-  begun_within n none k = let b = begins_at j n none in omega (arith, b.above, b.within, k.count)
+  begun_within n none k = let b = begins_at j n none in omega (arith, b.above, b.within, k.kept.count)
 
   -- ---- tickets
 
@@ -86,7 +89,7 @@ module _ (j : Journal) (places : Places) (slots : CallSlots) where
     own = ap (λ i. get_or slots i None) (sym p.is) ∙ p.found
 
     is_here : (IsLive j.world.live n p.attempt.timestamp) × (p.attempt.number ≡ n) × (attempt_at p.attempt.timestamp (live_in slots j.world.live) ≡ Some p.attempt)
-    is_here = attempt_here slots j.world.live n p.attempt p.above p.within own k.attempts
+    is_here = attempt_here slots j.world.live n p.attempt p.above p.within own k.kept.attempts
 
     is_live : IsLive j.world.live n t
     is_live = subst (λ u. IsLive j.world.live n u) p.time is_here.0
@@ -105,7 +108,7 @@ module _ (j : Journal) (places : Places) (slots : CallSlots) where
         subst (λ i. IsKeptBy i places (set slots place None) × (shown_by i places (set slots place None) ≡ record (shown_by j places slots) { world = after_abandon (shown_by j places slots).world t }))
         (sym (is ∙ ap (λ (b : CallAttempt). record j { world = after_abandon j.world b.timestamp }) (some_is (sym found ∙ p.found)) ∙ ap (λ u. record j { world = after_abandon j.world u }) p.time))
         (subst (λ i. IsKeptBy (record j { world = after_abandon j.world t }) places (set slots i None) × (shown_by (record j { world = after_abandon j.world t }) places (set slots i None) ≡ record (shown_by j places slots) { world = after_abandon (shown_by j places slots).world t })) (sym p.is)
-        (kept_abandoned j.base j.header j.calls j.world places slots k n t p.above p.within is_live))
+        (let h = kept_abandoned j.base j.header j.calls j.world places slots k.kept n t p.above p.within is_live in (record { kept = h.0; marks = k.marks }, h.1)))
 
     -- what was taken from the place
     pub store_abandoned_at : (new : Journal) (o : Option CallAttempt) (a : CallAttempt) (left d : Option CallAttempt) → o ≡ d → d ≡ get_or slots place d → o ≡ Some a → left ≡ None → new ≡ record j { world = after_abandon j.world a.timestamp }
@@ -117,7 +120,7 @@ module _ (j : Journal) (places : Places) (slots : CallSlots) where
     -- ---- a read
 
     pub all_held : (x : Item) → IsHeld places x
-    all_held x = by (shard_for places x) (k.shards (shard_of x) (shard_within x))
+    all_held x = by (shard_for places x) (k.kept.shards.each (shard_of x) (index_within x))
       where
         by : (o : Option Shard) → IsOver j.base j.world.low (shard_of x) o → IsSome o
         by None over = absurd over
@@ -128,7 +131,7 @@ module _ (j : Journal) (places : Places) (slots : CallSlots) where
       where
         by : (o : Option Shard) → shard_for places x ≡ o → IsPrunedIn o p.attempt x → ⊥
         by None here h = h
-        by (Some s) here h = never_pruned j.base j.header j.calls j.world places slots k n p.attempt p.attempt x (value_of s x) s s p.above p.within own here h
+        by (Some s) here h = never_pruned j.base j.header j.calls j.world places slots k.kept n p.attempt p.attempt x (value_of s x) s s p.above p.within own here h
           where
             value_of : Shard → Item → ItemValue
             value_of s x = at s.base x
@@ -145,17 +148,25 @@ module _ (j : Journal) (places : Places) (slots : CallSlots) where
         found : get_or slots (n - 1) None ≡ Some r.before
         found = ap (λ i. get_or slots i None) (sym p.is) ∙ r.found
 
+        from : j.world.low ≤ r.before.timestamp
+        from =
+            subst (λ (b : CallAttempt). j.world.low ≤ b.timestamp) (some_is (sym p.found ∙ r.found))
+            (found_attempt (λ (b : CallAttempt). j.world.low ≤ b.timestamp) p.attempt.timestamp p.attempt (live_in slots j.world.live) is_here.2 k.kept.store.consistent.schedule.low_live)
+
         time : r.before.timestamp ≡ t
         time = ap (λ (b : CallAttempt). b.timestamp) (some_is (sym r.found ∙ p.found)) ∙ p.time
 
         by : (shard.IsFirstRead r.read.shard r.read.read_shard r.before r.after x v ⊎ shard.IsReadAgain r.read.shard r.read.read_shard r.before r.after x v)
             → Goal (set places (shard_of x) (Some r.read.read_shard)) (set slots (n - 1) (Some r.after))
         by (inl first) =
-            let h = kept_read j.base j.header j.calls j.world places slots k n r.before r.after x v r.read.shard r.read.read_shard p.above p.within found r.read.found first in
-            (h.0, inl (subst (λ u. IsFirstRead (shown_by j places slots) (shown_by j (set places (shard_of x) (Some r.read.read_shard)) (set slots (n - 1) (Some r.after))) n u x v) time h.1))
+            let h = kept_read j.base j.header j.calls j.world places slots k.kept n r.before r.after x v r.read.shard r.read.read_shard p.above p.within found r.read.found first in
+            let old : oldest_timestamp (versions_for places x) ≤ j.world.low = (k.kept.store.holds x).old_enough in
+            let marks = below_read j.base j.world.low r.before.timestamp j.world.entries (versions_indexed j) (versions_for places) (versions_for (set places (shard_of x) (Some r.read.read_shard))) x (k.kept.store.holds x).chain (omega (arith, old, from)) h.1.versions k.marks in
+            (record { kept = h.0; marks = marks }, inl (subst (λ u. IsFirstRead (shown_by j places slots) (shown_by j (set places (shard_of x) (Some r.read.read_shard)) (set slots (n - 1) (Some r.after))) n u x v) time h.1))
         by (inr again) =
-            let h = kept_again j.base j.header j.calls j.world places slots k n r.before r.after x v r.read.shard r.read.read_shard p.above p.within found r.read.found again in
-            (h.0, inr (subst (λ u. IsReadAgain (shown_by j places slots) (shown_by j (set places (shard_of x) (Some r.read.read_shard)) (set slots (n - 1) (Some r.after))) n u x v) time h.1))
+            let h = kept_again j.base j.header j.calls j.world places slots k.kept n r.before r.after x v r.read.shard r.read.read_shard p.above p.within found r.read.found again in
+            let same : versions_for places ≡ versions_for (set places (shard_of x) (Some r.read.read_shard)) = ap (λ (s : Store). versions_for s.places) (sym h.1.unchanged) in
+            (record { kept = h.0; marks = subst (AreMarksBelow j.base j.world.low j.world.entries (versions_indexed j)) same k.marks }, inr (subst (λ u. IsReadAgain (shown_by j places slots) (shown_by j (set places (shard_of x) (Some r.read.read_shard)) (set slots (n - 1) (Some r.after))) n u x v) time h.1))
 
   pub store_nowhere : (n t : ℕ) → IsNowhere slots n t → IsKeptBy j places slots → IsLive (shown_by j places slots).world.live n t → ⊥
   store_nowhere n t nowhere k live = by (get_or slots (n - 1) None) refl
@@ -164,20 +175,28 @@ module _ (j : Journal) (places : Places) (slots : CallSlots) where
       l = live_there slots j.world.live n t live
 
       numbered : (0 < n) × (n ≤ length j.calls)
-      numbered = subst (λ m. (0 < m) × (m ≤ length j.calls)) l.number (found_attempt (λ (a : CallAttempt). (0 < a.number) × (a.number ≤ length j.calls)) t l.attempt j.world.live l.live k.live_calls)
+      numbered = subst (λ m. (0 < m) × (m ≤ length j.calls)) l.number (found_attempt (λ (a : CallAttempt). (0 < a.number) × (a.number ≤ length j.calls)) t l.attempt j.world.live l.live k.kept.live_calls)
 
       within : n - 1 < length slots
-      within = omega (arith, numbered.0, numbered.1, k.count)
+      within = omega (arith, numbered.0, numbered.1, k.kept.count)
 
       by : (o : Option CallAttempt) → get_or slots (n - 1) None ≡ o → ⊥
-      by None found = not_live_none slots j.world.live n t numbered.0 within found k.attempts l
-      by (Some a) found = not_live_other slots j.world.live n t a numbered.0 within found k.attempts (once j.base j.header j.calls j.world places slots k n) (nowhere a numbered.0 found) l
+      by None found = not_live_none slots j.world.live n t numbered.0 within found k.kept.attempts l
+      by (Some a) found = not_live_other slots j.world.live n t a numbered.0 within found k.kept.attempts (once j.base j.header j.calls j.world places slots k.kept n) (nowhere a numbered.0 found) l
 
   -- ---- a prune
 
   pub store_pruned : (new_journal : Journal) (new : Places) (t : ℕ) → new_journal ≡ record j { world = record (j.world) { low = low_after_prune j.world t } } → ArePruned (low_after_prune j.world t) places new → IsKeptBy j places slots
       → IsKeptBy new_journal new slots × IsPrune (shown_by j places slots) (shown_by new_journal new slots) t
-  store_pruned new_journal new t is pruned k = subst (λ i. IsKeptBy i new slots × IsPrune (shown_by j places slots) (shown_by i new slots) t) (sym is) (kept_pruned j.base j.header j.calls j.world places slots k t new pruned)
+  store_pruned new_journal new t is pruned k = subst (λ i. IsKeptBy i new slots × IsPrune (shown_by j places slots) (shown_by i new slots) t) (sym is)
+      (let h = kept_pruned j.base j.header j.calls j.world places slots k.kept t new pruned in (record { kept = h.0; marks = marks }, h.1))
+    where
+      marks : AreMarksBelow j.base (low_after_prune j.world t) j.world.entries (versions_indexed j) (versions_for new)
+      marks x n counts =
+          let higher = still_above j.base j.header j.calls j.world places slots k.kept t new x in
+          let below : mark_in n (versions_indexed j x) ≤ mark_in n (versions_for places x) = k.marks x n (omega (arith, higher, counts)) in
+          let left : mark_in n (versions_for new x) ≡ mark_in n (versions_for places x) = marks_left j.base j.header j.calls j.world places slots k.kept t new pruned x n counts in
+          omega (arith, below, left)
 
   -- ---- nothing changed
 

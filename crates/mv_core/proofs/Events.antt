@@ -35,12 +35,14 @@ use Rattle.mv_shards.specs.Shards.{Shard, versions_held}
 use Rattle.mv_shards.specs.Shards as shard
 use Rattle.mv_shards.specs.Helds.{ArePruned, IsPrunedPlace, Places, shard_for}
 use Rattle.mv_shards.specs.Writing.{versions_for, versions_or_none}
+use Rattle.mv_parts.specs.Journals.{IsOver}
+use Rattle.mv_parts.proofs.Opens.{index_within}
 use Rattle.mv_running.specs.Running.{place_of}
 use Rattle.mv_running.proofs.Workers.{with_item-new}
 use Rattle.mv_core.specs.Places.{ArePlacesOf, IsLive, live_in}
-use Rattle.mv_core.specs.Stores.{CallSlots, IsFirstRead, IsKept, IsPrune, IsOver, IsReadAgain, marks_in, shown}
+use Rattle.mv_core.specs.Stores.{CallSlots, IsFirstRead, IsKept, IsPrune, IsReadAgain, marks_in, shown}
 use Rattle.mv_core.proofs.Attempts.{all_in, attempt_here, count_in, live_begun, live_ended, live_read, places_begun, places_ended, places_read}
-use Rattle.mv_core.proofs.Held.{IsRaisedPlace, marks_of_places, raised_place, same_place, shard_within, shards_after_read, versions_after_read}
+use Rattle.mv_core.proofs.Held.{IsRaisedPlace, marks_of_places, none_stays, raised_place, same_place, shards_after_read, versions_after_read}
 
 -- a read leaves one mark
 one_mark : {V : Type 0} (t n found g : ℕ) (vs : List (Version V)) → IsChain vs → oldest_timestamp vs ≤ t → ((d : Version V) → (newest_at t vs d).timestamp ≡ found) → g ≡ mark_in n vs
@@ -205,7 +207,7 @@ module _ (base : Ledger) (header : Header) (calls : List CallData) (w : CallWorl
         kept = record {
           orderly = k.orderly;
           store = store;
-          shards = shards_after_read places base w.low (shard_of x) s (record s { chains = with_versions s.chains x (versions_read_at before.timestamp (versions_held s x)) }) here refl refl refl k.shards;
+          shards = shards_after_read places base w.low (shard_of x) s (record s { chains = with_versions s.chains x (versions_read_at before.timestamp (versions_held s x)) }) (index_within x) here refl refl refl k.shards;
           are_calls = k.are_calls;
           live_calls = k.live_calls;
           count = length-set slots (n - 1) (Some after) ∙ k.count;
@@ -245,7 +247,7 @@ module _ (base : Ledger) (header : Header) (calls : List CallData) (w : CallWorl
 
     -- a live attempt is never below the low mark of its item's shard
     pub never_pruned : shard.IsPruned s before x → ⊥
-    never_pruned pruned = omega (arith, pruned.below, from, (subst (λ o. IsOver base w.low (shard_of x) o) here (k.shards (shard_of x) (shard_within x))).1)
+    never_pruned pruned = omega (arith, pruned.below, from, (subst (λ o. IsOver base w.low (shard_of x) o) here (k.shards.each (shard_of x) (index_within x))).1)
 
   -- ---- the low mark rises
 
@@ -270,76 +272,99 @@ module _ (base : Ledger) (header : Header) (calls : List CallData) (w : CallWorl
       others = refl;
     }
 
-    raised : w.low < low_after_prune w t → ArePruned (low_after_prune w t) places new
-        → IsKept base header calls (record w { low = low_after_prune w t }) new slots × IsPrune (shown base header calls w places slots) (shown base header calls (record w { low = low_after_prune w t }) new slots) t
-    raised below pruned = (
-      record { orderly = k.orderly; store = store.0; shards = λ i inside. (each i inside).over; are_calls = k.are_calls; live_calls = k.live_calls; count = k.count; attempts = k.attempts },
-      pruned_world (record { kept_or_dropped = kept_or_dropped; needed = needed }),
-    )
-      where
-        each : (i : ℕ) → i < shard_count → IsRaisedPlace (low_after_prune w t) i base (get_or places i None) (get_or new i None)
-        each i inside = raised_place (low_after_prune w t) w.low i base (get_or places i None) (get_or new i None) below (k.shards i inside) (pruned i)
+    -- a low mark that rises
+    module _ (below : w.low < low_after_prune w t) (pruned : ArePruned (low_after_prune w t) places new) where
+      raised_each : (i : ℕ) → i < shard_count → IsRaisedPlace (low_after_prune w t) i base (get_or places i None) (get_or new i None)
+      raised_each i inside = raised_place (low_after_prune w t) w.low i base (get_or places i None) (get_or new i None) below (k.shards.each i inside) (pruned i)
 
-        versions : (x : Item) → versions_for new x ≡ versions_from (low_after_prune w t) (versions_for places x)
-        versions x = (each (shard_of x) (shard_within x)).versions x
+      raised_versions : (x : Item) → versions_for new x ≡ versions_from (low_after_prune w t) (versions_for places x)
+      raised_versions x = (raised_each (shard_of x) (index_within x)).versions x
 
-        store : IsStore (λ value. value) same_item IsOfLedger (meaning_of header calls) (at base) (low_after_prune w t) w.clock (low_after_prune w t) w.entries (live_in slots w.live) (versions_for new)
-            × KeepsMarksFrom same_item (at base) (low_after_prune w t) w.entries (versions_for places) (versions_for new)
-        store = every_prune_leaves_a_store_lem Item ItemValue Outcome ItemValue IsOfLedger (λ value. value) same_item (meaning_of header calls) (at base) w.low w.clock w.low w.entries (live_in slots w.live) (versions_for places) (versions_for new) k.store
-            (low_after_prune w t) low_below low_below past_clock bound versions
+      raised_store : IsStore (λ value. value) same_item IsOfLedger (meaning_of header calls) (at base) (low_after_prune w t) w.clock (low_after_prune w t) w.entries (live_in slots w.live) (versions_for new)
+          × KeepsMarksFrom same_item (at base) (low_after_prune w t) w.entries (versions_for places) (versions_for new)
+      raised_store = every_prune_leaves_a_store_lem Item ItemValue Outcome ItemValue IsOfLedger (λ value. value) same_item (meaning_of header calls) (at base) w.low w.clock w.low w.entries (live_in slots w.live) (versions_for places) (versions_for new) k.store
+          (low_after_prune w t) low_below low_below past_clock bound raised_versions
 
-        new_marks : (x : Item) (n : ℕ) → greatest_mark same_item (marks_in new) x n ≡ mark_in n (versions_for new x)
-        new_marks = marks_of_places new (λ x. (store.0.holds x).chain)
+      new_marks : (x : Item) (n : ℕ) → greatest_mark same_item (marks_in new) x n ≡ mark_in n (versions_for new x)
+      new_marks = marks_of_places new (λ x. (raised_store.0.holds x).chain)
 
-        kept_or_dropped : (x : Item) (n : ℕ) → (greatest_mark same_item (marks_in new) x n ≡ greatest_mark same_item (marks_in places) x n) ⊎ (greatest_mark same_item (marks_in new) x n ≡ 0)
-        kept_or_dropped x n = at_version (nat_lt n (newest_at (low_after_prune w t) (versions_for places x) nothing).timestamp) (compared n (newest_at (low_after_prune w t) (versions_for places x) nothing).timestamp)
-          where
-            nothing : Version ItemValue
-            nothing = record { timestamp = 0; mark = 0; value = at base x }
+      kept_or_dropped : (x : Item) (n : ℕ) → (greatest_mark same_item (marks_in new) x n ≡ greatest_mark same_item (marks_in places) x n) ⊎ (greatest_mark same_item (marks_in new) x n ≡ 0)
+      kept_or_dropped x n = at_version (nat_lt n (newest_at (low_after_prune w t) (versions_for places x) nothing).timestamp) (compared n (newest_at (low_after_prune w t) (versions_for places x) nothing).timestamp)
+        where
+          nothing : Version ItemValue
+          nothing = record { timestamp = 0; mark = 0; value = at base x }
 
-            from_list : HasMarksFrom (low_after_prune w t) (versions_for places x) nothing
-            from_list = every_prune_keeps_marks_lem ItemValue (low_after_prune w t) (versions_for places x) nothing (k.store.holds x).chain (omega (arith, (k.store.holds x).old_enough, low_below))
+          from_list : HasMarksFrom (low_after_prune w t) (versions_for places x) nothing
+          from_list = every_prune_keeps_marks_lem ItemValue (low_after_prune w t) (versions_for places x) nothing (k.store.holds x).chain (omega (arith, (k.store.holds x).old_enough, low_below))
 
-            at_version : (b : Bool) → Compared n (newest_at (low_after_prune w t) (versions_for places x) nothing).timestamp b
-                → (greatest_mark same_item (marks_in new) x n ≡ greatest_mark same_item (marks_in places) x n) ⊎ (greatest_mark same_item (marks_in new) x n ≡ 0)
-            at_version b (less h) = inr (new_marks x n ∙ ap (mark_in n) (versions x) ∙ from_list.dropped n h)
-            at_version b (not_less h) = inl (new_marks x n ∙ ap (mark_in n) (versions x) ∙ from_list.kept n h ∙ sym (marks_are x n))
+          at_version : (b : Bool) → Compared n (newest_at (low_after_prune w t) (versions_for places x) nothing).timestamp b
+              → (greatest_mark same_item (marks_in new) x n ≡ greatest_mark same_item (marks_in places) x n) ⊎ (greatest_mark same_item (marks_in new) x n ≡ 0)
+          at_version b (less h) = inr (new_marks x n ∙ ap (mark_in n) (raised_versions x) ∙ from_list.dropped n h)
+          at_version b (not_less h) = inl (new_marks x n ∙ ap (mark_in n) (raised_versions x) ∙ from_list.kept n h ∙ sym (marks_are x n))
 
-        needed : (x : Item) (u : ℕ) → low_after_prune w t ≤ u
-            → greatest_mark same_item (marks_in new) x (version_below same_item (at base) w.entries (suc u) x).0 ≡ greatest_mark same_item (marks_in places) x (version_below same_item (at base) w.entries (suc u) x).0
-        needed x u above =
-            new_marks x (version_below same_item (at base) w.entries (suc u) x).0
-            ∙ store.1 x (version_below same_item (at base) w.entries (suc u) x).0 (version_below-monotone same_item (at base) (suc (low_after_prune w t)) (suc u) w.entries x (omega (arith, above)) k.store.consistent.journal.rising)
-            ∙ sym (marks_are x (version_below same_item (at base) w.entries (suc u) x).0)
+      needed : (x : Item) (u : ℕ) → low_after_prune w t ≤ u
+          → greatest_mark same_item (marks_in new) x (version_below same_item (at base) w.entries (suc u) x).0 ≡ greatest_mark same_item (marks_in places) x (version_below same_item (at base) w.entries (suc u) x).0
+      needed x u above =
+          new_marks x (version_below same_item (at base) w.entries (suc u) x).0
+          ∙ raised_store.1 x (version_below same_item (at base) w.entries (suc u) x).0 (version_below-monotone same_item (at base) (suc (low_after_prune w t)) (suc u) w.entries x (omega (arith, above)) k.store.consistent.journal.rising)
+          ∙ sym (marks_are x (version_below same_item (at base) w.entries (suc u) x).0)
+
+      raised : IsKept base header calls (record w { low = low_after_prune w t }) new slots × IsPrune (shown base header calls w places slots) (shown base header calls (record w { low = low_after_prune w t }) new slots) t
+      raised = (
+        record {
+          orderly = k.orderly;
+          store = raised_store.0;
+          shards = record { beyond = λ i above. none_stays (low_after_prune w t) (get_or places i None) (get_or new i None) (pruned i) (k.shards.beyond i above); each = λ i inside. (raised_each i inside).over };
+          are_calls = k.are_calls;
+          live_calls = k.live_calls;
+          count = k.count;
+          attempts = k.attempts;
+        },
+        pruned_world (record { kept_or_dropped = kept_or_dropped; needed = needed }),
+      )
 
     -- a low mark that does not rise changes nothing
-    stays : low_after_prune w t ≡ w.low → ArePruned (low_after_prune w t) places new
-        → IsKept base header calls (record w { low = low_after_prune w t }) new slots × IsPrune (shown base header calls w places slots) (shown base header calls (record w { low = low_after_prune w t }) new slots) t
-    stays same pruned = (
-      subst (λ l. IsKept base header calls (record w { low = l }) new slots) (sym same)
-          (record {
-            orderly = k.orderly;
-            store = subst (λ all. IsStore (λ value. value) same_item IsOfLedger (meaning_of header calls) (at base) w.low w.clock w.low w.entries (live_in slots w.live) all) (sym all_same) k.store;
-            shards = λ i inside. subst (λ o. IsOver base w.low i o) (sym (each i inside)) (k.shards i inside);
-            are_calls = k.are_calls;
-            live_calls = k.live_calls;
-            count = k.count;
-            attempts = k.attempts;
-          }),
-      pruned_world (record { kept_or_dropped = λ x n. inl (same_marks x n); needed = λ x u above. same_marks x (version_below same_item (at base) w.entries (suc u) x).0 }),
-    )
+    module _ (same : low_after_prune w t ≡ w.low) (pruned : ArePruned (low_after_prune w t) places new) where
+      same_each : (i : ℕ) → i < shard_count → get_or new i None ≡ get_or places i None
+      same_each i inside = same_place w.low i base (get_or places i None) (get_or new i None) (k.shards.each i inside) (subst (λ l. IsPrunedPlace l (get_or places i None) (get_or new i None)) same (pruned i))
+
+      same_versions : (x : Item) → versions_for new x ≡ versions_for places x
+      same_versions x = ap (λ o. versions_or_none o x) (same_each (shard_of x) (index_within x))
+
+      all_same : versions_for new ≡ versions_for places
+      all_same = λ i x. same_versions x i
+
+      same_marks : (x : Item) (n : ℕ) → greatest_mark same_item (marks_in new) x n ≡ greatest_mark same_item (marks_in places) x n
+      same_marks x n = marks_of_places new (λ y. subst IsChain (sym (same_versions y)) (k.store.holds y).chain) x n ∙ ap (mark_in n) (same_versions x) ∙ sym (marks_are x n)
+
+      stays : IsKept base header calls (record w { low = low_after_prune w t }) new slots × IsPrune (shown base header calls w places slots) (shown base header calls (record w { low = low_after_prune w t }) new slots) t
+      stays = (
+        subst (λ l. IsKept base header calls (record w { low = l }) new slots) (sym same)
+            (record {
+              orderly = k.orderly;
+              store = subst (λ all. IsStore (λ value. value) same_item IsOfLedger (meaning_of header calls) (at base) w.low w.clock w.low w.entries (live_in slots w.live) all) (sym all_same) k.store;
+              shards = record {
+                beyond = λ i above. none_stays (low_after_prune w t) (get_or places i None) (get_or new i None) (pruned i) (k.shards.beyond i above);
+                each = λ i inside. subst (λ o. IsOver base w.low i o) (sym (same_each i inside)) (k.shards.each i inside);
+              };
+              are_calls = k.are_calls;
+              live_calls = k.live_calls;
+              count = k.count;
+              attempts = k.attempts;
+            }),
+        pruned_world (record { kept_or_dropped = λ x n. inl (same_marks x n); needed = λ x u above. same_marks x (version_below same_item (at base) w.entries (suc u) x).0 }),
+      )
+
+    -- the marks of the versions that are left
+    pub marks_left : ArePruned (low_after_prune w t) places new → (x : Item) (n : ℕ) → (version_below same_item (at base) w.entries (suc (low_after_prune w t)) x).0 ≤ n → mark_in n (versions_for new x) ≡ mark_in n (versions_for places x)
+    marks_left pruned x n counts = by (nat_lt w.low (low_after_prune w t)) (compared w.low (low_after_prune w t))
       where
-        each : (i : ℕ) → i < shard_count → get_or new i None ≡ get_or places i None
-        each i inside = same_place w.low i base (get_or places i None) (get_or new i None) (k.shards i inside) (subst (λ l. IsPrunedPlace l (get_or places i None) (get_or new i None)) same (pruned i))
+        by : (b : Bool) → Compared w.low (low_after_prune w t) b → mark_in n (versions_for new x) ≡ mark_in n (versions_for places x)
+        by b (less h) = (raised_store h pruned).1 x n counts
+        by b (not_less h) = ap (mark_in n) (same_versions (omega (arith, h, low_below)) pruned x)
 
-        versions : (x : Item) → versions_for new x ≡ versions_for places x
-        versions x = ap (λ o. versions_or_none o x) (each (shard_of x) (shard_within x))
-
-        all_same : versions_for new ≡ versions_for places
-        all_same = λ i x. versions x i
-
-        same_marks : (x : Item) (n : ℕ) → greatest_mark same_item (marks_in new) x n ≡ greatest_mark same_item (marks_in places) x n
-        same_marks x n = marks_of_places new (λ y. subst IsChain (sym (versions y)) (k.store.holds y).chain) x n ∙ ap (mark_in n) (versions x) ∙ sym (marks_are x n)
+    pub still_above : (x : Item) → (version_below same_item (at base) w.entries (suc w.low) x).0 ≤ (version_below same_item (at base) w.entries (suc (low_after_prune w t)) x).0
+    still_above x = version_below-monotone same_item (at base) (suc w.low) (suc (low_after_prune w t)) w.entries x (omega (arith, low_below)) k.store.consistent.journal.rising
 
     pub kept_pruned : ArePruned (low_after_prune w t) places new
         → IsKept base header calls (record w { low = low_after_prune w t }) new slots × IsPrune (shown base header calls w places slots) (shown base header calls (record w { low = low_after_prune w t }) new slots) t

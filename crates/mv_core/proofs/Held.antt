@@ -26,7 +26,8 @@ use Rattle.mv_shards.specs.Helds.{ArePruned, IsPrunedPlace, Places, shard_for}
 use Rattle.mv_shards.specs.Writing.{versions_for, versions_or_none}
 use Rattle.mv_shards.proofs.Steps.{set_here}
 use Rattle.mv_shards.proofs.Touched.{found_inserted}
-use Rattle.mv_core.specs.Stores.{AreAllOver, IsOver, items_in, items_or_none, marks_in}
+use Rattle.mv_parts.specs.Journals.{AreAllOver, IsOver}
+use Rattle.mv_core.specs.Stores.{items_in, items_or_none, marks_in}
 use Rattle.mv_core.proofs.MarkLists.{among_both, is_among, marks_listed}
 
 -- ---- marks
@@ -89,15 +90,18 @@ versions_after_read places x t s here y = by (shard_of y == shard_of x) (equals 
         apart false other = refl
 
 -- each place has a shard over the base still
-pub shards_after_read : (places : Places) (base : Ledger) (low i : ℕ) (s new : Shard) → get_or places i None ≡ Some s → new.index ≡ s.index → new.low ≡ s.low → new.base ≡ s.base
+pub shards_after_read : (places : Places) (base : Ledger) (low i : ℕ) (s new : Shard) → i < shard_count → get_or places i None ≡ Some s → new.index ≡ s.index → new.low ≡ s.low → new.base ≡ s.base
     → AreAllOver base low places → AreAllOver base low (set places i (Some new))
-shards_after_read places base low i s new here same_index same_low same_base k j within = by (j == i) (equals j i)
+shards_after_read places base low i s new inside here same_index same_low same_base k = record {
+  beyond = λ j above. get_or-set_other places i j (Some new) None (λ e. omega (arith, e, above, inside)) ∙ k.beyond j above;
+  each = λ j within. by j within (j == i) (equals j i);
+}
   where
-    by : (b : Bool) → Equals j i b → IsOver base low j (get_or (set places i (Some new)) j None)
-    by b (equal e) =
+    by : (j : ℕ) → j < shard_count → (b : Bool) → Equals j i b → IsOver base low j (get_or (set places i (Some new)) j None)
+    by j within b (equal e) =
         subst (λ o. IsOver base low j o) (sym (ap (λ m. get_or (set places i (Some new)) m None) e ∙ set_here places i s new here))
-        (let was : IsOver base low j (Some s) = subst (λ o. IsOver base low j o) (ap (λ m. get_or places m None) e ∙ here) (k j within) in (same_index ∙ was.0, same_low ∙ was.1, same_base ∙ was.2))
-    by b (unequal e) = subst (λ o. IsOver base low j o) (sym (get_or-set_other places i j (Some new) None e)) (k j within)
+        (let was : IsOver base low j (Some s) = subst (λ o. IsOver base low j o) (ap (λ m. get_or places m None) e ∙ here) (k.each j within) in (same_index ∙ was.0, same_low ∙ was.1, same_base ∙ was.2))
+    by j within b (unequal e) = subst (λ o. IsOver base low j o) (sym (get_or-set_other places i j (Some new) None e)) (k.each j within)
 
 -- ---- a prune
 
@@ -117,10 +121,8 @@ same_place low i base None new over pruned = absurd over
 same_place low i base (Some s) None over pruned = absurd pruned
 same_place low i base (Some s) (Some n) over pruned = ap Some (pruned.stays (subst (λ l. low ≤ l) (sym over.1) (omega arith)))
 
--- every item has a shard
-pub shard_within : (x : Item) → shard_of x < shard_count
-shard_within NextApp = omega arith
-shard_within (App id) = mod-lt id (omega arith)
-shard_within (Counts id) = mod-lt id (omega arith)
-shard_within (Key id key) = mod-lt (id + sum key) (omega arith)
-shard_within (Local who id) = mod-lt (id + slice_index_or who.0 31 0) (omega arith)
+-- a place without a shard has none afterwards
+pub none_stays : (t : ℕ) (old new : Option Shard) → IsPrunedPlace t old new → old ≡ None → new ≡ None
+none_stays t None None pruned none = refl
+none_stays t None (Some n) pruned none = absurd pruned
+none_stays t (Some s) new pruned none = absurd cc

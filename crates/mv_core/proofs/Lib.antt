@@ -2,6 +2,9 @@ pub mod Attempts
 pub mod MarkLists
 pub mod Held
 pub mod Events
+pub mod MarksBelow
 pub mod Tickets
 pub mod Calls
 pub mod Openings
+pub mod Commits
+pub mod CommitCalls

@@ -16,9 +16,9 @@ use Rattle.mv_agreement.proofs.Agreements.{every_first_version_agrees_lem}
 use Rattle.mv_calls.specs.CallHistory.{CallAttempt, same_item}
 use Rattle.mv_shards.specs.Writing.{versions_for}
 use Rattle.mv_parts.specs.Opening.{first_places}
-use Rattle.mv_parts.proofs.Opens.{no_marks, place_first, versions_first}
+use Rattle.mv_parts.proofs.Opens.{first_over, no_marks, versions_first}
 use Rattle.mv_core.specs.Places.{AreEmpty, IsPlaceOf}
-use Rattle.mv_core.specs.Stores.{CallSlots, IsKept, IsOver}
+use Rattle.mv_core.specs.Stores.{CallSlots, IsKept}
 
 pub none_empty : AreEmpty {Item = Item} {Value = ItemValue} 0 []
 none_empty = record { are = refl; each = λ i. refl }
@@ -39,7 +39,7 @@ kept_first base header calls slots orderly empty = record {
     holds = λ x. subst (HoldsVersions {Outcome = Outcome} (λ value. value) same_item (at base) 0 [] x) (sym (versions_first base x)) (every_first_version_agrees_lem Item ItemValue Outcome ItemValue (λ value. value) same_item (at base) 0 0 x);
     consistent = record { journal = record { rising = tt; finished = tt; agree = tt }; schedule = schedule_first same_item (at base) (marks_of (versions_for (first_places base))) (no_marks base) };
   };
-  shards = λ i within. subst (IsOver base 0 i) (sym (place_first base i within)) (refl, refl, refl);
+  shards = first_over base;
   are_calls = tt;
   live_calls = tt;
   count = empty.are;

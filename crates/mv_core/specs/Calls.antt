@@ -1,11 +1,19 @@
 -- A store by its journal, and when its calls begin.
-use Rattle.std.specs.Prelude.{ℕ, List, []}
+use Rattle.std.specs.Prelude.{ℕ, suc, ◌≤◌, List, []}
 use Rattle.avm_ledger.specs.declared.header.Header.{Header}
 use Rattle.avm_ledger.specs.Ledgers.{Ledger}
 use Rattle.avm_items.specs.declared.call_data.CallData.{CallData}
+use Rattle.avm_items.specs.declared.item.Item.{Item}
+use Rattle.avm_items.specs.declared.item_value.ItemValue.{ItemValue}
+use Rattle.avm_items.specs.LedgerItems.{at}
+use Rattle.mv_chain.specs.declared.Version.{Version}
+use Rattle.mv_chain.specs.Versions.{mark_in}
+use Rattle.mv_history.specs.History.{version_below}
 use Rattle.mv_history.specs.World.{first_world}
+use Rattle.mv_calls.specs.CallHistory.{CallEntry, same_item}
 use Rattle.mv_shards.specs.Helds.{Places}
-use Rattle.mv_parts.specs.Journals.{Journal}
+use Rattle.mv_shards.specs.Writing.{versions_for}
+use Rattle.mv_parts.specs.Journals.{Journal, versions_indexed}
 use Rattle.mv_parts.specs.Opening.{first_places}
 use Rattle.mv_core.specs.Stores.{CallSlots, IsKept, Store, shown}
 
@@ -16,8 +24,13 @@ as_journal s = record { base = s.base; header = s.header; calls = s.calls; world
 abbrev pub shown_by : Journal → Places → CallSlots → Store
 shown_by j places slots = shown j.base j.header j.calls j.world places slots
 
-abbrev pub IsKeptBy : Journal → Places → CallSlots → Type 0
-IsKeptBy j places slots = IsKept j.base j.header j.calls j.world places slots
+-- The marks of the journal's own versions are not above those of the shards, but for versions that the shards have dropped.
+abbrev pub AreMarksBelow : Ledger → ℕ → List CallEntry → (Item → List (Version ItemValue)) → (Item → List (Version ItemValue)) → Type 0
+AreMarksBelow base low es index all = (x : Item) (n : ℕ) → (version_below same_item (at base) es (suc low) x).0 ≤ n → mark_in n (index x) ≤ mark_in n (all x)
+
+pub record IsKeptBy (j : Journal) (places : Places) (slots : CallSlots) : Type 0 where
+  pub kept : IsKept j.base j.header j.calls j.world places slots
+  pub marks : AreMarksBelow j.base j.world.low j.world.entries (versions_indexed j) (versions_for places)
 
 -- ---- a store in which nothing has begun
 

@@ -3,3 +3,4 @@ pub mod Marks
 pub mod Stores
 pub mod Laws
 pub mod Calls
+pub mod Commits

@@ -1,7 +1,6 @@
 -- The store: what is seen of it, what it keeps, and what its calls do.
-use Rattle.std.specs.Prelude.{◌≡◌, ℕ, suc, ◌+◌, ◌<◌, ◌≤◌, ◌⊎◌, List, [], ◌∷◌, ◌++◌, length, get_or, set, Option, None, Some}
+use Rattle.std.specs.Prelude.{◌≡◌, ℕ, suc, ◌+◌, ◌⊎◌, List, [], ◌∷◌, ◌++◌, length, get_or, set, Option, None, Some}
 use Rattle.std.specs.Map.{keys_of}
-use Rattle.std.specs.List.{AllByRecursion}
 use Rattle.avm_ledger.specs.declared.header.Header.{Header}
 use Rattle.avm_ledger.specs.Ledgers.{Ledger}
 use Rattle.avm_items.specs.declared.call_data.CallData.{CallData}
@@ -17,10 +16,10 @@ use Rattle.mv_history.specs.World.{Mark, KeepsNeededMarks, after_prune, after_re
 use Rattle.mv_agreement.specs.Stores.{IsStore, after_item_read}
 use Rattle.mv_calls.specs.CallHistory.{CallAttempt, CallWorld, meaning_of, same_item}
 use Rattle.mv_calls.specs.SerialCalls.{AreOfCalls}
-use Rattle.mv_shards.specs.Indexes.{shard_count}
 use Rattle.mv_shards.specs.Shards.{Shard}
 use Rattle.mv_shards.specs.Helds.{IsHeldPruned, IsHeldRead, Places}
 use Rattle.mv_shards.specs.Writing.{versions_for}
+use Rattle.mv_parts.specs.Journals.{AreAllOver, AreLiveCalls}
 use Rattle.mv_running.specs.Running.{place_of}
 use Rattle.mv_core.specs.Marks.{marks_among}
 use Rattle.mv_core.specs.Places.{ArePlacesOf, IsLive, Slots, live_in}
@@ -61,18 +60,6 @@ shown base header calls w places slots = record {
 
 -- ---- what it keeps
 
--- all shards are held, over the base, with the low mark
-abbrev pub IsOver : Ledger → ℕ → ℕ → Option Shard → Type 0
-IsOver base low i None = ⊥
-IsOver base low i (Some s) = (s.index ≡ i) × (s.low ≡ low) × (s.base ≡ base)
-
-abbrev pub AreAllOver : Ledger → ℕ → Places → Type 0
-AreAllOver base low places = (i : ℕ) → i < shard_count → IsOver base low i (get_or places i None)
-
--- each live attempt is of one of the calls
-abbrev pub AreLiveOf : List CallData → List CallAttempt → Type 0
-AreLiveOf calls live = AllByRecursion (λ (a : CallAttempt). (0 < a.number) × (a.number ≤ length calls)) live
-
 -- The facts of the order theorem, with the marks of its versions, each of which is an entry's; all shards, as far as the
 -- journal is; a place for each call. `w` is the journal's world.
 pub record IsKept (base : Ledger) (header : Header) (calls : List CallData) (w : CallWorld) (places : Places) (slots : CallSlots) : Type 0 where
@@ -80,7 +67,7 @@ pub record IsKept (base : Ledger) (header : Header) (calls : List CallData) (w :
   pub store : IsStore (λ value. value) same_item IsOfLedger (meaning_of header calls) (at base) w.low w.clock w.low w.entries (live_in slots w.live) (versions_for places)
   pub shards : AreAllOver base w.low places
   pub are_calls : AreOfCalls calls w.entries
-  pub live_calls : AreLiveOf calls w.live
+  pub live_calls : AreLiveCalls calls w.live
   pub count : length slots ≡ length calls
   pub attempts : ArePlacesOf w.live slots
 

@@ -8,13 +8,17 @@
 
 ghost use Rattle.mv_core.specs.Laws.{EveryAbandonLeavesAStore, EveryBeginLeavesAStore, EveryMarkIsAVersions, EveryPruneLeavesAStore, EveryReadLeavesAStore};
 
+mod committing;
 mod faults;
 mod opening;
 mod reading;
 mod store;
 mod ticket;
 
-pub use faults::{AbandonFault, ReadError, ReadFault, StateError, StateFault};
+pub use faults::{
+    AbandonFault, CommitError, CommitFault, ReadError, ReadFault, RefusedCommit, StateError,
+    StateFault,
+};
 pub use store::Store;
 pub use ticket::Ticket;
 

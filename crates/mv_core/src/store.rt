@@ -19,15 +19,20 @@ ghost use Rattle.std.specs.Arc.{arc_value};
 ghost use Rattle.avm_laws.specs.Orderly.{IsOrderly};
 ghost use Rattle.mv_parts.specs.Opening.{IsOpenRefusal, open_fault};
 ghost use Rattle.mv_core.specs.Calls.{as_journal, first_store};
+ghost use Rattle.mv_core.specs.Commits.{IsCommitRefusal, IsCommitted, MayCommit};
 ghost use Rattle.mv_core.specs.Stores.{IsFirstRead, IsPrune, IsReadAgain};
 
-use crate::faults::{AbandonFault, ReadError, ReadFault, StateError, StateFault};
+use crate::committing::{commit_at, store_error};
+use crate::faults::{
+    AbandonFault, CommitFault, ReadError, ReadFault, RefusedCommit, StateError, StateFault,
+};
 use crate::opening::empty_places;
 use crate::reading::read_at;
 use crate::ticket::{Ticket, place_of};
 use avm_call::Call;
 use avm_items::{Item, ItemValue};
 use avm_ledger::{Header, Ledger};
+use avm_run::Finished;
 use mv_calls::every_consistent_world_of_calls_is_serial;
 use mv_parts::{BeginError, Journal, OpenError, open_parts};
 use mv_shards::{Attempt, Held};
@@ -114,6 +119,42 @@ impl Store {
                 Err(Failure::Fault(_pruned)) => unreachable!(),
             },
             None => Err(Failure::Fault(ReadFault::Unknown)),
+        }
+    }
+
+    /// A call that has ended joins the committed ones, at its attempt's timestamp, which is answered. Where it is refused,
+    /// nothing has changed, and the call is handed back. All memory is taken before the first change.
+    pub fn commit(&mut self, ticket: &Ticket, finished: Finished) -> Result<u64, RefusedCommit>
+        ensures timestamp { IfOk result (λ timestamp. timestamp ≡ ticket.now.timestamp) }
+        ensures may { OnOk result (MayCommit self.old ticket.now.number ticket.now.timestamp finished) }
+        ensures committed { OnOk result (IsCommitted self.old self.new ticket.now.number ticket.now.timestamp finished) }
+        ensures refused { IfErr result (λ refused. IsCommitRefusal self.old ticket.now.number ticket.now.timestamp finished refused.error) }
+        ensures back { IfErr result (λ refused. refused.finished ≡ finished) }
+        ensures unchanged { OnErr result (self.new ≡ self.old) }
+    {
+        match place_of(&self.attempts, ticket) {
+            Some(place) => {
+                // What a finished call and a journal keep, as they say.
+                finished.holds();
+                self.journal.holds();
+                match commit_at(
+                    &mut self.journal,
+                    &mut self.held,
+                    &mut self.attempts,
+                    place,
+                    finished,
+                ) {
+                    Ok(timestamp) => Ok(timestamp),
+                    Err(refused) => Err(RefusedCommit {
+                        error: store_error(refused.error),
+                        finished: refused.finished,
+                    }),
+                }
+            }
+            None => Err(RefusedCommit {
+                error: Failure::Fault(CommitFault::Unknown),
+                finished,
+            }),
         }
     }
 

@@ -63,7 +63,7 @@ first_count : (base : Ledger) (index count : ℕ) → length (first_places_from 
 first_count base index zero = refl
 first_count base index (suc count) = ap suc (first_count base (suc index) count)
 
-first_over : (base : Ledger) → AreAllOver base 0 (first_places base)
+pub first_over : (base : Ledger) → AreAllOver base 0 (first_places base)
 first_over base = record {
   beyond = λ i above. beyond (first_places base) i (let n = first_count base 0 shard_count in omega (arith, n, above));
   each = λ i inside. subst (IsOver base 0 i) (sym (place_first base i inside)) (refl, refl, refl);

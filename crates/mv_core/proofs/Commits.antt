@@ -1,0 +1,286 @@
+-- What a commit makes of a store, and why the journal refuses one, where all shards agree with it.
+use Rattle.std.proofs.Common.{◌≡◌, ◌≢◌, ℕ, suc, ◌+◌, ◌-◌, ◌<◌, ◌≤◌, ◌==◌, ◌&&◌, ◌||◌, max, Bool, true, false, nat_lt, if◌then◌else◌, List, [], ◌∷◌, length, Option, None, Some, get_or, set, refl, sym, ap, ◌∙◌, subst, arith}
+use Rattle.std.specs.Prelude.{option_map, IsSome}
+use Rattle.std.specs.Map.{lookup}
+use Rattle.std.specs.List.{AllByRecursion}
+use Rattle.std.proofs.lemmas.List.{length-set}
+use Rattle.teal_value.specs.declared.failure.Failure.{Failure}
+use Rattle.teal_value.specs.declared.failure.Failure.TheVariants as failure
+use Rattle.avm_ledger.specs.declared.header.Header.{Header}
+use Rattle.avm_ledger.specs.Ledgers.{Ledger}
+use Rattle.avm_items.specs.declared.call_data.CallData.{CallData}
+use Rattle.avm_items.specs.declared.item.Item.{Item}
+use Rattle.avm_items.specs.declared.item_value.ItemValue.{ItemValue}
+use Rattle.avm_items.specs.Items.{ItemMap, Look}
+use Rattle.avm_items.specs.LedgerItems.{at}
+use Rattle.avm_items.specs.SameValues.{is_same_value}
+use Rattle.avm_call.specs.declared.outcome.Outcome.{Outcome}
+use Rattle.avm_run.specs.Results.{CallRecord, IsFinished}
+use Rattle.avm_laws.specs.LedgerLooks.{IsOfLedger}
+use Rattle.avm_laws.proofs.Pruned.{value_itself}
+use Rattle.mv_chain.specs.declared.Late.{Late as LateVersion}
+use Rattle.mv_chain.specs.declared.Version.{Version}
+use Rattle.mv_chain.specs.Versions.{lateness, mark_in, newest_at}
+use Rattle.mv_history.specs.Facts.{IsCheckedCommit}
+use Rattle.mv_history.specs.History as history
+use Rattle.mv_history.specs.History.{Agrees, entries_with, state_below, version_below}
+use Rattle.mv_history.specs.Schedule.{AreMarked}
+use Rattle.mv_history.specs.World.{IsInTime, after_commit, attempt_at, attempts_without, greatest_mark}
+use Rattle.mv_history.proofs.Attempts.{all_without, found_attempt}
+use Rattle.mv_history.proofs.Lists.{Compared, less, not_less, compared, Equals, equal, unequal, equals}
+use Rattle.mv_history.proofs.SameWorlds.{version_below-monotone}
+use Rattle.mv_history.proofs.Versions.{all_with, next_below}
+use Rattle.mv_agreement.specs.Stores.{HoldEntries, IsStore, after_entry, marks_of}
+use Rattle.mv_agreement.proofs.Agreements.{every_write_follows_the_version_below_lem, no_version_is_at_a_fresh_timestamp_lem}
+use Rattle.mv_agreement.proofs.Stores.{every_commit_leaves_a_store_lem}
+use Rattle.mv_calls.specs.CallHistory.{CallAttempt, CallEntry, CallWorld, call_of, meaning_of, same_item}
+use Rattle.mv_calls.specs.Laws.{entry_of}
+use Rattle.mv_calls.proofs.Histories.{finished_calls_are_entries}
+use Rattle.mv_calls.proofs.SerialCalls.{items_have_an_equality}
+use Rattle.mv_shards.specs.Indexes.{shard_of}
+use Rattle.mv_shards.specs.Helds.{AreHeld, IsHeld, Places}
+use Rattle.mv_shards.specs.Shards.{Shard, versions_held}
+use Rattle.mv_shards.specs.Writing.{AreLow, AreWritten, IsLowAt, NoneForeign, committed_versions, has_timestamp, has_write_at, is_foreign, versions_for, versions_or_none}
+use Rattle.mv_parts.specs.Commits.{IsOwnCall, later, late_or, lateness_in, lateness_of, moved_item, no_version}
+use Rattle.mv_parts.specs.Commits as parts
+use Rattle.mv_parts.proofs.Commits.{held_all, low_over, over_written, versions_written}
+use Rattle.mv_parts.specs.declared.commit_fault.CommitFault.{CommitFault as PartsFault}
+use Rattle.mv_parts.specs.declared.commit_fault.CommitFault.TheVariants as parts_fault
+use Rattle.mv_core.specs.declared.faults.CommitFault.{CommitFault}
+use Rattle.mv_core.specs.declared.faults.CommitFault.TheVariants as fault
+use Rattle.mv_core.specs.Places.{IsLive, live_in}
+use Rattle.mv_core.specs.Calls.{AreMarksBelow}
+use Rattle.mv_core.specs.Commits.{IsCommitted, late_write}
+use Rattle.mv_core.specs.Stores.{CallSlots, IsKept, marks_in, shown}
+use Rattle.mv_core.proofs.Attempts.{attempt_here, live_ended, places_ended}
+use Rattle.mv_core.proofs.Events.{marks_are, once}
+use Rattle.mv_core.proofs.Held.{marks_of_places}
+use Rattle.mv_core.proofs.MarksBelow.{commit_mark, mark_after}
+
+-- ---- of lists alone
+
+agrees_unmoved : (look : Look) (reads : ItemMap) → Agrees reads look → moved_item look reads ≡ None
+agrees_unmoved look [] h = refl
+agrees_unmoved look (e ∷ es) h = ap (λ b. if b then moved_item look es else Some e.0) (ap (λ v. is_same_value v e.1) h.0 ∙ value_itself e.1) ∙ agrees_unmoved look es h.1
+
+none_at : (t : ℕ) (vs : List (Version ItemValue)) → AllByRecursion (λ v. v.timestamp ≢ t) vs → has_timestamp t vs ≡ false
+none_at t [] h = refl
+none_at t (v ∷ vs) h = by (v.timestamp == t) (equals v.timestamp t) (none_at t vs h.1)
+  where
+    by : (b : Bool) → Equals v.timestamp t b → has_timestamp t vs ≡ false → (b || has_timestamp t vs) ≡ false
+    by b (equal e) rest = absurd (h.0 e)
+    by b (unequal e) rest = rest
+
+-- a lateness by the version that is followed and its mark
+abbrev late_by : ℕ → ℕ → ℕ → Option LateVersion
+late_by t version mark = if nat_lt t mark then Some (record { version = version; mark = mark }) else None
+
+-- of two marks of one version the greater decides
+later_of : (t v m n : ℕ) → m ≤ n → later (late_by t v m) (late_by t v n) ≡ late_by t v n
+later_of t v m n h = by (nat_lt t m) (nat_lt t n) (compared t m) (compared t n)
+  where
+    both : (c : Bool) → Compared m n c → t < m
+        → ◌≡◌ {A = Option LateVersion} (if c then Some (record { version = v; mark = n }) else Some (record { version = v; mark = m })) (Some (record { version = v; mark = n }))
+    both c (less k) p = refl
+    both c (not_less k) p = ap (λ i. Some (record { version = v; mark = i })) (let same : m ≡ n = omega (arith, h, k) in same)
+
+    by : (a b : Bool) → Compared t m a → Compared t n b
+        → later (if a then Some (record { version = v; mark = m }) else None) (if b then Some (record { version = v; mark = n }) else None) ≡ (if b then Some (record { version = v; mark = n }) else None)
+    by a b (less p) (less q) = both (nat_lt m n) (compared m n) p
+    by a b (less p) (not_less q) = absurd (omega (arith, p, q, h))
+    by a b (not_less p) (less q) = refl
+    by a b (not_less p) (not_less q) = refl
+
+-- a mark that is there already is not raised
+no_more : (f t n m : ℕ) (same : Bool) → Equals f n same → (f ≡ n → t ≤ m) → (if same then max m t else m) ≡ m
+no_more f t n m same (equal e) high = let above = high e in omega (arith, above)
+no_more f t n m same (unequal e) high = refl
+
+abbrev as_parts : CommitFault → PartsFault
+as_parts fault.Unknown = parts_fault.Unknown
+as_parts fault.Stranger = parts_fault.Stranger
+as_parts (fault.Late x version mark) = parts_fault.Late x version mark
+
+module _ (base : Ledger) (header : Header) (calls : List CallData) (w : CallWorld) (places : Places) (slots : CallSlots) (k : IsKept base header calls w places slots) (n : ℕ) (a : CallAttempt) (above : 0 < n) (inside : n - 1 < length slots) (here : get_or slots (n - 1) None ≡ Some a) where
+  is_here : (IsLive w.live n a.timestamp) × (a.number ≡ n) × (attempt_at a.timestamp (live_in slots w.live) ≡ Some a)
+  is_here = attempt_here slots w.live n a above inside here k.attempts
+
+  pub from : w.low ≤ a.timestamp
+  from = found_attempt (λ (b : CallAttempt). w.low ≤ b.timestamp) a.timestamp a (live_in slots w.live) is_here.2 k.store.consistent.schedule.low_live
+
+  pub positive : 0 < a.timestamp
+  positive = (found_attempt (λ (b : CallAttempt). (0 < b.timestamp) × (b.timestamp ≤ w.clock)) a.timestamp a (live_in slots w.live) is_here.2 k.store.consistent.schedule.live_past).0
+
+  pub fresh : AllByRecursion (λ g. g.timestamp ≢ a.timestamp) w.entries
+  fresh = found_attempt (λ (b : CallAttempt). AllByRecursion (λ g. g.timestamp ≢ b.timestamp) w.entries) a.timestamp a (live_in slots w.live) is_here.2 k.store.consistent.schedule.live_fresh
+
+  agrees : Agrees a.reads (state_below same_item (at base) w.entries a.timestamp)
+  agrees = found_attempt (λ (b : CallAttempt). Agrees b.reads (state_below same_item (at base) w.entries b.timestamp)) a.timestamp a (live_in slots w.live) is_here.2 k.store.consistent.schedule.live_agree
+
+  marked : AreMarked same_item (at base) (marks_of (versions_for places)) w.entries a.timestamp a.reads
+  marked = found_attempt (λ (b : CallAttempt). AreMarked same_item (at base) (marks_of (versions_for places)) w.entries b.timestamp b.reads) a.timestamp a (live_in slots w.live) is_here.2 k.store.consistent.schedule.live_marked
+
+  absent : (x : Item) → AllByRecursion (λ v. v.timestamp ≢ a.timestamp) (versions_for places x)
+  absent x = no_version_is_at_a_fresh_timestamp_lem Item ItemValue Outcome ItemValue (λ value. value) same_item (at base) w.low w.entries x (versions_for places x) (k.store.holds x) k.store.consistent.journal.rising a.timestamp positive fresh
+
+  -- ---- no read has moved, and no shard is foreign
+
+  pub unmoved : moved_item (state_below same_item (at base) w.entries a.timestamp) a.reads ≡ None
+  unmoved = agrees_unmoved (state_below same_item (at base) w.entries a.timestamp) a.reads agrees
+
+  no_write_at : (i : ℕ) (s : Shard) → get_or places i None ≡ Some s → (writes : ItemMap) → has_write_at i a.timestamp writes s ≡ false
+  no_write_at i s there [] = refl
+  no_write_at i s there (e ∷ es) = by (shard_of e.0 == i) (equals (shard_of e.0) i) (no_write_at i s there es)
+    where
+      by : (b : Bool) → Equals (shard_of e.0) i b → has_write_at i a.timestamp es s ≡ false → ((b && has_timestamp a.timestamp (versions_held s e.0)) || has_write_at i a.timestamp es s) ≡ false
+      by b (equal h) rest =
+          let own : AllByRecursion (λ v. v.timestamp ≢ a.timestamp) (versions_held s e.0) = subst (λ o. AllByRecursion (λ v. v.timestamp ≢ a.timestamp) (versions_or_none o e.0)) (ap (λ j. get_or places j None) h ∙ there) (absent e.0) in
+          ap (λ c. c || has_write_at i a.timestamp es s) (none_at a.timestamp (versions_held s e.0) own) ∙ rest
+      by b (unequal h) rest = rest
+
+  pub none_foreign : (writes : ItemMap) → NoneForeign a.timestamp writes places
+  none_foreign writes i = by (get_or places i None) refl (low_over base w.low a.timestamp places k.shards from i)
+    where
+      low_first : (s : Shard) → s.low ≤ a.timestamp → (b : Bool) → Compared a.timestamp s.low b → has_write_at i a.timestamp writes s ≡ false → (b || has_write_at i a.timestamp writes s) ≡ false
+      low_first s low b (less h) none = absurd (omega (arith, low, h))
+      low_first s low b (not_less h) none = none
+
+      by : (o : Option Shard) → get_or places i None ≡ o → IsLowAt a.timestamp o → is_foreign i a.timestamp writes o ≡ false
+      by None there low = refl
+      by (Some s) there low = low_first s low (nat_lt a.timestamp s.low) (compared a.timestamp s.low) (no_write_at i s there writes)
+
+  -- ---- writes that are late
+
+  abbrev followed : Item → ℕ
+  followed x = (version_below same_item (at base) w.entries (suc a.timestamp) x).0
+
+  found_late : (all : Places) (low : ℕ) → HoldEntries (λ value. value) same_item (at base) low w.entries (versions_for all) → low ≤ a.timestamp → (x : Item) → lateness_in all a.timestamp x ≡ late_by a.timestamp (followed x) (mark_in (followed x) (versions_for all x))
+  found_late all low holds below x =
+      let time : (newest_at a.timestamp (versions_for all x) no_version).timestamp ≡ followed x = ((holds x).found a.timestamp no_version below).timestamp in
+      let mark : (newest_at a.timestamp (versions_for all x) no_version).mark ≡ mark_in (followed x) (versions_for all x) = every_write_follows_the_version_below_lem Item ItemValue Outcome ItemValue (λ value. value) same_item (at base) low w.entries x (versions_for all x) (holds x) a.timestamp no_version below in
+      λ i. late_by a.timestamp (time i) (mark i)
+
+  module _ (index : Places) (holds_index : HoldEntries (λ value. value) same_item (at base) 0 w.entries (versions_for index)) (below : AreMarksBelow base w.low w.entries (versions_for index) (versions_for places)) where
+    -- the mark that decides is the world's
+    late_here : (x : Item) → lateness_of index places a.timestamp x ≡ late_by a.timestamp (followed x) (greatest_mark same_item (marks_in places) x (followed x))
+    late_here x =
+        let reached : (version_below same_item (at base) w.entries (suc w.low) x).0 ≤ followed x = version_below-monotone same_item (at base) (suc w.low) (suc a.timestamp) w.entries x (omega (arith, from)) k.store.consistent.journal.rising in
+        (λ i. later (found_late index 0 holds_index (omega arith) x i) (found_late places w.low k.store.holds from x i))
+        ∙ later_of a.timestamp (followed x) (mark_in (followed x) (versions_for index x)) (mark_in (followed x) (versions_for places x)) (below x (followed x) reached)
+        ∙ ap (late_by a.timestamp (followed x)) (sym (marks_are base header calls w places slots k x (followed x)))
+
+    late_same : (writes : ItemMap) → parts.late_write index places a.timestamp writes ≡ option_map as_parts (late_write (shown base header calls w places slots) a.timestamp writes)
+    late_same [] = refl
+    late_same (e ∷ es) =
+        (λ i. late_or e.0 (late_here e.0 i) (late_same es i))
+        ∙ by (nat_lt a.timestamp (greatest_mark same_item (marks_in places) e.0 (followed e.0))) (late_write (shown base header calls w places slots) a.timestamp es)
+      where
+        mark : ℕ
+        mark = greatest_mark same_item (marks_in places) e.0 (followed e.0)
+
+        by : (b : Bool) (rest : Option CommitFault) → late_or e.0 (if b then Some (record { version = followed e.0; mark = mark }) else None) (option_map as_parts rest) ≡ option_map as_parts (if b then Some (fault.Late e.0 (followed e.0) mark) else rest)
+        by true rest = refl
+        by false rest = refl
+
+    pub in_time_here : (writes : ItemMap) → parts.late_write index places a.timestamp writes ≡ None → late_write (shown base header calls w places slots) a.timestamp writes ≡ None
+    in_time_here writes none = by (late_write (shown base header calls w places slots) a.timestamp writes) (sym (late_same writes) ∙ none)
+      where
+        by : (o : Option CommitFault) → option_map as_parts o ≡ None → o ≡ None
+        by None h = refl
+        by (Some f) h = absurd cc
+
+    pub late_shown : (writes : ItemMap) (x : Item) (version mark : ℕ) → parts.late_write index places a.timestamp writes ≡ Some (parts_fault.Late x version mark)
+        → late_write (shown base header calls w places slots) a.timestamp writes ≡ Some (fault.Late x version mark)
+    late_shown writes x version mark is = by (late_write (shown base header calls w places slots) a.timestamp writes) (sym (late_same writes) ∙ is)
+      where
+        by : (o : Option CommitFault) → option_map as_parts o ≡ Some (parts_fault.Late x version mark) → o ≡ Some (fault.Late x version mark)
+        by None h = absurd cc
+        by (Some fault.Unknown) h = absurd cc
+        by (Some fault.Stranger) h = absurd cc
+        by (Some (fault.Late y v m)) h =
+            let item : y ≡ x = cc in
+            let at_version : v ≡ version = cc in
+            let at_mark : m ≡ mark = cc in
+            λ i. Some (fault.Late (item i) (at_version i) (at_mark i))
+
+  -- ---- the commit
+
+  module _ (f : CallRecord) (fin : IsFinished f) (own : IsOwnCall calls header a f) (in_time : late_write (shown base header calls w places slots) a.timestamp f.writes ≡ None) (new : Places) (written : AreWritten a.timestamp a.reads f.writes places new) where
+    abbrev e : CallEntry
+    e = entry_of a.timestamp n f
+
+    in_time_by : (writes : ItemMap) → late_write (shown base header calls w places slots) a.timestamp writes ≡ None
+        → AllByRecursion (λ write. marks_of (versions_for places) write.0 (version_below same_item (at base) w.entries (suc a.timestamp) write.0).0 ≤ a.timestamp) writes
+    in_time_by [] none = tt
+    in_time_by (x ∷ xs) none = by (nat_lt a.timestamp (greatest_mark same_item (marks_in places) x.0 (followed x.0))) (compared a.timestamp (greatest_mark same_item (marks_in places) x.0 (followed x.0))) none (in_time_by xs)
+      where
+        by : (b : Bool) → Compared a.timestamp (greatest_mark same_item (marks_in places) x.0 (followed x.0)) b
+            → (if b then Some (fault.Late x.0 (followed x.0) (greatest_mark same_item (marks_in places) x.0 (followed x.0))) else late_write (shown base header calls w places slots) a.timestamp xs) ≡ None
+            → (late_write (shown base header calls w places slots) a.timestamp xs ≡ None → AllByRecursion (λ write. marks_of (versions_for places) write.0 (version_below same_item (at base) w.entries (suc a.timestamp) write.0).0 ≤ a.timestamp) xs)
+            → AllByRecursion (λ write. marks_of (versions_for places) write.0 (version_below same_item (at base) w.entries (suc a.timestamp) write.0).0 ≤ a.timestamp) (x ∷ xs)
+        by b (less h) never others = absurd cc
+        by b (not_less h) rest others =
+            (subst (λ m. m ≤ a.timestamp) (marks_are base header calls w places slots k x.0 (followed x.0)) (let low : greatest_mark same_item (marks_in places) x.0 (followed x.0) ≤ a.timestamp = omega (arith, h) in low), others rest)
+
+    checked : IsCheckedCommit same_item IsOfLedger (meaning_of header calls) (at base) (marks_of (versions_for places)) w.entries a e
+    checked = record {
+      number = sym is_here.1;
+      finished = subst (λ h. history.IsFinished same_item IsOfLedger (meaning_of h calls) e) own.header_same (finished_calls_are_entries calls f a.timestamp n fin (ap (call_of calls) (sym is_here.1) ∙ own.call));
+      agrees = subst (λ reads. Agrees reads (state_below same_item (at base) w.entries a.timestamp)) (sym own.reads) agrees;
+      in_time = in_time_by f.writes in_time;
+    }
+
+    pub versions_new : (x : Item) → versions_for new x ≡ after_entry (λ value. value) same_item e (versions_for places) x
+    versions_new x =
+        versions_written a.timestamp a.reads f.writes places new written x (held_all base w.low places k.shards x)
+        ∙ ap (λ reads. committed_versions a.timestamp reads f.writes x (versions_for places x)) (sym own.reads)
+
+    live_new : live_in (set slots (n - 1) None) (attempts_without a.timestamp w.live) ≡ attempts_without a.timestamp (live_in slots w.live)
+    live_new = live_ended slots w.live n a.timestamp above is_here.0 (once base header calls w places slots k n)
+
+    store_new : IsStore (λ value. value) same_item IsOfLedger (meaning_of header calls) (at base) w.low w.clock w.low (entries_with e w.entries) (live_in (set slots (n - 1) None) (attempts_without a.timestamp w.live)) (versions_for new)
+    store_new =
+        subst (λ live. IsStore (λ value. value) same_item IsOfLedger (meaning_of header calls) (at base) w.low w.clock w.low (entries_with e w.entries) live (versions_for new)) (sym live_new)
+        (every_commit_leaves_a_store_lem Item ItemValue Outcome ItemValue IsOfLedger (λ value. value) same_item items_have_an_equality (meaning_of header calls) (at base) w.low w.clock w.low w.entries (live_in slots w.live) (versions_for places) (versions_for new)
+        k.store a e is_here.2 checked from versions_new)
+
+    -- what it read is marked already
+    marked_read : (x : Item) → (reads : ItemMap) → AreMarked same_item (at base) (marks_of (versions_for places)) w.entries a.timestamp reads → (m : ℕ)
+        → mark_after (lookup (same_item x) reads) (followed x) a.timestamp m (mark_in m (versions_for places x)) ≡ mark_in m (versions_for places x)
+    marked_read x [] h m = refl
+    marked_read x (r ∷ rs) h m = by (same_item x r.0) refl (marked_read x rs h.1 m)
+      where
+        by : (b : Bool) → same_item x r.0 ≡ b
+            → mark_after (lookup (same_item x) rs) (followed x) a.timestamp m (mark_in m (versions_for places x)) ≡ mark_in m (versions_for places x)
+            → mark_after (if b then Some r.1 else lookup (same_item x) rs) (followed x) a.timestamp m (mark_in m (versions_for places x)) ≡ mark_in m (versions_for places x)
+        by true same rest =
+            no_more (followed x) a.timestamp m (mark_in m (versions_for places x)) (followed x == m) (equals (followed x) m)
+            (λ at_m. subst (λ i. a.timestamp ≤ mark_in i (versions_for places x)) at_m
+            (subst (λ v. a.timestamp ≤ mark_in v.0 (versions_for places x)) (sym (next_below same_item a.timestamp w.entries x (0, at base x) fresh))
+            (subst (λ y. a.timestamp ≤ mark_in (version_below same_item (at base) w.entries a.timestamp y).0 (versions_for places y)) (sym (items_have_an_equality.exact x r.0 same)) h.0)))
+        by false other rest = rest
+
+    pub kept_committed : IsKept base header calls (after_commit w e) new (set slots (n - 1) None) × IsCommitted (shown base header calls w places slots) (shown base header calls (after_commit w e) new (set slots (n - 1) None)) n a.timestamp f
+    kept_committed = (
+      record {
+        orderly = k.orderly;
+        store = store_new;
+        shards = over_written base w.low a.timestamp a.reads f.writes places new written k.shards;
+        are_calls = all_with same_item (λ (g : CallEntry). IsSome (call_of calls g.number)) e w.entries (subst IsSome (sym own.call ∙ ap (call_of calls) is_here.1) refl) k.are_calls;
+        live_calls = all_without (λ (b : CallAttempt). (0 < b.number) × (b.number ≤ length calls)) a.timestamp w.live k.live_calls;
+        count = length-set slots (n - 1) None ∙ k.count;
+        attempts = places_ended slots w.live n a.timestamp above inside is_here.0 (once base header calls w places slots k n) k.attempts;
+      },
+      record {
+        event = record { clock = refl; low = refl; entries = refl; live = live_new; marks = λ x m counts. same_marks x m };
+        versions = versions_new;
+        others = refl;
+      },
+    )
+      where
+        same_marks : (x : Item) (m : ℕ) → greatest_mark same_item (marks_in new) x m ≡ greatest_mark same_item (marks_in places) x m
+        same_marks x m =
+            marks_of_places new (λ y. (store_new.holds y).chain) x m ∙ ap (mark_in m) (versions_new x)
+            ∙ commit_mark base w.entries k.store.consistent.journal.rising e positive fresh w.low (versions_for places) k.store.holds from x m
+            ∙ ap (λ reads. mark_after (lookup (same_item x) reads) (followed x) a.timestamp m (mark_in m (versions_for places x))) own.reads ∙ marked_read x a.reads marked m
+            ∙ sym (marks_are base header calls w places slots k x m)
