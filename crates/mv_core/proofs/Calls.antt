@@ -25,6 +25,8 @@ use Rattle.mv_parts.specs.Journals.{IsBeginRefusal, IsOfNumber, IsOver, Journal,
 use Rattle.mv_parts.proofs.Opens.{index_within}
 use Rattle.mv_shards.specs.Writing.{versions_for}
 use Rattle.mv_core.specs.Places.{IsLive, IsNowhere, IsPlaced, live_in}
+use Rattle.mv_core.specs.declared.faults.ReadFault.{ReadFault as StoreReadFault}
+use Rattle.mv_core.specs.declared.faults.ReadFault.TheVariants.{Unknown}
 use Rattle.mv_core.specs.Calls.{AreMarksBelow, IsKeptBy, as_journal, shown_by}
 use Rattle.mv_core.specs.Stores.{CallSlots, IsFirstRead, IsPrune, IsPrunedFor, IsPrunedPlace, IsReadAgain, IsReadPlace, Store}
 use Rattle.mv_core.proofs.Attempts.{attempt_here, count_in, live_here, live_there, not_live_none, not_live_other}
@@ -206,3 +208,6 @@ module _ (j : Journal) (places : Places) (slots : CallSlots) where
 -- the shards refuse for one reason alone
 pub only_pruned : (r : ReadFault) → r ≡ Pruned
 only_pruned Pruned = refl
+
+pub only_unknown : (r : StoreReadFault) → r ≡ Unknown
+only_unknown Unknown = refl

@@ -18,6 +18,7 @@ use Rattle.mv_chain.specs.Versions.{IsChain, mark_in, newest_at, oldest_timestam
 use Rattle.mv_chain.proofs.Marks.{every_prune_keeps_marks_lem, every_read_raises_one_mark_lem}
 use Rattle.mv_history.specs.History.{commit_count, version_below}
 use Rattle.mv_history.specs.Schedule.{IsConsistent, IsConsistentWorld, IsSchedule}
+use Rattle.mv_history.specs.SameWorlds.{HaveSameMarks}
 use Rattle.mv_history.specs.World.{IsLowerBound, KeepsNeededMarks, after_abandon, after_begin, after_prune, after_read, attempt_at, attempts_with_read, attempts_without, fresh_attempt, greatest_mark, live_count, low_after_prune, lowest_live}
 use Rattle.mv_history.proofs.Attempts.{all_without, found_attempt, lowest_live-at_most, pruned_below}
 use Rattle.mv_history.proofs.Events.{schedule_after_abandon, schedule_after_begin}
@@ -265,8 +266,9 @@ module _ (base : Ledger) (header : Header) (calls : List CallData) (w : CallWorl
     bound = subst (λ h. IsLowerBound h (live_in slots w.live)) same_low (pruned_below w.low (min t w.clock) (live_in slots w.live) k.store.consistent.schedule.low_live)
 
     -- what is seen, where the marks are kept that count
-    pruned_world : KeepsNeededMarks same_item (at base) (low_after_prune w t) w.entries (marks_in places) (marks_in new) → IsPrune (shown base header calls w places slots) (shown base header calls (record w { low = low_after_prune w t }) new slots) t
-    pruned_world needed = record {
+    pruned_world : HaveSameMarks same_item (at base) (low_after_prune w t) w.entries (marks_in places) (marks_in new) → KeepsNeededMarks same_item (at base) (low_after_prune w t) w.entries (marks_in places) (marks_in new) → IsPrune (shown base header calls w places slots) (shown base header calls (record w { low = low_after_prune w t }) new slots) t
+    pruned_world same needed = record {
+      same = same;
       event = ap (λ l. record { clock = w.clock; low = l; entries = w.entries; marks = marks_in new; live = live_in slots w.live }) (sym same_low);
       marks = needed;
       others = refl;
@@ -320,7 +322,7 @@ module _ (base : Ledger) (header : Header) (calls : List CallData) (w : CallWorl
           count = k.count;
           attempts = k.attempts;
         },
-        pruned_world (record { kept_or_dropped = kept_or_dropped; needed = needed }),
+        pruned_world (λ x n counts. marks_are x n ∙ sym (raised_store.1 x n counts) ∙ sym (new_marks x n)) (record { kept_or_dropped = kept_or_dropped; needed = needed }),
       )
 
     -- a low mark that does not rise changes nothing
@@ -352,7 +354,7 @@ module _ (base : Ledger) (header : Header) (calls : List CallData) (w : CallWorl
               count = k.count;
               attempts = k.attempts;
             }),
-        pruned_world (record { kept_or_dropped = λ x n. inl (same_marks x n); needed = λ x u above. same_marks x (version_below same_item (at base) w.entries (suc u) x).0 }),
+        pruned_world (λ x n counts. sym (same_marks x n)) (record { kept_or_dropped = λ x n. inl (same_marks x n); needed = λ x u above. same_marks x (version_below same_item (at base) w.entries (suc u) x).0 }),
       )
 
     -- the marks of the versions that are left

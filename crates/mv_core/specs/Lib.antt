@@ -4,3 +4,4 @@ pub mod Stores
 pub mod Laws
 pub mod Calls
 pub mod Commits
+pub mod Worlds

@@ -11,7 +11,7 @@ use Rattle.avm_items.specs.LedgerItems.{at}
 use Rattle.avm_laws.specs.Orderly.{IsOrderly}
 use Rattle.avm_laws.specs.LedgerLooks.{IsOfLedger}
 use Rattle.mv_history.specs.History.{version_below}
-use Rattle.mv_history.specs.SameWorlds.{IsSameWorld}
+use Rattle.mv_history.specs.SameWorlds.{HaveSameMarks, IsSameWorld}
 use Rattle.mv_history.specs.World.{Mark, KeepsNeededMarks, after_prune, after_read, attempt_at}
 use Rattle.mv_agreement.specs.Stores.{IsStore, after_item_read}
 use Rattle.mv_calls.specs.CallHistory.{CallAttempt, CallWorld, meaning_of, same_item}
@@ -94,9 +94,10 @@ pub record IsReadAgain (old new : Store) (n t : ℕ) (x : Item) (v : ItemValue) 
   pub unchanged : new ≡ old
 
 -- The low mark rises, as far as the live attempts allow. Of the marks only those may be missing that no one from there on
--- asks for.
+-- asks for: those of versions below the newest at the low mark.
 pub record IsPrune (old new : Store) (t : ℕ) : Type 0 where
   pub event : new.world ≡ after_prune old.world t new.world.marks
+  pub same : HaveSameMarks same_item (at old.base) new.world.low old.world.entries old.world.marks new.world.marks
   pub marks : KeepsNeededMarks same_item (at old.base) new.world.low old.world.entries old.world.marks new.world.marks
   pub others : new ≡ record old { world = new.world; places = new.places }
 

@@ -9,18 +9,24 @@
 ghost use Rattle.mv_core.specs.Laws.{EveryAbandonLeavesAStore, EveryBeginLeavesAStore, EveryMarkIsAVersions, EveryPruneLeavesAStore, EveryReadLeavesAStore};
 
 mod committing;
+mod event_list;
 mod faults;
 mod opening;
 mod reading;
+mod steps;
 mod store;
 mod ticket;
+mod world;
 
+pub use event_list::run_events;
 pub use faults::{
     AbandonFault, CommitError, CommitFault, ReadError, ReadFault, RefusedCommit, StateError,
     StateFault,
 };
+pub use mv_running::Event;
 pub use store::Store;
 pub use ticket::Ticket;
+pub use world::{Worker, World};
 
 /// The events of calls leave a store, and make of the world that is seen what they mean: beginnings, reads, abandoned
 /// attempts and prunes.

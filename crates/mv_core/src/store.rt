@@ -8,7 +8,7 @@ ghost use Rattle.mv_history.specs.History.{entries_below};
 ghost use Rattle.mv_history.specs.Schedule.{IsConsistentWorld};
 ghost use Rattle.mv_history.specs.World.{after_abandon, after_begin};
 ghost use Rattle.mv_agreement.specs.Stores.{HoldEntries};
-ghost use Rattle.mv_calls.specs.CallHistory.{meaning_of, same_item};
+ghost use Rattle.mv_calls.specs.CallHistory.{call_of, meaning_of, same_item};
 ghost use Rattle.mv_calls.specs.SerialCalls.{AreSerialCalls, ledger_of};
 ghost use Rattle.mv_shards.specs.Writing.{versions_for};
 ghost use Rattle.mv_parts.specs.Journals.{IsBeginRefusal, begin_fault};
@@ -16,6 +16,7 @@ ghost use Rattle.mv_core.specs.declared.faults.ReadFault.TheVariants.{Unknown};
 ghost use Rattle.mv_core.specs.declared.faults.StateFault.TheVariants.{Pruned};
 ghost use Rattle.mv_core.specs.Places.{IsLive};
 ghost use Rattle.std.specs.Arc.{arc_value};
+ghost use Rattle.std.specs.Option.{option_copied};
 ghost use Rattle.avm_laws.specs.Orderly.{IsOrderly};
 ghost use Rattle.mv_parts.specs.Opening.{IsOpenRefusal, open_fault};
 ghost use Rattle.mv_core.specs.Calls.{as_journal, first_store};
@@ -208,6 +209,13 @@ impl Store {
         ensures { result.now ≡ self.now.header }
     {
         self.journal.header()
+    }
+
+    /// The call of a number, from 1.
+    pub fn call(&self, number: u32) -> Option<&Call>
+        ensures { option_copied result ≡ call_of self.now.calls number }
+    {
+        self.journal.call(number)
     }
 
     /// What every store keeps: its committed calls, by rising timestamp, are those of one thread, and each version that it

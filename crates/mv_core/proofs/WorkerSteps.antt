@@ -1,0 +1,252 @@
+-- One event of one worker, against what it means.
+use Rattle.std.proofs.Common.{◌≡◌, ℕ, suc, ◌+◌, ◌<◌, ◌≤◌, ◌==◌, ◌&&◌, not, Bool, true, false, nat_lt, nat_le, if◌then◌else◌, List, [], ◌∷◌, length, map, Option, None, Some, Result, Ok, Err, get_or, set, slice_set, refl, sym, ap, ◌∙◌, subst, arith, inl, inr}
+use Rattle.std.specs.Prelude.{◌⊎◌, ◌^◌, is_none, is_some, option_map}
+use Rattle.std.specs.List.{AllByRecursion}
+use Rattle.std.proofs.lemmas.List.{map-set, length-map}
+use Rattle.avm_items.specs.declared.item.Item.{Item}
+use Rattle.avm_items.specs.declared.item_value.ItemValue.{ItemValue}
+use Rattle.avm_items.specs.Asks.{Answer, answer_from}
+use Rattle.avm_items.specs.Items.{ItemMap, value_in, with_item}
+use Rattle.avm_items.specs.LedgerItems.{at, pruned, value_before}
+use Rattle.avm_items.specs.Locality.{then}
+use Rattle.avm_call.specs.Calls.{CallResult, call_result}
+use Rattle.avm_run.specs.Advances.{Supplies}
+use Rattle.avm_run.specs.Results.{CallRecord, with_changes}
+use Rattle.avm_run.specs.RunState.{Progress}
+use Rattle.mv_history.specs.History.{version_below}
+use Rattle.mv_history.specs.SameWorlds.{HaveSameMarks, IsSameWorld}
+use Rattle.mv_history.specs.World.{after_abandon, after_begin, after_commit, after_prune, after_read, attempt_at, fresh_attempt, greatest_mark}
+use Rattle.mv_history.proofs.Lists.{Compared, less, not_less, compared}
+use Rattle.mv_history.proofs.SameWorlds.{same_world-itself, same_world-sym}
+use Rattle.mv_calls.specs.CallHistory.{CallAttempt, CallEntry, CallWorld, call_of, same_item}
+use Rattle.mv_calls.specs.Laws.{entry_of}
+use Rattle.mv_running.specs.declared.Event.{Event}
+use Rattle.mv_running.specs.declared.Event.TheVariants as event
+use Rattle.mv_running.specs.Laws.{IsSameRunning}
+use Rattle.mv_running.specs.Running.{RunInput, Running, answer_of, by_worker, commit_by, entry_by, may_begin, place_of, read_by, running_after, with_worker, worker_at, writes_in_time}
+use Rattle.mv_core.specs.declared.faults.CommitFault.{CommitFault}
+use Rattle.mv_core.specs.declared.faults.CommitFault.TheVariants as fault
+use Rattle.mv_core.specs.declared.ticket.Ticket.{Ticket}
+use Rattle.mv_core.specs.declared.world.Worker.{Worker}
+use Rattle.mv_core.specs.declared.world.Worker.TheVariants as worker
+use Rattle.mv_core.specs.Commits.{late_write}
+use Rattle.mv_core.specs.Places.{IsLive}
+use Rattle.mv_core.specs.Stores.{IsFirstRead, IsPrune, IsReadAgain, Store}
+use Rattle.mv_core.specs.Worlds.{AreSound, AsksFor, AsksNext, EndsNow, HasEnded, IsAbandonBy, IsAdvanced, IsBegun, IsBegunBy, IsCommit, IsCommitBy, IsLiveIfAny, IsLiveWith, IsRead, IsReadBy, IsSound, IsStep, IsWork, attempt_by, attempt_of, input_of, may_begin_call, reads_or_none, running_of, ticket_of, worker_in}
+
+some_is : {X : Type 0} {a b : X} → Some a ≡ Some b → a ≡ b
+some_is e = cc
+
+-- ---- a worker reads
+
+pub record ReadsOn (old new : Store) (ticket : Ticket) (run : Option Progress) (x : Item) (after : Worker) : Type 0 where
+  pub read : IsRead old new (attempt_by ticket (reads_or_none run)) x (attempt_of after)
+  pub sound : IsSound (input_of old) after
+
+module _ (old new : Store) (ticket : Ticket) (x : Item) (v : ItemValue) (p : Progress) (asks : AsksFor (input_of old) ticket (Some p) x) (live : IsLiveWith old (attempt_by ticket p.reads)) where
+  supplied : Progress
+  supplied = record { call = p.call; header = p.header; reads = with_item p.reads x v; asked = None; steps = p.steps }
+
+  same_progress : p ≡ asks.progress
+  same_progress = some_is asks.goes_on
+
+  own_call : call_of old.calls ticket.number ≡ Some p.call
+  own_call = asks.call ∙ ap (λ (q : Progress). Some q.call) (sym same_progress)
+
+  own_header : p.header ≡ old.header
+  own_header = ap (λ (q : Progress). q.header) same_progress ∙ asks.header
+
+  not_supplied : value_in p.reads x ≡ None
+  not_supplied = ap (λ (q : Progress). value_in q.reads x) same_progress ∙ asks.not_supplied
+
+  went_on : (after : Worker) (run : Option Progress) → run ≡ Some (record p { reads = with_item p.reads x v; asked = None }) → IsAdvanced ticket run after
+      → v ≡ (version_below same_item (at old.base) old.world.entries (suc ticket.timestamp) x).1
+      → (attempt_of after ≡ Some (record (attempt_by ticket p.reads) { reads = with_item p.reads x (version_below same_item (at old.base) old.world.entries (suc ticket.timestamp) x).1 })) × IsSound (input_of old) after
+  went_on after None is h value = absurd cc
+  went_on worker.Idle (Some q) is h value = absurd h
+  went_on (worker.Running own run' y) (Some q) is (same, next) value =
+      let q_is : q ≡ record p { reads = with_item p.reads x v; asked = None } = some_is is in
+      let reads : next.after.reads ≡ with_item p.reads x v = next.same_reads ∙ ap (λ (r : Progress). r.reads) q_is in (
+        (λ i. Some (attempt_by (same i) (ap reads_or_none next.goes_on i))) ∙ ap (λ rs. Some (attempt_by ticket rs)) reads ∙ ap (λ u. Some (attempt_by ticket (with_item p.reads x u))) value,
+        record {
+          progress = next.after;
+          goes_on = next.goes_on;
+          call = ap (λ (t : Ticket). call_of old.calls t.number) same ∙ own_call ∙ ap Some (sym (next.same_call ∙ ap (λ (r : Progress). r.call) q_is));
+          header = next.same_header ∙ ap (λ (r : Progress). r.header) q_is ∙ own_header;
+          asked = next.asked;
+          definition = (λ i. answer_from (value_in (next.same_reads i)) (call_result (next.same_call i) (next.same_header i))) ∙ next.definition;
+          not_supplied = ap (λ rs. value_in rs y) next.same_reads ∙ next.not_supplied;
+        },
+      )
+  went_on (worker.Finished own f) (Some q) is (same, ends) value =
+      let q_is : q ≡ record p { reads = with_item p.reads x v; asked = None } = some_is is in
+      let reads : f.reads ≡ with_item p.reads x v = ends.same_reads ∙ ap (λ (r : Progress). r.reads) q_is in (
+        (λ i. Some (attempt_by (same i) (reads i))) ∙ ap (λ u. Some (attempt_by ticket (with_item p.reads x u))) value,
+        record {
+          call = ap (λ (t : Ticket). call_of old.calls t.number) same ∙ own_call ∙ ap Some (sym (ends.same_call ∙ ap (λ (r : Progress). r.call) q_is));
+          header = ends.same_header ∙ ap (λ (r : Progress). r.header) q_is ∙ own_header;
+          finished = ends.finished;
+        },
+      )
+
+  first_read : IsFirstRead old new ticket.number ticket.timestamp x v → (after : Worker) (run : Option Progress) → run ≡ Some (record p { reads = with_item p.reads x v; asked = None }) → IsAdvanced ticket run after → ReadsOn old new ticket (Some p) x after
+  first_read read after run is h =
+      let own : read.attempt ≡ attempt_by ticket p.reads = some_is (sym read.live ∙ live) in
+      let on = went_on after run is h read.value in
+      record {
+        read = record {
+          input = ap input_of read.others;
+          event = subst (λ (a : CallAttempt). IsSameWorld same_item (at old.base) new.world (after_read same_item (at old.base) old.world ticket.timestamp (place_of a.reads x) x)) own read.event;
+          joins = on.0;
+        };
+        sound = on.1;
+      }
+
+  never_again : IsReadAgain old new ticket.number ticket.timestamp x v → ⊥
+  never_again read =
+      let own : read.attempt ≡ attempt_by ticket p.reads = some_is (sym read.live ∙ live) in
+      let known : value_in p.reads x ≡ Some v = ap (λ (a : CallAttempt). value_in a.reads x) (sym own) ∙ read.known in
+      never (sym not_supplied ∙ known)
+    where
+      never : None ≡ Some v → ⊥
+      never e = cc
+
+pub reads_on : (old new : Store) (ticket : Ticket) (run : Option Progress) (x y : Item) (v : ItemValue) (supplied : Option Progress) → AsksFor (input_of old) ticket run x → IsLiveWith old (attempt_by ticket (reads_or_none run)) → y ≡ x
+    → (IsFirstRead old new ticket.number ticket.timestamp y v ⊎ IsReadAgain old new ticket.number ticket.timestamp y v) → Supplies run supplied x v None → (after : Worker) → IsAdvanced ticket supplied after → ReadsOn old new ticket run x after
+reads_on old new ticket None x y v supplied asks live same read supplies after h = absurd (never asks.goes_on)
+  where
+    never : None ≡ Some asks.progress → ⊥
+    never e = cc
+reads_on old new ticket (Some p) x y v supplied asks live same (inl first) supplies after h =
+    first_read old new ticket x v p asks live (subst (λ z. IsFirstRead old new ticket.number ticket.timestamp z v) same first) after supplied supplies.1 h
+reads_on old new ticket (Some p) x y v supplied asks live same (inr again) supplies after h = absurd (never_again old new ticket x v p asks live (subst (λ z. IsReadAgain old new ticket.number ticket.timestamp z v) same again))
+
+pub ticket_live : (s : Store) (o : Option CallAttempt) (t : Ticket) → option_map ticket_of o ≡ Some t → IsLiveIfAny s o → IsLive s.world.live t.number t.timestamp
+ticket_live s None t is live = absurd cc
+ticket_live s (Some a) t is live = subst (λ (u : Ticket). IsLive s.world.live u.number u.timestamp) (some_is is) (record { attempt = a; live = live; number = refl })
+
+-- ---- at a worker's place
+
+at_map : (ws : List Worker) (i : ℕ) (d : Worker) → i < length ws → d ≡ get_or ws i d → get_or (map attempt_of ws) i None ≡ attempt_of d
+at_map [] i d inside is = absurd (omega (arith, inside))
+at_map (w ∷ ws) 0 d inside is = ap attempt_of (sym is)
+at_map (w ∷ ws) (suc i) d inside is = at_map ws i d (omega (arith, inside)) is
+
+sound_at : (input : RunInput) (ws : List Worker) (i : ℕ) (d : Worker) → i < length ws → d ≡ get_or ws i d → AreSound input ws → IsSound input d
+sound_at input [] i d inside is h = absurd (omega (arith, inside))
+sound_at input (w ∷ ws) 0 d inside is h = subst (IsSound input) (sym is) h.0
+sound_at input (w ∷ ws) (suc i) d inside is h = sound_at input ws i d (omega (arith, inside)) is h.1
+
+sound_set : (input : RunInput) (ws : List Worker) (i : ℕ) (w : Worker) → AreSound input ws → IsSound input w → AreSound input (set ws i w)
+sound_set input [] i w h k = h
+sound_set input (v ∷ vs) 0 w h k = (k, h.1)
+sound_set input (v ∷ vs) (suc i) w h k = (h.0, sound_set input vs i w h.1 k)
+
+set_twice : (ws : List Worker) (i : ℕ) (v w : Worker) → set (set ws i v) i w ≡ set ws i w
+set_twice [] i v w = refl
+set_twice (x ∷ xs) 0 v w = refl
+set_twice (x ∷ xs) (suc i) v w = ap (λ ys. x ∷ ys) (set_twice xs i v w)
+
+set_here : {A : Type 0} (xs : List (Option A)) (i : ℕ) (o : Option A) → get_or xs i None ≡ o → i < length xs → set xs i o ≡ xs
+set_here [] i o is inside = refl
+set_here (x ∷ xs) 0 o is inside = ap (λ y. y ∷ xs) (sym is)
+set_here (x ∷ xs) (suc i) o is inside = ap (λ ys. x ∷ ys) (set_here xs i o is (omega (arith, inside)))
+
+pub live_at : (s : Store) (ws : List Worker) (i : ℕ) (d : Worker) → i < length ws → d ≡ get_or ws i d → ((w : ℕ) (a : CallAttempt) → get_or (map attempt_of ws) w None ≡ Some a → IsLiveWith s a) → IsLiveIfAny s (attempt_of d)
+live_at s ws i d inside is live = by (attempt_of d) (at_map ws i d inside is)
+  where
+    by : (o : Option CallAttempt) → get_or (map attempt_of ws) i None ≡ o → IsLiveIfAny s o
+    by None h = tt
+    by (Some a) h = live i a h
+
+pub sound_here : (input : RunInput) (ws : List Worker) (i : ℕ) (d : Worker) → i < length ws → d ≡ get_or ws i d → AreSound input ws → IsSound input d
+sound_here input ws i d inside is h = sound_at input ws i d inside is h
+
+-- ---- whether a commit is in time
+
+pub in_time_same : (s : Store) (ws : List Worker) (t : ℕ) (writes : ItemMap) → writes_in_time (input_of s) (running_of s ws) t writes ≡ not (is_some (late_write s t writes))
+in_time_same s ws t [] = refl
+in_time_same s ws t (e ∷ es) = by (nat_le mark t) (nat_lt t mark) refl refl (in_time_same s ws t es)
+  where
+    mark : ℕ
+    mark = greatest_mark same_item s.world.marks e.0 (version_below same_item (at s.base) s.world.entries (suc t) e.0).0
+
+    by : (a b : Bool) → nat_le mark t ≡ a → nat_lt t mark ≡ b → writes_in_time (input_of s) (running_of s ws) t es ≡ not (is_some (late_write s t es))
+        → (a && writes_in_time (input_of s) (running_of s ws) t es) ≡ not (is_some (if b then Some (fault.Late e.0 (version_below same_item (at s.base) s.world.entries (suc t) e.0).0 mark) else late_write s t es))
+    by true true p q rest = absurd (grind (arith, p, q))
+    by true false p q rest = rest
+    by false true p q rest = refl
+    by false false p q rest = absurd (grind (arith, p, q))
+
+-- ---- a worker's event
+
+module _ (old new : Store) (ws : List Worker) (i : ℕ) (w after : Worker) (inside : i < length ws) (is : w ≡ get_or ws i w) where
+  abbrev r : Running
+  r = running_of old ws
+
+  abbrev new_ws : List Worker
+  new_ws = set ws i after
+
+  here : worker_at r i ≡ attempt_of w
+  here = at_map ws i w inside is
+
+  new_workers : map attempt_of new_ws ≡ set (map attempt_of ws) i (attempt_of after)
+  new_workers = map-set attempt_of ws i after
+
+  stays : (e : Event) → running_after (input_of old) r e ≡ r → new ≡ old → attempt_of after ≡ attempt_of w → IsSameRunning (input_of old) (running_after (input_of old) r e) (running_of new new_ws)
+  stays e still same own = subst (λ (s : Running). IsSameRunning (input_of old) s (running_of new new_ws)) (sym still) (record {
+    world = subst (λ (s : Store). IsSameWorld same_item (at old.base) old.world s.world) (sym same) (same_world-itself same_item (at old.base) old.world);
+    workers = sym (new_workers ∙ ap (set (map attempt_of ws) i) own ∙ set_here (map attempt_of ws) i (attempt_of w) here (subst (λ n. i < n) (sym (length-map attempt_of ws)) inside));
+  })
+
+  moves : (e : Event) (v : CallWorld) (o : Option CallAttempt) → running_after (input_of old) r e ≡ with_worker r v i o → IsSameWorld same_item (at old.base) v new.world → attempt_of after ≡ o
+      → IsSameRunning (input_of old) (running_after (input_of old) r e) (running_of new new_ws)
+  moves e v o steps same own = subst (λ (s : Running). IsSameRunning (input_of old) s (running_of new new_ws)) (sym steps) (record {
+    world = same;
+    workers = sym (new_workers ∙ ap (set (map attempt_of ws) i) own);
+  })
+
+  Same : Event → Type 0
+  Same e = IsSameRunning (input_of old) (running_after (input_of old) r e) (running_of new new_ws)
+
+  record Worked (e : Event) : Type 0 where
+    input : input_of new ≡ input_of old
+    running : IsSameRunning (input_of old) (running_after (input_of old) r e) (running_of new new_ws)
+
+  -- ---- begin
+
+  there_is : nat_lt i (length (map attempt_of ws)) ≡ true
+  there_is = let many : length (map attempt_of ws) ≡ length ws = length-map attempt_of ws in grind (arith, many, inside)
+
+  may_is : (n : ℕ) → may_begin (input_of old) r i n ≡ (is_none (attempt_of w) && may_begin_call old n)
+  may_is n = (λ j. there_is j && is_none (here j) && may_begin_call old n)
+
+  begun : (n : ℕ) (o : Option CallAttempt) → attempt_of w ≡ o → (p : Option CallAttempt) → attempt_of after ≡ p → IsBegunBy old new n o p → Worked (event.Begin i n)
+  begun n (Some a) own p result (same, again) =
+      record { input = ap input_of same; running = stays (event.Begin i n) (ap (λ b. if b then with_worker r (after_begin r.world n) i (Some (fresh_attempt n (r.world.clock + 1))) else r) (may_is n ∙ ap (λ o. is_none o && may_begin_call old n) own)) same (result ∙ again ∙ sym own) }
+  begun n None own None result (same, may_not) =
+      record {
+        input = ap input_of same;
+        running = stays (event.Begin i n) (ap (λ b. if b then with_worker r (after_begin r.world n) i (Some (fresh_attempt n (r.world.clock + 1))) else r) (may_is n ∙ (λ j. is_none (own j) && may_not j))) same (result ∙ sym own);
+      }
+  begun n None own (Some a) result (fresh, same, may) =
+      record {
+        input = ap input_of same;
+        running = moves (event.Begin i n) (after_begin old.world n) (Some (fresh_attempt n (old.world.clock + 1)))
+            (ap (λ b. if b then with_worker r (after_begin r.world n) i (Some (fresh_attempt n (r.world.clock + 1))) else r) (may_is n ∙ (λ j. is_none (own j) && may j)))
+            (subst (λ (s : Store). IsSameWorld same_item (at old.base) (after_begin old.world n) s.world) (sym same) (same_world-itself same_item (at old.base) (after_begin old.world n)))
+            (result ∙ ap Some fresh);
+      }
+
+  -- ---- abandon
+
+  abandoned : (o : Option CallAttempt) → attempt_of w ≡ o → IsAbandonBy old new o (attempt_of after) → Worked (event.Abandon i)
+  abandoned None own (same, none) =
+      record { input = ap input_of same; running = stays (event.Abandon i) (ap (by_worker r (λ a. with_worker r (after_abandon r.world a.timestamp) i None)) (here ∙ own)) same (none ∙ sym own) }
+  abandoned (Some a) own (same, none) =
+      record {
+        input = ap input_of same;
+        running = moves (event.Abandon i) (after_abandon old.world a.timestamp) None (ap (by_worker r (λ a. with_worker r (after_abandon r.world a.timestamp) i None)) (here ∙ own))
+            (subst (λ (s : Store). IsSameWorld same_item (at old.base) (after_abandon old.world a.timestamp) s.world) (sym same) (same_world-itself same_item (at old.base) (after_abandon old.world a.timestamp)))
+            none;
+      }

@@ -1,0 +1,204 @@
+-- Eight workers over a store, against what their steps mean.
+use Rattle.std.specs.Prelude.{◌≡◌, ℕ, suc, ◌+◌, ◌^◌, ◌-◌, ◌==◌, ◌&&◌, Bool, true, false, nat_lt, is_some, List, [], ◌∷◌, length, get_or, map, replicate, Option, IsSome, None, Some, Err}
+use Rattle.std.specs.List.{AllByRecursion}
+use Rattle.avm_ledger.specs.declared.header.Header.{Header}
+use Rattle.avm_ledger.specs.Ledgers.{Ledger}
+use Rattle.avm_items.specs.declared.call_data.CallData.{CallData}
+use Rattle.avm_items.specs.declared.item.Item.{Item}
+use Rattle.avm_items.specs.Asks.{answer_from}
+use Rattle.avm_items.specs.Items.{ItemMap, value_in, with_item}
+use Rattle.avm_items.specs.LedgerItems.{at}
+use Rattle.avm_call.specs.Calls.{call_result}
+use Rattle.avm_run.specs.Results.{CallRecord, IsFinished}
+use Rattle.avm_run.specs.RunState.{Progress}
+use Rattle.mv_history.specs.History.{commit_count, version_below}
+use Rattle.mv_history.specs.SameWorlds.{IsSameWorld}
+use Rattle.mv_history.specs.World.{after_abandon, after_begin, after_commit, after_read, attempt_at, fresh_attempt, live_count}
+use Rattle.mv_calls.specs.CallHistory.{CallAttempt, call_of, same_item}
+use Rattle.mv_calls.specs.Laws.{entry_of}
+use Rattle.mv_running.specs.declared.Event.{Event}
+use Rattle.mv_running.specs.declared.Event.TheVariants as event
+use Rattle.mv_running.specs.Laws.{IsSameRunning}
+use Rattle.mv_running.specs.Running.{RunInput, Running, first_running, place_of, running_after, running_from}
+use Rattle.mv_core.specs.declared.ticket.Ticket.{Ticket}
+use Rattle.mv_core.specs.declared.world.Worker.{Worker}
+use Rattle.mv_core.specs.declared.world.Worker.TheVariants as worker
+use Rattle.mv_core.specs.declared.world.World.{World}
+use Rattle.mv_core.specs.Commits.{late_write}
+use Rattle.mv_core.specs.Stores.{Store}
+
+abbrev pub input_of : Store → RunInput
+input_of s = record { base = s.base; header = s.header; calls = s.calls }
+
+-- ---- what a worker has
+
+abbrev pub reads_or_none : Option Progress → ItemMap
+reads_or_none None = []
+reads_or_none (Some p) = p.reads
+
+-- the attempt of a worker, with what it has read
+abbrev pub attempt_by : Ticket → ItemMap → CallAttempt
+attempt_by ticket reads = record { number = ticket.number; timestamp = ticket.timestamp; reads = reads }
+
+abbrev pub attempt_of : Worker → Option CallAttempt
+attempt_of worker.Idle = None
+attempt_of (worker.Running ticket run asks) = Some (attempt_by ticket (reads_or_none run))
+attempt_of (worker.Finished ticket finished) = Some (attempt_by ticket finished.reads)
+
+abbrev pub ticket_of : CallAttempt → Ticket
+ticket_of a = record { number = a.number; timestamp = a.timestamp }
+
+-- the run of a call, which asks for an item that it was not supplied with
+pub record AsksFor (input : RunInput) (ticket : Ticket) (run : Option Progress) (x : Item) : Type 0 where
+  pub progress : Progress
+  pub goes_on : run ≡ Some progress
+  pub call : call_of input.calls ticket.number ≡ Some progress.call
+  pub header : progress.header ≡ input.header
+  pub asked : progress.asked ≡ Some x
+  pub definition : answer_from (value_in progress.reads) (call_result progress.call progress.header) ≡ Err x
+  pub not_supplied : value_in progress.reads x ≡ None
+
+-- the call of an attempt, which has ended
+pub record HasEnded (input : RunInput) (ticket : Ticket) (f : CallRecord) : Type 0 where
+  pub call : call_of input.calls ticket.number ≡ Some f.call
+  pub header : f.header ≡ input.header
+  pub finished : IsFinished f
+
+abbrev pub IsSound : RunInput → Worker → Type 0
+IsSound input worker.Idle = Unit {0}
+IsSound input (worker.Running ticket run asks) = AsksFor input ticket run asks
+IsSound input (worker.Finished ticket finished) = HasEnded input ticket finished
+
+abbrev pub AreSound : RunInput → List Worker → Type 0
+AreSound input workers = AllByRecursion (IsSound input) workers
+
+-- what is seen of a store and its workers
+abbrev pub running_of : Store → List Worker → Running
+running_of s workers = record { world = s.world; workers = map attempt_of workers }
+
+-- the attempt is live, with what it has read
+abbrev pub IsLiveWith : Store → CallAttempt → Type 0
+IsLiveWith s a = attempt_at a.timestamp s.world.live ≡ Some a
+
+-- each worker's attempt is
+abbrev pub AreLiveIn : Store → List Worker → Type 0
+AreLiveIn s workers = (w : ℕ) (a : CallAttempt) → get_or (map attempt_of workers) w None ≡ Some a → IsLiveWith s a
+
+-- ---- steps
+
+-- one step of one worker
+pub record IsStep (e : Event) (old new : Store) (workers new_workers : List Worker) : Type 0 where
+  pub input : input_of new ≡ input_of old
+  pub running : IsSameRunning (input_of old) (running_after (input_of old) (running_of old workers) e) (running_of new new_workers)
+  pub sound : AreSound (input_of old) new_workers
+
+-- a store and workers that events lead to
+pub record IsRunTo (input : RunInput) (events : List Event) (s : Store) (workers : List Worker) : Type 0 where
+  pub input_is : input_of s ≡ input
+  pub running : IsSameRunning input (running_from input first_running events) (running_of s workers)
+  pub sound : AreSound input workers
+
+abbrev pub IsRun : RunInput → List Event → World → Type 0
+IsRun input events w = IsRunTo input events w.store w.workers.items
+
+-- ---- by parts
+
+-- so many workers, each idle
+pub record AreIdle (count : ℕ) (workers : List Worker) : Type 0 where
+  pub are : length workers ≡ count
+  pub idle : map attempt_of workers ≡ replicate count None
+  pub sound : (input : RunInput) → AreSound input workers
+
+-- a run that is not spent
+abbrev pub IsGoing : Option Progress → Type 0
+IsGoing run = IsSome run
+
+-- what a run comes to: the next item that it asks for, or the end of its call
+pub record AsksNext (before : Progress) (run : Option Progress) (x : Item) : Type 0 where
+  pub after : Progress
+  pub goes_on : run ≡ Some after
+  pub same_call : after.call ≡ before.call
+  pub same_header : after.header ≡ before.header
+  pub same_reads : after.reads ≡ before.reads
+  pub asked : after.asked ≡ Some x
+  pub definition : answer_from (value_in before.reads) (call_result before.call before.header) ≡ Err x
+  pub not_supplied : value_in before.reads x ≡ None
+
+pub record EndsNow (before : Progress) (f : CallRecord) : Type 0 where
+  pub same_call : f.call ≡ before.call
+  pub same_header : f.header ≡ before.header
+  pub same_reads : f.reads ≡ before.reads
+  pub finished : IsFinished f
+
+abbrev pub ComesTo : Ticket → Progress → Worker → Type 0
+ComesTo ticket before worker.Idle = ⊥
+ComesTo ticket before (worker.Running own run x) = (own ≡ ticket) × AsksNext before run x
+ComesTo ticket before (worker.Finished own f) = (own ≡ ticket) × EndsNow before f
+
+abbrev pub IsAdvanced : Ticket → Option Progress → Worker → Type 0
+IsAdvanced ticket None worker = ⊥
+IsAdvanced ticket (Some before) worker = ComesTo ticket before worker
+
+-- a call that may begin
+abbrev pub may_begin_call : Store → ℕ → Bool
+may_begin_call s n = is_some (call_of s.calls n) && (commit_count n s.world.entries == 0) && (live_count n s.world.live == 0) && nat_lt s.world.clock (2 ^ 64 - 1)
+
+-- a call begins at the next timestamp, or may not
+abbrev pub IsBegun : Store → Store → ℕ → Option CallAttempt → Type 0
+IsBegun old new n None = (new ≡ old) × (may_begin_call old n ≡ false)
+IsBegun old new n (Some a) = (a ≡ fresh_attempt n (old.world.clock + 1)) × (new ≡ record old { world = after_begin old.world n }) × (may_begin_call old n ≡ true)
+
+abbrev pub IsBegunBy : Store → Store → ℕ → Option CallAttempt → Option CallAttempt → Type 0
+IsBegunBy old new n None after = IsBegun old new n after
+IsBegunBy old new n (Some a) after = (new ≡ old) × (after ≡ Some a)
+
+-- the version that an attempt finds joins its reads, and is marked
+pub record IsRead (old new : Store) (a : CallAttempt) (x : Item) (after : Option CallAttempt) : Type 0 where
+  pub input : input_of new ≡ input_of old
+  pub event : IsSameWorld same_item (at old.base) new.world (after_read same_item (at old.base) old.world a.timestamp (place_of a.reads x) x)
+  pub joins : after ≡ Some (record a { reads = with_item a.reads x (version_below same_item (at old.base) old.world.entries (suc a.timestamp) x).1 })
+
+abbrev pub IsReadBy : Store → Store → Worker → Option CallAttempt → Type 0
+IsReadBy old new worker.Idle after = (new ≡ old) × (after ≡ None)
+IsReadBy old new (worker.Running ticket run x) after = IsRead old new (attempt_by ticket (reads_or_none run)) x after
+IsReadBy old new (worker.Finished ticket f) after = (new ≡ old) × (after ≡ Some (attempt_by ticket f.reads))
+
+-- a call that has ended commits, or is late
+pub record IsCommittedOn (old new : Store) (a : CallAttempt) (f : CallRecord) : Type 0 where
+  pub in_time : late_write old a.timestamp f.writes ≡ None
+  pub input : input_of new ≡ input_of old
+  pub event : IsSameWorld same_item (at old.base) new.world (after_commit old.world (entry_of a.timestamp a.number f))
+
+abbrev pub IsCommit : Store → Store → CallAttempt → CallRecord → Option CallAttempt → Type 0
+IsCommit old new a f None = IsCommittedOn old new a f
+IsCommit old new a f (Some after) = (is_some (late_write old a.timestamp f.writes) ≡ true) × (new ≡ old) × (after ≡ a)
+
+abbrev pub IsCommitBy : Store → Store → Worker → Option CallAttempt → Type 0
+IsCommitBy old new worker.Idle after = (new ≡ old) × (after ≡ None)
+IsCommitBy old new (worker.Running ticket run x) after = (new ≡ old) × (after ≡ Some (attempt_by ticket (reads_or_none run)))
+IsCommitBy old new (worker.Finished ticket f) after = IsCommit old new (attempt_by ticket f.reads) f after
+
+abbrev pub IsAbandonBy : Store → Store → Option CallAttempt → Option CallAttempt → Type 0
+IsAbandonBy old new None after = (new ≡ old) × (after ≡ None)
+IsAbandonBy old new (Some a) after = (new ≡ record old { world = after_abandon old.world a.timestamp }) × (after ≡ None)
+
+-- what a worker's event makes of the store, and of its attempt
+abbrev pub IsWork : Event → Store → Store → Worker → Option CallAttempt → Type 0
+IsWork (event.Begin w n) old new worker after = IsBegunBy old new n (attempt_of worker) after
+IsWork (event.Read w) old new worker after = IsReadBy old new worker after
+IsWork (event.Commit w) old new worker after = IsCommitBy old new worker after
+IsWork (event.Abandon w) old new worker after = IsAbandonBy old new (attempt_of worker) after
+IsWork (event.Prune t) old new worker after = ⊥
+
+-- the worker whose event it is
+abbrev pub worker_in : Event → Option ℕ
+worker_in (event.Begin w n) = Some w
+worker_in (event.Read w) = Some w
+worker_in (event.Commit w) = Some w
+worker_in (event.Abandon w) = Some w
+worker_in (event.Prune t) = None
+
+-- its attempt is live, if it has one
+abbrev pub IsLiveIfAny : Store → Option CallAttempt → Type 0
+IsLiveIfAny s None = Unit {0}
+IsLiveIfAny s (Some a) = IsLiveWith s a

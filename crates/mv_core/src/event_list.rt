@@ -1,0 +1,133 @@
+//! A list of events over a store, step by step.
+
+ghost use Rattle.std.specs.Prelude.{◌≡◌, [], None, Some, IfOk, OnOk};
+ghost use Rattle.std.specs.Arc.{arc_value};
+ghost use Rattle.avm_laws.specs.Orderly.{IsOrderly};
+ghost use Rattle.avm_ops.specs.Objects.{IsFull};
+ghost use Rattle.mv_parts.specs.Opening.{open_fault};
+ghost use Rattle.mv_core.specs.Worlds.{AreIdle, AreLiveIn, AreSound, IsRun, IsRunTo, IsStep, input_of, worker_in};
+
+use crate::steps::work;
+use crate::store::Store;
+use crate::world::{Worker, World};
+use avm_call::Call;
+use avm_ledger::{Header, Ledger};
+use avm_ops::{BoxedOp, Op, OpSet};
+use mv_running::Event;
+use std::alloc::{AllocError, Global};
+use std::mem;
+use std::sync::Arc;
+use teal_value::Failure;
+
+/// How many workers there are.
+const WORKER_COUNT: usize = 8;
+
+/// The store and its eight workers after these events, one after another: an event that does not apply where it comes
+/// changes nothing.
+pub fn run_events(
+    alloc: Global,
+    base: Ledger,
+    header: Header,
+    calls: Arc<Vec<Call>>,
+    ops: &OpSet,
+    events: &[Event],
+) -> Result<World, AllocError>
+    requires full { IsFull ⟦<BoxedOp as Op>⟧.opcode ops.now }
+    requires orderly { IsOrderly base }
+    requires opens { open_fault header (arc_value calls).items ≡ None }
+    ensures { IfOk result (λ world. IsRun (record { base = base; header = header; calls = (arc_value calls).items }) events.now world) }
+{
+    match Store::open(alloc, base, header, calls) {
+        Ok(store) => {
+            let mut store = store;
+            let mut workers = idle_workers(alloc)?;
+            run_on(alloc, ops, &mut store, &mut workers, events)?;
+            Ok(World { store, workers })
+        }
+        Err(Failure::Memory) => Err(AllocError),
+        Err(Failure::Fault(_fault)) => unreachable!(),
+    }
+}
+
+/// All events, from a store in which nothing has begun and idle workers.
+fn run_on(
+    alloc: Global,
+    ops: &OpSet,
+    store: &mut Store,
+    workers: &mut Vec<Worker>,
+    events: &[Event],
+) -> Result<(), AllocError>
+    requires full { IsFull ⟦<BoxedOp as Op>⟧.opcode ops.now }
+    requires first { IsRunTo (input_of store.old) [] store.old workers.old.items }
+    ensures { OnOk result (IsRunTo (input_of store.old) events.now store.new workers.new.items) }
+{
+    for event in events {
+        step(alloc, ops, store, workers, *event)?;
+    }
+    Ok(())
+}
+
+/// Workers without an attempt.
+fn idle_workers(alloc: Global) -> Result<Vec<Worker>, AllocError>
+    ensures { IfOk result (λ workers. AreIdle WORKER_COUNT workers.items) }
+{
+    let mut workers = Vec::with_capacity(alloc, WORKER_COUNT)?;
+    for _number in 0..WORKER_COUNT {
+        workers.push(Worker::Idle)?;
+    }
+    Ok(workers)
+}
+
+/// One event.
+fn step(
+    alloc: Global,
+    ops: &OpSet,
+    store: &mut Store,
+    workers: &mut Vec<Worker>,
+    event: Event,
+) -> Result<(), AllocError>
+    requires full { IsFull ⟦<BoxedOp as Op>⟧.opcode ops.now }
+    requires sound { AreSound (input_of store.old) workers.old.items }
+    requires live { AreLiveIn store.old workers.old.items }
+    ensures { OnOk result (IsStep event store.old store.new workers.old.items workers.new.items) }
+{
+    match event {
+        Event::Begin(worker, _number) => act(alloc, ops, store, workers, worker, event),
+        Event::Read(worker) => act(alloc, ops, store, workers, worker, event),
+        Event::Commit(worker) => act(alloc, ops, store, workers, worker, event),
+        Event::Abandon(worker) => act(alloc, ops, store, workers, worker, event),
+        Event::Prune(timestamp) => {
+            store.prune(timestamp);
+            Ok(())
+        }
+    }
+}
+
+/// A worker's event. There is no worker beyond the last.
+fn act(
+    alloc: Global,
+    ops: &OpSet,
+    store: &mut Store,
+    workers: &mut Vec<Worker>,
+    number: u8,
+    event: Event,
+) -> Result<(), AllocError>
+    requires full { IsFull ⟦<BoxedOp as Op>⟧.opcode ops.now }
+    requires sound { AreSound (input_of store.old) workers.old.items }
+    requires live { AreLiveIn store.old workers.old.items }
+    requires own { worker_in event ≡ Some number }
+    ensures { OnOk result (IsStep event store.old store.new workers.old.items workers.new.items) }
+{
+    let place = usize::from(number);
+    if place >= workers.len() {
+        return Ok(());
+    }
+    let worker = mem::replace(&mut workers[place], Worker::Idle);
+    match work(alloc, ops, store, worker, event) {
+        Ok(after) => {
+            workers[place] = after;
+            Ok(())
+        }
+        Err(refused) => Err(refused),
+    }
+}
