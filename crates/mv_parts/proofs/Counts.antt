@@ -43,7 +43,7 @@ no_more_than_calls n es are once = omega (arith, all_counted n es are, one_each 
 
 -- ---- of the calls of a journal
 
-number_within : (calls : List CallData) (number : ℕ) → IsSome (call_of calls number) → (0 < number) × (number ≤ length calls)
+pub number_within : (calls : List CallData) (number : ℕ) → IsSome (call_of calls number) → (0 < number) × (number ≤ length calls)
 number_within calls number some = by (number == 0) (equals number 0) some
   where
     found : 0 < number → (o : Option CallData) → slice_get calls (number - 1) ≡ o → IsSome o → (0 < number) × (number ≤ length calls)

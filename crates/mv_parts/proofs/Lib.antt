@@ -8,3 +8,4 @@ pub mod EntryPlaces
 pub mod Commits
 pub mod KeptCommits
 pub mod Counts
+pub mod Seals

@@ -1,3 +1,5 @@
 pub mod Opening
 pub mod Journals
 pub mod Commits
+pub mod Sealing
+pub mod SameLedgers

@@ -49,7 +49,7 @@ fn is_call(calls: &[Call], number: u32, made: &Call) -> bool
 }
 
 /// The call of a number, from 1.
-fn call_at(calls: &[Call], number: u32) -> Option<&Call>
+pub(crate) fn call_at(calls: &[Call], number: u32) -> Option<&Call>
     ensures { option_copied result ≡ call_of calls.now number }
 {
     if number == 0 {

@@ -16,6 +16,9 @@ mod journal;
 mod open_fault;
 mod opening;
 mod past;
+mod same_ledger;
+mod seal_fault;
+mod sealing;
 #[cfg(test)]
 mod tests;
 
@@ -25,3 +28,5 @@ pub use entry::Entry;
 pub use journal::Journal;
 pub use open_fault::{OpenError, OpenFault};
 pub use opening::open_parts;
+pub use seal_fault::{RefusedSeal, SealError, SealFault};
+pub use sealing::Sealed;

@@ -55,7 +55,7 @@ fn put_entry(
 }
 
 /// A copy of items with their values.
-fn copy_of(alloc: Global, items: &ItemMap) -> Result<ItemMap, AllocError>
+pub(crate) fn copy_of(alloc: Global, items: &ItemMap) -> Result<ItemMap, AllocError>
     ensures { IfOk result (λ copy. copy ≡ items.now) }
 {
     let mut copy = ItemMap::new(alloc);
