@@ -1,6 +1,6 @@
 ghost use Rattle.avm_laws.specs.Orderly.{IsOrderly};
 
-use super::{BeginFault, Journal, open_parts};
+use super::{BeginFault, Journal, SealFault, open_parts};
 use avm_call::Call;
 use avm_items::{Addresses, CallData, Completion};
 use avm_ledger::{Header, Ledger, Profile, Schema};
@@ -91,5 +91,54 @@ fn a_call_begins_again_after_it_was_abandoned(rt: HostRuntime) -> Result<(), Fai
     assert!(rt; is_refused(&mut journal, 0, BeginFault::NoCall));
     assert!(rt; is_refused(&mut journal, 2, BeginFault::NoCall));
     assert!(rt; journal.clock() == 2);
+    Ok(())
+}
+
+// A journal of which no call has begun seals to a block without entries.
+#[test]
+fn a_journal_without_entries_is_sealed(rt: HostRuntime) -> Result<(), Fail> {
+    let alloc = rt.alloc();
+    match journal_of_one(alloc)?.seal(alloc) {
+        Ok(sealed) => {
+            assert!(rt; sealed.block.entries().is_empty() && sealed.numbers.is_empty());
+            assert!(rt; sealed.block.base() == sealed.block.after());
+            assert!(rt; *sealed.block.header() == HEADER);
+            Ok(())
+        }
+        Err(_) => Err("no attempt is live".into()),
+    }
+}
+
+// A journal with a live attempt is not sealed, and comes back.
+#[test]
+fn a_live_attempt_is_in_the_way_of_a_seal(rt: HostRuntime) -> Result<(), Fail> {
+    let alloc = rt.alloc();
+    let mut journal = journal_of_one(alloc)?;
+    assert!(rt; journal.begin(1).is_ok());
+    match journal.seal(alloc) {
+        Ok(_) => Err("an attempt is live".into()),
+        Err(refused) => {
+            assert!(rt; matches!(refused.error, Failure::Fault(SealFault::StillLive)));
+            assert!(rt; refused.journal.clock() == 1);
+            Ok(())
+        }
+    }
+}
+
+// A journal is of its own ledger, header and calls alone, and of none while an attempt is live.
+#[test]
+fn a_journal_is_of_its_own_calls(rt: HostRuntime) -> Result<(), Fail> {
+    let alloc = rt.alloc();
+    let mut journal = journal_of_one(alloc)?;
+    let base = no_applications(alloc);
+    let calls = vec![in alloc; a_call(alloc)?]?;
+    assert!(rt; journal.is_of(&base, &HEADER, &calls));
+    assert!(rt; !journal.is_of(&base, &HEADER, &[]));
+    assert!(rt; !journal.is_of(&base, &Header { round: 1, ..HEADER }, &calls));
+    let mut other = no_applications(alloc);
+    other.set_next_id(2);
+    assert!(rt; !journal.is_of(&other, &HEADER, &calls));
+    assert!(rt; journal.begin(1).is_ok());
+    assert!(rt; !journal.is_of(&base, &HEADER, &calls));
     Ok(())
 }

@@ -12,6 +12,7 @@ use avm_flow_ops::FlowOp;
 use avm_items::{Addresses, CallData, Completion, Item, ItemMap, ItemValue};
 use avm_ledger::{Header, Ledger, Profile, Schema};
 use avm_ops::{BoxedOp, Op, OpSet, Ops};
+use avm_replay::{Verdict, replay};
 use avm_run::{Advance, CallRun, Finished};
 use avm_state_ops::StateOp;
 use mv_core::{ReadFault, StateFault, Store, Ticket};
@@ -197,7 +198,23 @@ fn first_wrong(alloc: Global, ops: &OpSet) -> Result<Option<&'static str>, Fail>
     if journal.ledger_at(alloc, 0)?.next_id() != 1 || journal.ledger_at(alloc, 1)?.next_id() != 2 {
         return Ok(Some("the ledgers"));
     }
+    if !is_sealed(alloc, ops, journal)? {
+        return Ok(Some("the block"));
+    }
     Ok(None)
+}
+
+// Whether a journal seals to a block of call 1 alone, which replays.
+fn is_sealed(alloc: Global, ops: &OpSet, journal: Journal) -> Result<bool, Fail>
+    requires full { IsFull ⟦<BoxedOp as Op>⟧.opcode ops.now }
+{
+    let sealed = match journal.seal(alloc) {
+        Ok(sealed) => sealed,
+        Err(_) => return Err("no attempt is live".into()),
+    };
+    let verdict = replay(alloc, &no_applications(alloc), &sealed.block, ops)?;
+    let is_one = sealed.block.entries().len() == 1 && matches!(sealed.numbers.as_slice(), [1]);
+    Ok(is_one && matches!(verdict, Verdict::Agrees(_)))
 }
 
 // A creation is committed, and the ledger after it has the next id.
