@@ -8,7 +8,7 @@ use avm_arith::ArithOp;
 use avm_block::Block;
 use avm_call::Call;
 use avm_flow_ops::FlowOp;
-use avm_items::{Addresses, CallData, Completion, Item, ItemValue, item_of};
+use avm_items::{Addresses, CallData, Completion};
 use avm_laws::rule_laws::every_call_keeps_order;
 use avm_ledger::{Header, Ledger, Profile, Schema};
 use avm_ops::{BoxedOp, Op, OpSet, Ops};
@@ -103,10 +103,10 @@ fn leads_to(
         None => return Err("one byte is a key".into()),
     };
     match replay(alloc, base, block, ops)? {
-        Verdict::Agrees(after) => Ok(matches!(
-            item_of(&after, &Item::Key(1, key))?,
-            ItemValue::Key(Value::Uint(found)) if found == count
-        )),
+        Verdict::Agrees(after) => match after.global_value(1, &key) {
+            Some(Value::Uint(found)) => Ok(*found == count),
+            _ => Ok(false),
+        },
         _ => Ok(false),
     }
 }
@@ -121,16 +121,27 @@ fn all_count<R: Threads + Wait + Sync>(
     requires full { IsFull ⟦<BoxedOp as Op>⟧.opcode own.now }
 {
     let base = one_application(alloc, own)?;
-    match propose(rt, alloc, &base, &HEADER, calls(alloc)?, sets, own, &OpenGate) {
+    match propose(
+        rt,
+        alloc,
+        &base,
+        &HEADER,
+        calls(alloc)?,
+        sets,
+        own,
+        &OpenGate,
+    ) {
         Ok(proposal) => {
             let Proposal {
                 block,
                 numbers,
                 left,
             } = proposal;
-            Ok(left.is_empty()
-                && numbers.len() == CALLS
-                && leads_to(alloc, &base, &block, own, 1 + CALLS as u64)?)
+            Ok(
+                left.is_empty()
+                    && numbers.len() == CALLS
+                    && leads_to(alloc, &base, &block, own, 1 + CALLS as u64)?,
+            )
         }
         Err(_) => Err("the calls are proposed".into()),
     }
