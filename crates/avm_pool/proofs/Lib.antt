@@ -1,0 +1,4 @@
+pub mod Remaining
+pub mod Marks
+pub mod Proposed
+pub mod Refused

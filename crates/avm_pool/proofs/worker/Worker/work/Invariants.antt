@@ -1,0 +1,5 @@
+use Rattle.call_numbers.specs.Passes.{IsWith}
+use Rattle.avm_pool.proofs.worker.Worker.work.Given as goal
+
+abbrev pub invariant-loop : goal.invariant-loop
+invariant-loop g l = IsWith l.numbers l.pass

@@ -1,0 +1,7 @@
+use Rattle.std.proofs.Common.{◌≡◌, true, []}
+use Rattle.call_numbers.specs.Passes.{view, IsWith}
+use Rattle.call_numbers.specs.Rule.{hand}
+use Rattle.avm_pool.proofs.workers.put_all.Given as goal
+
+abbrev pub invariant-loop-below : goal.invariant-loop-below
+invariant-loop-below g l = IsWith l.numbers l.pass × (view l.pass ≡ hand true l.below [])

@@ -1,0 +1,5 @@
+pub mod Holding
+pub mod Proposals
+pub mod Refusals
+pub mod Resting
+pub mod Running

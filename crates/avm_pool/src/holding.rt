@@ -1,0 +1,115 @@
+//! A journal together with shards that are locked one after another.
+
+ghost use Rattle.std.specs.Prelude.{◌≡◌};
+ghost use Rattle.avm_pool.specs.Holding.{Works};
+ghost use Rattle.avm_pool.specs.declared.holding.Work.TheVariants.{Commit};
+
+use avm_run::Finished;
+use mv_parts::{Journal, RefusedCommit};
+use mv_shards::{Attempt, Held, Shard};
+use std::sync::{Mutex, Wait};
+use teal_value::Failure;
+
+/// A shard, or nothing while it is held with others.
+pub(crate) type ShardLock = Mutex<Option<Shard>>;
+
+/// What is done with a journal and the shards held.
+#[derive(Drop)]
+pub(crate) enum Work {
+    Commit(Attempt, Finished),
+    Prune,
+}
+
+/// What came of it.
+#[derive(Drop)]
+pub(crate) enum Worked {
+    /// The call is committed, or all was pruned as far as it could be.
+    Done,
+    /// Nothing was committed, and another attempt may be.
+    Again(Attempt),
+    /// Memory was refused to the commit.
+    Memory(Attempt),
+}
+
+impl Work {
+    /// Does it with all shards that are held.
+    fn done(self, journal: &mut Journal, held: &mut Held) -> Worked
+        ensures { Works self journal.old journal.new result }
+    {
+        match self {
+            Work::Commit(attempt, finished) => commit(journal, held, attempt, finished),
+            Work::Prune => {
+                let clock = journal.clock();
+                journal.prune(held, clock);
+                Worked::Done
+            }
+        }
+    }
+
+    /// What comes of it where a shard is not there.
+    fn not_done(self) -> Worked
+        ensures { (journal : _) → Works self journal journal result }
+    {
+        match self {
+            Work::Commit(attempt, _finished) => Worked::Again(attempt),
+            Work::Prune => Worked::Done,
+        }
+    }
+}
+
+/// Commits a call whose shards are held.
+fn commit(journal: &mut Journal, held: &mut Held, attempt: Attempt, finished: Finished) -> Worked
+    ensures { Works (Commit attempt finished) journal.old journal.new result }
+{
+    if !held.covers(attempt.reads()) || !held.covers(finished.writes()) {
+        return Worked::Again(attempt);
+    }
+    match journal.commit(held, attempt, finished) {
+        Ok(_timestamp) => Worked::Done,
+        Err(refused) => {
+            let RefusedCommit {
+                error,
+                attempt,
+                finished: _finished,
+            } = refused;
+            match error {
+                Failure::Memory => Worked::Memory(attempt),
+                Failure::Fault(_fault) => Worked::Again(attempt),
+            }
+        }
+    }
+}
+
+/// Locks the shards that are wanted, by rising index, and does the work while all of them are held. No lock is let go before
+/// it is done; then each shard goes back behind its own.
+pub(crate) fn work_with<R: Wait>(
+    rt: &R,
+    locks: &[ShardLock],
+    wanted: &[bool],
+    journal: &mut Journal,
+    held: &mut Held,
+    work: Work,
+) -> Worked
+    ensures { Works work journal.old journal.new result }
+{
+    let (Some((lock, locks)), Some((is_wanted, wanted))) = (
+        locks.split_first(),
+        wanted.split_first(),
+    ) else {
+        return work.done(journal, held);
+    };
+    if !*is_wanted {
+        return work_with(rt, locks, wanted, journal, held, work);
+    }
+    let mut guard = lock.lock(rt);
+    let Some(shard) = guard.take() else {
+        return work.not_done();
+    };
+    if let Err(shard) = held.add(shard) {
+        *guard = Some(shard);
+        return work.not_done();
+    }
+    let worked = work_with(rt, locks, wanted, journal, held, work);
+    *guard = held.take();
+    worked
+}

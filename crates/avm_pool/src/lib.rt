@@ -1,0 +1,24 @@
+//! Calls that several threads run into one block.
+//!
+//! Workers draw call numbers, run each call outside all locks, and commit it to a journal and shards that are locked
+//! apart, by multiversion timestamp ordering (Bernstein, Hadzilacos, Goodman, "Concurrency Control and Recovery in
+//! Database Systems", section 5.3). What comes out is a block that anyone replays, whatever the threads did:
+//! specs/Proposals.antt says so without a word about them.
+#![tactic(auto)]
+
+mod gate;
+mod holding;
+mod left;
+mod pool_fault;
+mod proposal;
+mod proposing;
+mod refusals;
+mod rest;
+mod running;
+mod worker;
+mod workers;
+
+pub use gate::{Gate, GateEvent, OpenGate};
+pub use pool_fault::{PoolError, PoolFault};
+pub use proposal::Proposal;
+pub use proposing::propose;

@@ -1,0 +1,176 @@
+//! The pool.
+
+ghost use Rattle.std.specs.Prelude.{◌≡◌, ◌≤◌, true, [], IfErr, IfOk, None, OnOk, length};
+ghost use Rattle.std.specs.Arc.{arc_value};
+ghost use Rattle.avm_laws.specs.Orderly.{IsOrderly};
+ghost use Rattle.avm_ops.specs.Objects.{IsFull};
+ghost use Rattle.mv_parts.specs.Opening.{open_fault};
+ghost use Rattle.mv_parts.specs.Sealing.{IsOf};
+ghost use Rattle.avm_pool.specs.Proposals.{IsProposal};
+ghost use Rattle.avm_pool.specs.Refusals.{IsRefusal, IsWant, MayPropose};
+
+use crate::gate::Gate;
+use crate::holding::ShardLock;
+use crate::pool_fault::{PoolError, PoolFault};
+use crate::proposal::Proposal;
+use crate::refusals::pool_fault;
+use crate::rest::{proposal_of, run_rest};
+use crate::running::Shared;
+use crate::workers::{Ran, enlist_all, put_all, run_workers};
+use avm_call::Call;
+use avm_ledger::{Header, Ledger};
+use avm_ops::{BoxedOp, Op, OpSet};
+use call_numbers::Numbers;
+use mv_parts::{Journal, open_parts};
+use mv_shards::{Held, SHARD_COUNT};
+use std::alloc::{AllocError, Global};
+use std::sync::{Arc, Mutex, Wait};
+use std::thread::Threads;
+use teal_value::Failure;
+
+/// Runs calls on a ledger in as many threads as there are sets of objects, and gives their block. Each call is committed once
+/// it has read what the committed calls before it leave; calls that read and write different items do not wait for one another.
+/// What the workers leave, the calling thread runs with its own set.
+///
+/// The gate is told of each event, and may hold the thread that tells it.
+pub fn propose<G: Gate, R: Threads + Wait + Sync>(
+    rt: &R,
+    alloc: Global,
+    base: &Ledger,
+    header: &Header,
+    calls: Vec<Call>,
+    worker_ops: Vec<OpSet>,
+    own_ops: &OpSet,
+    gate: &G,
+) -> Result<Proposal, PoolError>
+    requires { IsOrderly base.now }
+    ensures proposal { IfOk result (IsProposal base.now header.now calls.items) }
+    ensures may { OnOk result (MayPropose ⟦<BoxedOp as Op>⟧.opcode worker_ops.items own_ops.now header.now calls.items) }
+    ensures refused { IfErr result (IsRefusal ⟦<BoxedOp as Op>⟧.opcode worker_ops.items own_ops.now header.now calls.items) }
+{
+    match pool_fault(&worker_ops, own_ops, header, &calls) {
+        Some(fault) => Err(Failure::Fault(fault)),
+        None => proposed(rt, alloc, base, header, calls, worker_ops, own_ops, gate),
+    }
+}
+
+/// What comes out where no test fails.
+fn proposed<G: Gate, R: Threads + Wait + Sync>(
+    rt: &R,
+    alloc: Global,
+    base: &Ledger,
+    header: &Header,
+    calls: Vec<Call>,
+    worker_ops: Vec<OpSet>,
+    own_ops: &OpSet,
+    gate: &G,
+) -> Result<Proposal, PoolError>
+    requires orderly { IsOrderly base.now }
+    requires full { IsFull ⟦<BoxedOp as Op>⟧.opcode own_ops.now }
+    requires opens { open_fault header.now calls.items ≡ None }
+    ensures proposal { IfOk result (IsProposal base.now header.now calls.items) }
+    ensures want { IfErr result IsWant }
+{
+    let count = calls.len() as u32;
+    let (numbers, mut pass) = Numbers::new(alloc)?;
+    put_all(rt, &numbers, &mut pass, count);
+    let workers = enlist_all(alloc, &numbers, &mut pass, worker_ops)?;
+    let calls = Arc::new(alloc, calls)?;
+    let (journal, shards) = opened(alloc, base, header, &calls)?;
+    let journal = Mutex::new(journal);
+    let shared = Shared {
+        alloc,
+        shards: shards.as_slice(),
+        calls: calls.as_slice(),
+        header,
+        gate,
+    };
+    match run_workers(rt, &journal, &shared, workers)? {
+        Ran::Over => finish(rt, &shared, journal.into_inner(), base, &calls, own_ops),
+        Ran::NotStarted => Err(Failure::Fault(PoolFault::Spawn)),
+        Ran::ClockEnd => Err(Failure::Fault(PoolFault::ClockEnd)),
+    }
+}
+
+/// Runs what the workers left in their journal. Where it is not the journal that was opened, all is run in another.
+fn finish<G: Gate, R: Wait>(
+    rt: &R,
+    shared: &Shared<G>,
+    journal: Journal,
+    base: &Ledger,
+    calls: &Arc<Vec<Call>>,
+    own_ops: &OpSet,
+) -> Result<Proposal, PoolError>
+    requires orderly { IsOrderly base.now }
+    requires full { IsFull ⟦<BoxedOp as Op>⟧.opcode own_ops.now }
+    requires opens { open_fault shared.now.header.now (arc_value calls.now).items ≡ None }
+    ensures proposal { IfOk result (IsProposal base.now shared.now.header.now (arc_value calls.now).items) }
+    ensures want { IfErr result IsWant }
+{
+    if journal.is_of(base, shared.header, calls.as_slice()) {
+        return rest(rt, shared, journal, own_ops);
+    }
+    let (journal, shards) = opened(shared.alloc, base, shared.header, calls)?;
+    let anew = Shared {
+        alloc: shared.alloc,
+        shards: shards.as_slice(),
+        calls: shared.calls,
+        header: shared.header,
+        gate: shared.gate,
+    };
+    rest(rt, &anew, journal, own_ops)
+}
+
+/// Runs what is not committed, and seals.
+fn rest<G: Gate, R: Wait>(
+    rt: &R,
+    shared: &Shared<G>,
+    mut journal: Journal,
+    own_ops: &OpSet,
+) -> Result<Proposal, PoolError>
+    requires full { IsFull ⟦<BoxedOp as Op>⟧.opcode own_ops.now }
+    requires idle { journal.world.live ≡ [] }
+    requires few { length journal.calls ≤ 4096 }
+    ensures proposal { IfOk result (IsProposal journal.base journal.header journal.calls) }
+    ensures want { IfErr result IsWant }
+{
+    if !run_rest(rt, shared, &mut journal, own_ops) {
+        return Err(Failure::Fault(PoolFault::ClockEnd));
+    }
+    let count = journal.calls().len() as u32;
+    match proposal_of(shared.alloc, journal, count) {
+        Ok(proposal) => Ok(proposal),
+        Err(_) => Err(Failure::Memory),
+    }
+}
+
+/// A journal of which no call has begun, and its shards behind locks of their own.
+fn opened(
+    alloc: Global,
+    base: &Ledger,
+    header: &Header,
+    calls: &Arc<Vec<Call>>,
+) -> Result<(Journal, Vec<ShardLock>), AllocError>
+    requires orderly { IsOrderly base.now }
+    requires opens { open_fault header.now (arc_value calls.now).items ≡ None }
+    ensures { IfOk result (λ opened. IsOf opened.0 base.now header.now (arc_value calls.now).items) }
+{
+    match open_parts(alloc, base.clone()?, *header, Arc::try_clone(calls)?) {
+        Ok((journal, held)) => {
+            let shards = locked(alloc, held)?;
+            Ok((journal, shards))
+        }
+        Err(Failure::Memory) => Err(AllocError),
+        Err(Failure::Fault(_fault)) => unreachable!(),
+    }
+}
+
+/// Each of the shards behind a lock of its own, by index.
+fn locked(alloc: Global, mut held: Held) -> Result<Vec<ShardLock>, AllocError> {
+    let mut shards = Vec::with_capacity(alloc, SHARD_COUNT)?;
+    for _ in 0..SHARD_COUNT {
+        shards.push(Mutex::new(held.take()))?;
+    }
+    shards.reverse();
+    Ok(shards)
+}

@@ -1,0 +1,66 @@
+//! What is tested before any thread starts.
+
+ghost use Rattle.std.specs.Prelude.{◌≡◌, ◌≤◌, ◌<◌, All, IfNone, IfSome, length};
+ghost use Rattle.avm_ops.specs.Objects.{IsFull};
+ghost use Rattle.avm_replay.specs.Plain.{first_beyond};
+ghost use Rattle.avm_pool.specs.Refusals.{AreFull, IsFirstMissing, IsTestRefusal, MayPropose};
+
+use crate::pool_fault::PoolFault;
+use avm_block::{MAX_ENTRIES, accepts};
+use avm_call::Call;
+use avm_ledger::{Header, Profile};
+use avm_ops::{BoxedOp, Op, OpSet};
+
+/// How many workers there are at most.
+const MOST_WORKERS: usize = 8;
+
+/// Why nothing is proposed, whatever the threads would do.
+pub(crate) fn pool_fault(
+    sets: &[OpSet],
+    own: &OpSet,
+    header: &Header,
+    calls: &[Call],
+) -> Option<PoolFault>
+    ensures some { IfSome result (IsTestRefusal ⟦<BoxedOp as Op>⟧.opcode sets.now own.now header.now calls.now) }
+    ensures none { IfNone result (MayPropose ⟦<BoxedOp as Op>⟧.opcode sets.now own.now header.now calls.now) }
+{
+    if sets.is_empty() || sets.len() > MOST_WORKERS || calls.len() > MAX_ENTRIES {
+        return Some(PoolFault::Workers);
+    }
+    match missing(sets, own) {
+        Some(code) => Some(PoolFault::OpMissing(code)),
+        None => match first_beyond(header.profile, calls) {
+            Some(number) => Some(PoolFault::Profile { number }),
+            None => None,
+        },
+    }
+}
+
+/// The least code that the first set lacks which lacks one; the caller's own comes last.
+fn missing(sets: &[OpSet], own: &OpSet) -> Option<u8>
+    ensures some { IfSome result (IsFirstMissing ⟦<BoxedOp as Op>⟧.opcode sets.now own.now) }
+    ensures none { IfNone result (AreFull ⟦<BoxedOp as Op>⟧.opcode sets.now own.now) }
+{
+    match sets.split_first() {
+        None => own.missing(),
+        Some((set, sets)) => match set.missing() {
+            Some(code) => Some(code),
+            None => missing(sets, own),
+        },
+    }
+}
+
+/// The number of the first call that needs a newer profile.
+fn first_beyond(profile: Profile, calls: &[Call]) -> Option<u32>
+    requires { length calls.now ≤ MAX_ENTRIES }
+    ensures { result ≡ first_beyond profile 1 calls.now }
+{
+    let mut number = 0;
+    for call in calls {
+        number += 1;
+        if !accepts(profile, call) {
+            return Some(number);
+        }
+    }
+    None
+}

@@ -1,0 +1,148 @@
+//! One attempt of a call, outside the journal's lock.
+
+ghost use Rattle.std.specs.Prelude.{◌≡◌};
+ghost use Rattle.avm_ops.specs.Objects.{IsFull};
+ghost use Rattle.avm_pool.specs.Running.{IsSameAttempt};
+
+use crate::gate::{Gate, GateEvent};
+use crate::holding::ShardLock;
+use avm_call::Call;
+use avm_cpu::Cpu;
+use avm_items::{Item, ItemValue};
+use avm_ledger::Header;
+use avm_ops::{BoxedOp, Op, OpSet};
+use avm_run::{Advance, CallRun, Finished};
+use mv_shards::{Attempt, shard_of};
+use std::alloc::Global;
+use std::sync::Wait;
+use teal_value::Failure;
+
+/// Why a run has not come to its end.
+#[derive(Clone, Copy, Debug, PartialEq, Eq)]
+pub(crate) enum Stopped {
+    /// An item could not be read at the attempt's timestamp. Another attempt may read it.
+    Again,
+    /// Memory was refused.
+    Memory,
+}
+
+/// What all attempts share.
+#[derive(Drop)]
+pub(crate) struct Shared<'a, G> {
+    pub alloc: Global,
+    /// By index.
+    pub shards: &'a [ShardLock],
+    pub calls: &'a [Call],
+    pub header: &'a Header,
+    pub gate: &'a G,
+}
+
+impl<'a, G: Gate> Shared<'a, G> {
+    /// The call of a number, from 1.
+    pub fn call(&self, number: u32) -> Option<&'a Call> {
+        if number == 0 {
+            return None;
+        }
+        self.calls.get(number as usize - 1)
+    }
+
+    /// Runs the call of an attempt to its end, on the spare machine, which it leaves for the next run. `tries` counts the
+    /// attempts of the call, this one too.
+    pub fn run<R: Wait>(
+        &self,
+        rt: &R,
+        ops: &OpSet,
+        spare: &mut Option<Cpu>,
+        call: &Call,
+        attempt: &mut Attempt,
+        tries: u32,
+    ) -> Result<Finished, Stopped>
+        requires full { IsFull ⟦<BoxedOp as Op>⟧.opcode ops.now }
+        ensures { IsSameAttempt attempt.old attempt.new }
+    {
+        match CallRun::start(self.alloc, call, self.header, spare.take()) {
+            Ok(mut run) => {
+                let end = self.run_on(rt, ops, &mut run, attempt, tries);
+                *spare = run.into_spare();
+                end
+            }
+            Err(_) => Err(Stopped::Memory),
+        }
+    }
+
+    /// Runs on to the end of the call, over what the attempt reads.
+    fn run_on<R: Wait>(
+        &self,
+        rt: &R,
+        ops: &OpSet,
+        run: &mut CallRun,
+        attempt: &mut Attempt,
+        tries: u32,
+    ) -> Result<Finished, Stopped>
+        requires full { IsFull ⟦<BoxedOp as Op>⟧.opcode ops.now }
+        ensures { IsSameAttempt attempt.old attempt.new }
+    {
+        for _ in rt.forever() {
+            match run.advance(self.alloc, ops) {
+                Ok(Advance::Done(finished)) => return Ok(finished),
+                Ok(Advance::Need(item)) => match self.read(rt, attempt, item.copied(), tries) {
+                    Ok(value) => {
+                        if run.supply(item, value).is_err() {
+                            return Err(Stopped::Memory);
+                        }
+                    }
+                    Err(stopped) => return Err(stopped),
+                },
+                Err(_) => return Err(Stopped::Memory),
+            }
+        }
+        unreachable!()
+    }
+
+    /// Reads an item under the lock of its shard.
+    fn read<R: Wait>(
+        &self,
+        rt: &R,
+        attempt: &mut Attempt,
+        item: Item,
+        tries: u32,
+    ) -> Result<ItemValue, Stopped>
+        ensures { IsSameAttempt attempt.old attempt.new }
+    {
+        let number = attempt.number();
+        let index = shard_of(&item);
+        let read = self.read_shard(rt, attempt, item, index, tries);
+        if read.is_ok() {
+            self.gate.pause(number, tries, GateEvent::Read);
+        }
+        read
+    }
+
+    fn read_shard<R: Wait>(
+        &self,
+        rt: &R,
+        attempt: &mut Attempt,
+        item: Item,
+        index: u8,
+        tries: u32,
+    ) -> Result<ItemValue, Stopped>
+        ensures { IsSameAttempt attempt.old attempt.new }
+    {
+        let Some(lock) = self.shards.get(usize::from(index)) else {
+            return Err(Stopped::Again);
+        };
+        let mut guard = lock.lock(rt);
+        let shard = &mut *guard;
+        let Some(shard) = shard else {
+            return Err(Stopped::Again);
+        };
+        let read = shard.read(attempt, item);
+        self.gate
+            .pause(attempt.number(), tries, GateEvent::Inside(index));
+        match read {
+            Ok(value) => Ok(value),
+            Err(Failure::Memory) => Err(Stopped::Memory),
+            Err(Failure::Fault(_pruned)) => Err(Stopped::Again),
+        }
+    }
+}

@@ -1,0 +1,235 @@
+//! A worker: it draws numbers, and runs each call until it is committed or may not be.
+
+ghost use Rattle.std.specs.Prelude.{◌≡◌};
+ghost use Rattle.avm_ops.specs.Objects.{IsFull};
+ghost use Rattle.call_numbers.specs.Passes.{IsWith, view};
+
+use crate::gate::{Gate, GateEvent};
+use crate::holding::{Work, Worked, work_with};
+use crate::running::{Shared, Stopped};
+use avm_call::Call;
+use avm_cpu::Cpu;
+use avm_ops::{BoxedOp, Op, OpSet};
+use avm_run::Finished;
+use call_numbers::{NumberPass, Numbers};
+use mv_parts::{BeginFault, Journal};
+use mv_shards::{Attempt, Held, SHARD_COUNT, shard_of};
+use std::sync::{Mutex, Wait};
+use std::thread;
+use teal_value::Failure;
+
+/// How many commits a worker makes between two prunes.
+const COMMITS_A_PRUNE: u32 = 64;
+
+/// How often a worker lets others go first, at most, before a further attempt.
+const MOST_YIELDS: u32 = 16;
+
+/// A set of objects, and a pass of the queue.
+#[derive(Drop)]
+pub(crate) struct Worker<'a> {
+    numbers: &'a Numbers,
+    pass: NumberPass,
+    ops: OpSet,
+    ghost with: { IsWith numbers.now pass },
+}
+
+/// How a worker ended.
+#[derive(Clone, Copy, Debug, PartialEq, Eq)]
+pub(crate) enum WorkerEnd {
+    /// No number was left.
+    NoNumber,
+    /// The last timestamp was given.
+    ClockEnd,
+}
+
+/// How a call ended for a worker.
+#[derive(Clone, Copy, Debug, PartialEq, Eq)]
+enum CallEnd {
+    Committed,
+    /// It is another's, or memory was refused to it.
+    Left,
+    ClockEnd,
+}
+
+/// How an attempt ended.
+#[derive(Clone, Copy, Debug, PartialEq, Eq)]
+enum Tried {
+    Over(CallEnd),
+    /// A further attempt may end otherwise.
+    Again,
+}
+
+/// A worker of a set of objects.
+pub(crate) fn enlist<'a>(numbers: &'a Numbers, pass: &mut NumberPass, ops: OpSet) -> Worker<'a>
+    requires { IsWith numbers.now pass.old }
+    ensures { IsWith numbers.entry.now pass.new × (view pass.new ≡ view pass.old) }
+{
+    let theirs = numbers.worker(pass);
+    Worker {
+        numbers,
+        pass: theirs,
+        ops,
+    }
+}
+
+impl<'a> Worker<'a> {
+    /// Draws numbers until there is none, and runs their calls.
+    pub fn work<G: Gate, R: Wait>(
+        self,
+        rt: &R,
+        journal: &Mutex<Journal>,
+        shared: &Shared<G>,
+    ) -> WorkerEnd {
+        let Worker {
+            numbers,
+            mut pass,
+            ops,
+        } = self;
+        // The proof of a thread knows nothing of a set of boxes but its type, so the worker asks it anew.
+        if ops.missing().is_some() {
+            return WorkerEnd::NoNumber;
+        }
+        let mut spare = None;
+        let mut commits = 0u32;
+        for _ in rt.forever() {
+            let Some(number) = numbers.draw(rt, &mut pass) else {
+                return WorkerEnd::NoNumber;
+            };
+            match run_call(rt, journal, shared, &ops, &mut spare, number) {
+                CallEnd::Committed => {
+                    commits = commits.wrapping_add(1);
+                    if commits % COMMITS_A_PRUNE == 0 {
+                        prune(rt, journal, shared);
+                    }
+                }
+                CallEnd::Left => {}
+                CallEnd::ClockEnd => return WorkerEnd::ClockEnd,
+            }
+        }
+        unreachable!()
+    }
+}
+
+/// Runs a call, in as many attempts as it takes.
+fn run_call<G: Gate, R: Wait>(
+    rt: &R,
+    journal: &Mutex<Journal>,
+    shared: &Shared<G>,
+    ops: &OpSet,
+    spare: &mut Option<Cpu>,
+    number: u32,
+) -> CallEnd
+    requires full { IsFull ⟦<BoxedOp as Op>⟧.opcode ops.now }
+{
+    let Some(call) = shared.call(number) else {
+        return CallEnd::Left;
+    };
+    let mut tries = 1u32;
+    for _ in rt.forever() {
+        match run_attempt(rt, journal, shared, ops, spare, call, number, tries) {
+            Tried::Over(end) => return end,
+            Tried::Again => {
+                for _ in 0..tries.min(MOST_YIELDS) {
+                    thread::yield_now();
+                }
+                tries = tries.saturating_add(1);
+            }
+        }
+    }
+    unreachable!()
+}
+
+/// One attempt of a call. Each `let` that locks the journal lets it go at its end, so no lock is held at the gate.
+fn run_attempt<G: Gate, R: Wait>(
+    rt: &R,
+    journal: &Mutex<Journal>,
+    shared: &Shared<G>,
+    ops: &OpSet,
+    spare: &mut Option<Cpu>,
+    call: &Call,
+    number: u32,
+    tries: u32,
+) -> Tried
+    requires full { IsFull ⟦<BoxedOp as Op>⟧.opcode ops.now }
+{
+    let begun = journal.lock(rt).begin(number);
+    let mut attempt = match begun {
+        Ok(attempt) => attempt,
+        Err(Failure::Fault(BeginFault::ClockEnd)) => return Tried::Over(CallEnd::ClockEnd),
+        Err(_) => return Tried::Over(CallEnd::Left),
+    };
+    shared.gate.pause(number, tries, GateEvent::Begun);
+    match shared.run(rt, ops, spare, call, &mut attempt, tries) {
+        Ok(finished) => commit(rt, journal, shared, attempt, finished, tries),
+        Err(stopped) => abandon(rt, journal, attempt, stopped),
+    }
+}
+
+/// Commits an attempt whose call has ended, or abandons it.
+fn commit<G: Gate, R: Wait>(
+    rt: &R,
+    journal: &Mutex<Journal>,
+    shared: &Shared<G>,
+    attempt: Attempt,
+    finished: Finished,
+    tries: u32,
+) -> Tried {
+    let number = attempt.number();
+    shared.gate.pause(number, tries, GateEvent::BeforeCommit);
+    let wanted = shards_of(&attempt, &finished);
+    let worked = under_locks(
+        rt,
+        journal,
+        shared,
+        &wanted,
+        Work::Commit(attempt, finished),
+    );
+    match worked {
+        Worked::Done => {
+            shared.gate.pause(number, tries, GateEvent::Committed);
+            Tried::Over(CallEnd::Committed)
+        }
+        Worked::Again(attempt) => abandon(rt, journal, attempt, Stopped::Again),
+        Worked::Memory(attempt) => abandon(rt, journal, attempt, Stopped::Memory),
+    }
+}
+
+/// Takes the journal's lock, and then those of the shards that are wanted.
+fn under_locks<G: Gate, R: Wait>(
+    rt: &R,
+    journal: &Mutex<Journal>,
+    shared: &Shared<G>,
+    wanted: &[bool],
+    work: Work,
+) -> Worked {
+    let mut held = Held::new();
+    let mut guard = journal.lock(rt);
+    work_with(rt, shared.shards, wanted, &mut guard, &mut held, work)
+}
+
+/// Ends an attempt without a commit.
+fn abandon<R: Wait>(rt: &R, journal: &Mutex<Journal>, attempt: Attempt, stopped: Stopped) -> Tried {
+    let _abandoned = journal.lock(rt).abandon(attempt);
+    match stopped {
+        Stopped::Again => Tried::Again,
+        Stopped::Memory => Tried::Over(CallEnd::Left),
+    }
+}
+
+/// Drops the versions that no attempt can ask for any more.
+fn prune<G: Gate, R: Wait>(rt: &R, journal: &Mutex<Journal>, shared: &Shared<G>) {
+    let all = [true; SHARD_COUNT];
+    under_locks(rt, journal, shared, &all, Work::Prune);
+}
+
+/// Which shards have an item that was read or is written, by index.
+pub(crate) fn shards_of(attempt: &Attempt, finished: &Finished) -> [bool; SHARD_COUNT] {
+    let mut wanted = [false; SHARD_COUNT];
+    for (item, _value) in attempt.reads().iter() {
+        wanted[usize::from(shard_of(item))] = true;
+    }
+    for (item, _value) in finished.writes().iter() {
+        wanted[usize::from(shard_of(item))] = true;
+    }
+    wanted
+}

@@ -1,0 +1,89 @@
+//! Workers in threads.
+
+ghost use Rattle.std.specs.Prelude.{◌≡◌, ◌≤◌, true, []};
+ghost use Rattle.call_numbers.specs.Passes.{IsWith, view};
+ghost use Rattle.call_numbers.specs.Rule.{hand};
+
+use crate::gate::Gate;
+use crate::running::Shared;
+use crate::worker::{Worker, WorkerEnd, enlist};
+use avm_ops::OpSet;
+use call_numbers::{NumberPass, Numbers};
+use mv_parts::Journal;
+use std::alloc::{AllocError, Global};
+use std::sync::{Mutex, Wait};
+use std::thread;
+use std::thread::Threads;
+
+/// How the workers ended.
+#[derive(Clone, Copy, Debug, PartialEq, Eq)]
+pub(crate) enum Ran {
+    /// Each drew numbers until there was none.
+    Over,
+    /// A thread could not be started. Those that were started have ended.
+    NotStarted,
+    /// One of them found that the last timestamp was given.
+    ClockEnd,
+}
+
+/// Puts the numbers 1 to the count.
+pub(crate) fn put_all<R: Wait>(rt: &R, numbers: &Numbers, pass: &mut NumberPass, count: u32)
+    requires queue { IsWith numbers.now pass.old × (view pass.old ≡ hand true 0 []) }
+    requires room { count ≤ 4096 }
+    ensures { IsWith numbers.now pass.new × (view pass.new ≡ hand true count []) }
+{
+    for below in 0..count {
+        if numbers.put(rt, pass, below + 1).is_err() {
+            unreachable!()
+        }
+    }
+}
+
+/// A worker of each set.
+pub(crate) fn enlist_all<'a>(
+    alloc: Global,
+    numbers: &'a Numbers,
+    pass: &mut NumberPass,
+    sets: Vec<OpSet>,
+) -> Result<Vec<Worker<'a>>, AllocError>
+    requires { IsWith numbers.now pass.old }
+    ensures { IsWith numbers.entry.now pass.new × (view pass.new ≡ view pass.old) }
+{
+    let mut workers = Vec::with_capacity(alloc, sets.len())?;
+    for ops in sets {
+        workers.push(enlist(numbers, pass, ops))?;
+    }
+    Ok(workers)
+}
+
+/// Runs the workers in threads of their own, and joins those that were started.
+pub(crate) fn run_workers<G: Gate, R: Threads + Wait + Sync>(
+    rt: &R,
+    journal: &Mutex<Journal>,
+    shared: &Shared<G>,
+    workers: Vec<Worker>,
+) -> Result<Ran, AllocError> {
+    let mut handles = Vec::with_capacity(shared.alloc, workers.len())?;
+    Ok(thread::scope(thread::scope_env(), rt, move |scope| {
+        let mut ran = Ran::Over;
+        for worker in workers {
+            match scope.spawn(move || worker.work(rt, journal, shared)) {
+                Ok(handle) => {
+                    if let Err(refused) = handles.push(handle) {
+                        refused.value.join(rt);
+                    }
+                }
+                Err(_) => {
+                    ran = Ran::NotStarted;
+                    break;
+                }
+            }
+        }
+        for handle in handles {
+            if handle.join(rt) == WorkerEnd::ClockEnd && ran == Ran::Over {
+                ran = Ran::ClockEnd;
+            }
+        }
+        ran
+    }))
+}

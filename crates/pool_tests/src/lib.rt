@@ -1,0 +1,5 @@
+//! Calls that several threads run into one block, through sets with an object of every opcode.
+#![tactic(auto)]
+
+#[cfg(test)]
+mod counts;
