@@ -8,3 +8,4 @@ pub mod Calls
 pub mod Openings
 pub mod Commits
 pub mod CommitCalls
+pub mod Sealings

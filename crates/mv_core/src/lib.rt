@@ -12,6 +12,7 @@ mod committing;
 mod faults;
 mod opening;
 mod reading;
+mod sealing;
 mod store;
 mod ticket;
 
@@ -19,6 +20,7 @@ pub use faults::{
     AbandonFault, CommitError, CommitFault, ReadError, ReadFault, RefusedCommit, StateError,
     StateFault,
 };
+pub use sealing::RefusedSeal;
 pub use store::Store;
 pub use ticket::Ticket;
 
