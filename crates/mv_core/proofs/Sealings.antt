@@ -1,5 +1,5 @@
 -- A store's seal, by its journal's: what is seen of the two differs in what live attempts have read, and in marks.
-use Rattle.std.proofs.Common.{◌≡◌, List, [], ◌∷◌, ℕ, refl, sym, ap, ◌∙◌}
+use Rattle.std.proofs.Common.{◌≡◌, List, [], ◌∷◌, ℕ, refl, ap}
 use Rattle.std.specs.Prelude.{◌↔◌}
 use Rattle.teal_value.specs.declared.failure.Failure.{Failure}
 use Rattle.teal_value.specs.declared.failure.Failure.TheVariants as failure
