@@ -23,9 +23,9 @@ use Rattle.mv_agreement.proofs.Agreements.{after_prune, after_read, after_unwrit
 -- ---- the marks of one item's versions
 
 -- a read raises marks, and not above its timestamp where it does
-record IsRaised (t before after : ℕ) : Type 0 where
-  more : before ≤ after
-  not_more : after ≤ max t before
+pub record IsRaised (t before after : ℕ) : Type 0 where
+  pub more : before ≤ after
+  pub not_more : after ≤ max t before
 
 module _ {V : Type 0} where
   raised : (t n : ℕ) (vs : List (Version V)) → IsChain vs → oldest_timestamp vs ≤ t → IsRaised t (mark_in n vs) (mark_in n (versions_read_at t vs))
@@ -49,34 +49,34 @@ module _ {Item Value Outcome V : Type 0} (give : Value → V) (same : Item → I
   read_marked : (x : Item) (t : ℕ) (vs : List (Version V)) → HoldsVersions give same base from es x vs → from ≤ t → t ≤ mark_in (version_below same base es (suc t) x).0 (versions_read_at t vs)
   read_marked x t vs h above = found_marked t (version_below same base es (suc t) x).0 vs h.chain (omega (arith, h.old_enough)) (λ d. (h.found t d above).timestamp)
 
-  read_raised : (x : Item) (t n : ℕ) (vs : List (Version V)) → HoldsVersions give same base from es x vs → from ≤ t → IsRaised t (mark_in n vs) (mark_in n (versions_read_at t vs))
+  pub read_raised : (x : Item) (t n : ℕ) (vs : List (Version V)) → HoldsVersions give same base from es x vs → from ≤ t → IsRaised t (mark_in n vs) (mark_in n (versions_read_at t vs))
   read_raised x t n vs h above = raised t n vs h.chain (omega (arith, h.old_enough))
 
   -- what an entry marks where it read
-  marked_holds : (x : Item) (o : Option Value) (t : ℕ) (vs : List (Version V)) → HoldsVersions give same base from es x vs → from ≤ t → HoldsVersions give same base from es x (marked_where o t vs)
+  pub marked_holds : (x : Item) (o : Option Value) (t : ℕ) (vs : List (Version V)) → HoldsVersions give same base from es x vs → from ≤ t → HoldsVersions give same base from es x (marked_where o t vs)
   marked_holds x None t vs h above = h
   marked_holds x (Some value) t vs h above = after_read give same base from es x vs h t above
 
-  marked_raised : (x : Item) (o : Option Value) (t n : ℕ) (vs : List (Version V)) → HoldsVersions give same base from es x vs → from ≤ t → IsRaised t (mark_in n vs) (mark_in n (marked_where o t vs))
+  pub marked_raised : (x : Item) (o : Option Value) (t n : ℕ) (vs : List (Version V)) → HoldsVersions give same base from es x vs → from ≤ t → IsRaised t (mark_in n vs) (mark_in n (marked_where o t vs))
   marked_raised x None t n vs h above = record { more = omega arith; not_more = omega arith }
   marked_raised x (Some value) t n vs h above = read_raised x t n vs h above
 
-  marked_found : (x : Item) (o : Option Value) (t : ℕ) (vs : List (Version V)) → IsSome o → HoldsVersions give same base from es x vs → from ≤ t → t ≤ mark_in (version_below same base es (suc t) x).0 (marked_where o t vs)
+  pub marked_found : (x : Item) (o : Option Value) (t : ℕ) (vs : List (Version V)) → IsSome o → HoldsVersions give same base from es x vs → from ≤ t → t ≤ mark_in (version_below same base es (suc t) x).0 (marked_where o t vs)
   marked_found x None t vs some h above = absurd cc
   marked_found x (Some value) t vs some h above = read_marked x t vs h above
 
   -- a write leaves the marks
-  written_marks : (o : Option Value) (t n : ℕ) (vs : List (Version V)) → AllByRecursion (λ version. version.timestamp ≢ t) vs → mark_in n (written_where give o t vs) ≡ mark_in n vs
+  pub written_marks : (o : Option Value) (t n : ℕ) (vs : List (Version V)) → AllByRecursion (λ version. version.timestamp ≢ t) vs → mark_in n (written_where give o t vs) ≡ mark_in n vs
   written_marks None t n vs absent = refl
   written_marks (Some value) t n vs absent = every_install_keeps_marks_lem V t n (give value) vs absent
 
-  written_holds : (x : Item) (e : Entry Item Value Outcome) (vs : List (Version V)) → HoldsVersions give same base from es x vs → IsRising 0 es → from ≤ e.timestamp → AllByRecursion (λ version. version.timestamp ≢ e.timestamp) vs
+  pub written_holds : (x : Item) (e : Entry Item Value Outcome) (vs : List (Version V)) → HoldsVersions give same base from es x vs → IsRising 0 es → from ≤ e.timestamp → AllByRecursion (λ version. version.timestamp ≢ e.timestamp) vs
       → (o : Option Value) → lookup (same x) e.writes ≡ o → HoldsVersions give same base from (entries_with e es) x (written_where give o e.timestamp vs)
   written_holds x e vs h rising above absent None is = after_unwritten give same base from es x vs h rising e above absent is
   written_holds x e vs h rising above absent (Some value) is = after_written give same base from es x vs h rising e above absent value is
 
 -- each read of a list is found in it
-reads_found : {Item Value : Type 0} (same : Item → Item → Bool) → ((x : Item) → same x x ≡ true) → (reads : List (Item × Value)) → AllByRecursion (λ read. IsSome (lookup (same read.0) reads)) reads
+pub reads_found : {Item Value : Type 0} (same : Item → Item → Bool) → ((x : Item) → same x x ≡ true) → (reads : List (Item × Value)) → AllByRecursion (λ read. IsSome (lookup (same read.0) reads)) reads
 reads_found same itself [] = tt
 reads_found {Item} {Value} same itself (r ∷ rs) = (
   by_itself (same r.0 r.0) (itself r.0),

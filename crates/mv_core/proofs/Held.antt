@@ -1,32 +1,27 @@
 -- The shards of a store: the marks of their versions, and their versions after a read and a prune.
-use Rattle.std.proofs.Common.{◌≡◌, ℕ, ◌+◌, zero, suc, ◌<◌, ◌≤◌, ◌==◌, Bool, true, false, cond, nat_lt, if◌then◌else◌, List, [], ◌∷◌, ◌++◌, Option, None, Some, get_or, set, refl, sym, ap, ◌∙◌, subst, arith, inl, inr}
-use Rattle.std.specs.Prelude.{◌%◌, ◌⊎◌, sum, slice_index_or}
-use Rattle.std.proofs.Math.Nat.{mod-lt}
-use Rattle.std.specs.Ordering.{is_eq}
+use Rattle.std.proofs.Common.{◌≡◌, ℕ, zero, suc, ◌<◌, ◌≤◌, ◌==◌, Bool, true, false, cond, if◌then◌else◌, [], ◌∷◌, Option, None, Some, get_or, set, refl, sym, ap, ◌∙◌, subst, arith}
 use Rattle.std.specs.Map.{keys_of, lookup}
 use Rattle.std.specs.BTreeMap.{is_at}
 use Rattle.std.proofs.lemmas.List.{get_or-set_other}
 use Rattle.avm_ledger.specs.Ledgers.{Ledger}
 use Rattle.avm_items.specs.declared.item.Item.{Item}
-use Rattle.avm_items.specs.declared.item.Item.TheVariants.{NextApp, App, Counts, Key, Local}
 use Rattle.avm_items.specs.declared.item_value.ItemValue.{ItemValue}
 use Rattle.avm_items.specs.Items.{item_cmp}
 use Rattle.avm_items.specs.LedgerItems.{at}
-use Rattle.mv_chain.specs.declared.Version.{Version}
 use Rattle.mv_chain.specs.Versions.{IsChain, mark_in, versions_from, versions_read_at}
 use Rattle.mv_history.specs.World.{greatest_mark}
-use Rattle.mv_history.proofs.Lists.{Compared, less, not_less, compared, Equals, equal, unequal, equals}
+use Rattle.mv_history.proofs.Lists.{Equals, equal, unequal, equals}
 use Rattle.mv_agreement.specs.Stores.{after_item_read}
 use Rattle.mv_calls.specs.CallHistory.{same_item}
 use Rattle.mv_calls.proofs.SerialCalls.{items_have_an_equality}
 use Rattle.mv_shards.specs.Chains.{VersionLists, versions_or, with_versions}
 use Rattle.mv_shards.specs.Indexes.{shard_count, shard_of}
-use Rattle.mv_shards.specs.Shards.{IsPrunedShard, Shard, versions_held}
-use Rattle.mv_shards.specs.Helds.{ArePruned, IsPrunedPlace, Places, shard_for}
+use Rattle.mv_shards.specs.Shards.{Shard, versions_held}
+use Rattle.mv_shards.specs.Helds.{IsPrunedPlace, Places, shard_for}
 use Rattle.mv_shards.specs.Writing.{versions_for, versions_or_none}
 use Rattle.mv_shards.proofs.Steps.{set_here}
-use Rattle.mv_shards.proofs.Touched.{found_inserted}
 use Rattle.mv_parts.specs.Journals.{AreAllOver, IsOver}
+use Rattle.mv_parts.proofs.Agreeing.{read_in}
 use Rattle.mv_core.specs.Stores.{items_in, items_or_none, marks_in}
 use Rattle.mv_core.proofs.MarkLists.{among_both, is_among, marks_listed}
 
@@ -57,13 +52,6 @@ pub marks_of_places : (places : Places) → ((x : Item) → IsChain (versions_fo
 marks_of_places places chains = marks_listed same_item (versions_for places) items_have_an_equality.exact chains (items_in places) (λ x n h. unmarked n (shard_for places x) x (unlisted places x (shard_of x) h))
 
 -- ---- a read
-
-pub read_in : (s : Shard) (x : Item) (vs : List (Version ItemValue)) (y : Item) → versions_held (record s { chains = with_versions s.chains x vs }) y ≡ (if same_item y x then vs else versions_held s y)
-read_in s x vs y = ap (versions_or (at s.base y)) (found_inserted y x vs s.chains) ∙ by (same_item y x)
-  where
-    by : (b : Bool) → versions_or (at s.base y) (cond b (Some vs) (lookup (is_at (item_cmp y)) s.chains)) ≡ (if b then vs else versions_held s y)
-    by true = refl
-    by false = refl
 
 pub versions_after_read : (places : Places) (x : Item) (t : ℕ) (s : Shard) → shard_for places x ≡ Some s → (y : Item)
     → versions_for (set places (shard_of x) (Some (record s { chains = with_versions s.chains x (versions_read_at t (versions_held s x)) }))) y ≡ after_item_read same_item t x (versions_for places) y

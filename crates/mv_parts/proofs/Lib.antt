@@ -9,3 +9,4 @@ pub mod Commits
 pub mod KeptCommits
 pub mod Counts
 pub mod Seals
+pub mod Agreeing

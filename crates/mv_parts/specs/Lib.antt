@@ -2,4 +2,5 @@ pub mod Opening
 pub mod Journals
 pub mod Commits
 pub mod Sealing
+pub mod Agreeing
 pub mod SameLedgers

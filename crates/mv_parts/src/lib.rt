@@ -4,7 +4,7 @@
 //! are told, each by its own lock, this crate joins.
 //!
 //! What is seen of a journal, and what it keeps, is in specs/Journals.antt; to which block it is sealed, in
-//! specs/Sealing.antt.
+//! specs/Sealing.antt; when a shard agrees with a journal, in specs/Agreeing.antt.
 #![tactic(auto)]
 
 mod begin_fault;
@@ -14,6 +14,7 @@ mod commit_tests;
 mod committing;
 mod entry;
 mod journal;
+mod laws;
 mod open_fault;
 mod opening;
 mod past;
@@ -27,6 +28,7 @@ pub use begin_fault::{BeginError, BeginFault};
 pub use commit_fault::{CommitError, CommitFault, RefusedCommit};
 pub use entry::Entry;
 pub use journal::Journal;
+pub use laws::every_call_keeps_agreement;
 pub use open_fault::{OpenError, OpenFault};
 pub use opening::open_parts;
 pub use seal_fault::{RefusedSeal, SealError, SealFault};
