@@ -4,6 +4,7 @@ ghost use Rattle.std.specs.Prelude.{◌≡◌, IfOk};
 ghost use Rattle.avm_laws.specs.Orderly.{IsOrderly};
 ghost use Rattle.avm_ops.specs.Objects.{IsFull};
 
+use crate::full_set;
 use avm_arith::ArithOp;
 use avm_block::Block;
 use avm_call::Call;
@@ -27,7 +28,7 @@ const NOBODY: Address = Address([0; 32]);
 /// Adds 1 to the number under the key `n` of the global state, and approves.
 const COUNTS: &str = "022001012601016e28286422086722";
 
-const HEADER: Header = Header {
+pub const HEADER: Header = Header {
     profile: Profile::Two,
     round: 0,
     latest_timestamp: 0,
@@ -39,7 +40,7 @@ const HEADER: Header = Header {
 const CALLS: usize = 64;
 
 /// A call of an application, or the creation of one that counts.
-fn call(alloc: Global, application: u64) -> Result<Call, Fail> {
+pub fn call(alloc: Global, application: u64) -> Result<Call, Fail> {
     let program = if application == 0 { COUNTS } else { "" };
     let uints = if application == 0 { 1 } else { 0 };
     let fields = CallData {
@@ -66,13 +67,21 @@ fn call(alloc: Global, application: u64) -> Result<Call, Fail> {
     }
 }
 
+/// The ledger without applications.
+fn no_applications(alloc: Global) -> Ledger
+    ensures { IsOrderly result }
+{
+    let ledger = Ledger::new(alloc);
+    let _next_id = ledger.next_id();
+    ledger
+}
+
 /// The ledger with one application, which has counted to 1 when it was created.
-fn one_application(alloc: Global, ops: &OpSet) -> Result<Ledger, Fail>
+pub fn one_application(alloc: Global, ops: &OpSet) -> Result<Ledger, Fail>
     requires full { IsFull ⟦<BoxedOp as Op>⟧.opcode ops.now }
     ensures { IfOk result IsOrderly }
 {
-    let none = Ledger::new(alloc);
-    let _next_id = none.next_id();
+    let none = no_applications(alloc);
     every_call_keeps_order();
     let creation = call(alloc, 0)?;
     let (_outcome, ledger) = call_plain(alloc, &none, &creation, &HEADER, ops)?;
@@ -89,7 +98,7 @@ fn calls(alloc: Global) -> Result<Vec<Call>, Fail> {
 }
 
 /// Whether a block replays on a ledger, and the count is this afterwards.
-fn leads_to(
+pub fn leads_to(
     alloc: Global,
     base: &Ledger,
     block: &Block,
@@ -145,27 +154,6 @@ fn all_count<R: Threads + Wait + Sync>(
         }
         Err(_) => Err("the calls are proposed".into()),
     }
-}
-
-/// A set with an object of every opcode. Boxes are made in the test's own body, so this is a macro.
-macro_rules! full_set {
-    ($rt:expr, $alloc:expr) => {{
-        let mut ops: OpSet = Ops::new($alloc)?;
-        for code in 0..256usize {
-            let code = code as u8;
-            let op: Box<dyn Op> = if let Some(op) = ArithOp::of(code) {
-                Box::new($alloc, op)?
-            } else if let Some(op) = FlowOp::of(code) {
-                Box::new($alloc, op)?
-            } else if let Some(op) = StateOp::of(code) {
-                Box::new($alloc, op)?
-            } else {
-                continue;
-            };
-            assert!($rt; ops.push(BoxedOp { op }).is_ok());
-        }
-        ops
-    }};
 }
 
 #[test]

@@ -3,3 +3,7 @@
 
 #[cfg(test)]
 mod counts;
+#[cfg(test)]
+mod gates;
+#[cfg(test)]
+mod sets;
