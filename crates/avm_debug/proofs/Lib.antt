@@ -1,0 +1,4 @@
+pub mod PathSteps
+pub mod OnlyFaults
+pub mod OneMore
+pub mod Supplied

@@ -1,0 +1,4 @@
+pub mod Debugging
+pub mod DebugRuns
+pub mod DebugSteps
+pub mod Stepping
