@@ -2,3 +2,8 @@ pub mod PathSteps
 pub mod OnlyFaults
 pub mod OneMore
 pub mod Supplied
+pub mod KnownItself
+pub mod PathsAlike
+pub mod Prepared
+pub mod Viewing
+pub mod Moving

@@ -10,7 +10,7 @@ use Rattle.avm_items.specs.Items.{ItemMap, Look, item_cmp, value_in, with_item}
 use Rattle.avm_items.specs.Locality.{Agrees, Extends}
 use Rattle.avm_items.proofs.Puts.{item_same, item_total}
 
-same_or_other : {P : Type 0} (x y : Item) → (y ≡ x → P) → (is_eq (item_cmp y x) ≡ false → P) → P
+pub same_or_other : {P : Type 0} (x y : Item) → (y ≡ x → P) → (is_eq (item_cmp y x) ≡ false → P) → P
 same_or_other {P = P} x y same other = by (is_eq (item_cmp y x)) refl
   where
     by : (b : Bool) → is_eq (item_cmp y x) ≡ b → P

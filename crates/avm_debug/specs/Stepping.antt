@@ -1,5 +1,5 @@
 -- One step of a run that is supplied from a ledger.
-use Rattle.std.specs.Prelude.{◌≡◌, ℕ, true, Bool, List, [], Option, Some, None, is_some}
+use Rattle.std.specs.Prelude.{◌≡◌, ℕ, true, false, Bool, List, [], Option, Some, None, is_some}
 use Rattle.teal_value.specs.declared.fault.Fault.{Fault}
 use Rattle.avm_ledger.specs.declared.header.Header.{Header}
 use Rattle.avm_ledger.specs.Ledgers.{Ledger}
@@ -26,6 +26,11 @@ ShowsNext call header reads (Some n) left = (s : Sight) × ShowsPath call header
 abbrev pub IsLeft : Option Progress → Bool → Type 0
 IsLeft None left = Unit {0}
 IsLeft (Some p) left = ShowsNext p.call p.header p.reads p.steps left
+
+-- whether an instruction comes next; none does where the next step has faulted
+abbrev pub ComesNextBy : Option Fault → Option Progress → Bool → Type 0
+ComesNextBy (Some f) run comes = comes ≡ false
+ComesNextBy None run comes = IsLeft run comes
 
 -- a run that stands before an instruction
 pub record StandsBefore (p : Progress) : Type 0 where

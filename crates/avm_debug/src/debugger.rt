@@ -5,7 +5,7 @@ ghost use Rattle.avm_ops.specs.Objects.{IsFull};
 ghost use Rattle.avm_debug.specs.DebugSteps.{StepsTo};
 
 use crate::faults::{StepError, StepFault};
-use crate::stepping::{is_left, step_over};
+use crate::stepping::{comes_next, step_over};
 use avm_ledger::Ledger;
 use avm_ops::{BoxedOp, Op, OpSet};
 use avm_run::CallRun;
@@ -47,7 +47,7 @@ impl Debugger {
             return Err(Failure::Fault(StepFault::Spent));
         };
         let mut run = run;
-        if self.fault.is_some() || !is_left(&run) {
+        if !comes_next(self.fault, &run) {
             self.run = Some(run);
             return Err(Failure::Fault(StepFault::Ended));
         }

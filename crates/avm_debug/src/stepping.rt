@@ -2,7 +2,7 @@
 
 ghost use Rattle.std.specs.Prelude.{◌≡◌, IfOk};
 ghost use Rattle.avm_ops.specs.Objects.{IsFull};
-ghost use Rattle.avm_debug.specs.Stepping.{Asked, Goes, GoesOnOver, IsBefore, IsLeft, LeadsTo, supplied};
+ghost use Rattle.avm_debug.specs.Stepping.{Asked, ComesNextBy, Goes, GoesOnOver, IsBefore, IsLeft, LeadsTo, supplied};
 
 use avm_call::Ended;
 use avm_items::{Item, item_of};
@@ -23,8 +23,18 @@ pub(crate) enum Went {
     Faulted(Fault),
 }
 
-/// Whether an instruction comes next where a run stands.
-pub(crate) fn is_left(run: &CallRun) -> bool
+/// Whether an instruction comes next where a run stands, whose next step may have faulted.
+pub(crate) fn comes_next(fault: Option<Fault>, run: &CallRun) -> bool
+    ensures { ComesNextBy fault run.now result }
+{
+    match fault {
+        Some(_fault) => false,
+        None => is_left(run),
+    }
+}
+
+/// Whether an instruction is left where a run stands.
+fn is_left(run: &CallRun) -> bool
     ensures { IsLeft run.now result }
 {
     match run.shown() {
