@@ -7,3 +7,4 @@ pub mod PathsAlike
 pub mod Prepared
 pub mod Viewing
 pub mod Moving
+pub mod Beginning

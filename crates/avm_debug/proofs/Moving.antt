@@ -182,8 +182,7 @@ comes_by l p d left =
       made = λ now f t.
           let first : t.first ≡ p = same_run (sym t.was) in
           let leads : LeadsBy p t.here f = subst (λ q. LeadsBy q t.here f) first t.leads in
-          let one = led l p t.here d.steps s.0 f d.counted o s.2 (t.same_call ∙ ap (λ (q : Progress). q.call) first) (t.same_header ∙ ap (λ (q : Progress). q.header) first) t.agrees leads in
-          (
+          let one = led l p t.here d.steps s.0 f d.counted o s.2 (t.same_call ∙ ap (λ (q : Progress). q.call) first) (t.same_header ∙ ap (λ (q : Progress). q.header) first) t.agrees leads in (
             subst (λ m. IsKept l f (Some m)) (sym t.is) one.kept,
             subst (λ m. StepsTo (seen l None (Some (Some p))) (seen l f (Some m)) (Ok tt)) (sym t.is) one.steps,
           );

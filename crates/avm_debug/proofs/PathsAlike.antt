@@ -48,7 +48,7 @@ executed_alike e p look other alike (Err f) = record { alike = refl; knows = tt 
 
 step_by : (e : Execution) (p : Position) (look other : Look) → AlikeAt e p.writes look other → (b : Bool)
     → StepAlike e p look other (result_over look (if b then Gives (Err (result_at_end (length e.program) p.stack)) else executed e p (instruction_at e.program p.place)))
-      (result_over other (if b then Gives (Err (result_at_end (length e.program) p.stack)) else executed e p (instruction_at e.program p.place)))
+    (result_over other (if b then Gives (Err (result_at_end (length e.program) p.stack)) else executed e p (instruction_at e.program p.place)))
 step_by e p look other alike true = record { alike = refl; knows = tt }
 step_by e p look other alike false = executed_alike e p look other alike (instruction_at e.program p.place)
 

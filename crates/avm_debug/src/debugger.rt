@@ -1,12 +1,16 @@
 //! Debuggers.
 
-ghost use Rattle.std.specs.Prelude.{◌≡◌};
+ghost use Rattle.std.specs.Prelude.{◌≡◌, IfErr, IfOk, None, Some};
 ghost use Rattle.avm_ops.specs.Objects.{IsFull};
 ghost use Rattle.avm_debug.specs.DebugSteps.{StepsTo};
+ghost use Rattle.avm_debug.specs.Opening.{HasProgram, IsOpenRefusal, IsOpened, IsStartRefusal};
 
-use crate::faults::{StepError, StepFault};
+use crate::faults::{OpenError, OpenFault, StepError, StepFault};
+use crate::opening::{entry_of, ledger_before, start_over};
 use crate::stepping::{comes_next, step_over};
-use avm_ledger::Ledger;
+use avm_block::Block;
+use avm_call::Call;
+use avm_ledger::{Header, Ledger};
 use avm_ops::{BoxedOp, Op, OpSet};
 use avm_run::CallRun;
 use std::alloc::{AllocError, Global};
@@ -37,6 +41,55 @@ impl Model for Debugger {
 }
 
 impl Debugger {
+    /// The call of an entry of a block, before the first instruction of its program, over the ledger that the calls before it
+    /// have led to. That ledger is made here, by a replay of those calls over the ledger before the block.
+    ///
+    /// Entries are numbered from 1, by rising timestamp. How the entries say that their calls ended is not compared.
+    pub fn open(
+        alloc: Global,
+        base: &Ledger,
+        block: &Block,
+        entry: usize,
+        ops: &OpSet,
+    ) -> Result<Debugger, OpenError>
+        requires full { IsFull ⟦<BoxedOp as Op>⟧.opcode ops.now }
+        ensures opened { IfOk result (λ debugger. IsOpened base.now block.now entry debugger) }
+        ensures refused { IfErr result (IsOpenRefusal base.now block.now entry) }
+    {
+        match entry_of(block.entries(), entry) {
+            None => Err(Failure::Fault(OpenFault::NoEntry)),
+            Some(entry) => match ledger_before(alloc, base, block, entry, ops) {
+                Ok(ledger) => Debugger::started(alloc, ledger, &entry.call, block.header(), ops),
+                Err(refused) => Err(refused),
+            },
+        }
+    }
+
+    /// A call before the first instruction of its program.
+    fn started(
+        alloc: Global,
+        ledger: Ledger,
+        call: &Call,
+        header: &Header,
+        ops: &OpSet,
+    ) -> Result<Debugger, OpenError>
+        requires full { IsFull ⟦<BoxedOp as Op>⟧.opcode ops.now }
+        ensures started { IfOk result (λ debugger. debugger ≡ Some (record { ledger = ledger; call = call.now; header = header.now; steps = 0; fault = None })) }
+        ensures program { IfOk result (λ _. HasProgram ledger call.now) }
+        ensures refused { IfErr result (IsStartRefusal ledger call.now) }
+    {
+        let mut run = CallRun::start(alloc, call, header, None)?;
+        match start_over(alloc, ops, &ledger, &mut run) {
+            Ok(true) => Ok(Debugger {
+                ledger,
+                run: Some(run),
+                fault: None,
+            }),
+            Ok(false) => Err(Failure::Fault(OpenFault::NoProgram)),
+            Err(AllocError) => Err(Failure::Memory),
+        }
+    }
+
     /// Carries out the instruction that comes next, over the ledger. One that faults leaves place and stack as they were,
     /// and its fault is shown from then on. It costs what the instruction does.
     pub fn step(&mut self, alloc: Global, ops: &OpSet) -> Result<(), StepError>

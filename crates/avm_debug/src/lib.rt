@@ -7,6 +7,7 @@
 
 mod debugger;
 mod faults;
+mod opening;
 mod stepping;
 
 pub use debugger::Debugger;

@@ -63,7 +63,7 @@ fn try_step(alloc: Global, ops: &OpSet, run: &mut CallRun) -> Result<Went, Alloc
 }
 
 /// Supplies the item that a run asks for with its value in a ledger.
-fn supply_from(ledger: &Ledger, run: &mut CallRun, item: Item) -> Result<(), AllocError>
+pub(crate) fn supply_from(ledger: &Ledger, run: &mut CallRun, item: Item) -> Result<(), AllocError>
     requires { Asked run.old item }
     ensures { IfOk result (λ _. run.new ≡ supplied ledger.now item run.old) }
 {

@@ -1,10 +1,11 @@
-use Rattle.std.proofs.Common.{◌≡◌, Err, Ok, Option, Some, sym, ap, subst, ◌∙◌}
+use Rattle.std.proofs.Common.{◌≡◌, Err, None, Ok, Option, Some, sym, ap, subst, ◌∙◌}
 use Rattle.teal_value.specs.declared.failure.Failure.TheVariants as failure
 use Rattle.avm_debug.specs.declared.faults.StepFault.TheVariants as fault
 use Rattle.avm_debug.specs.Debugging.{Debugged}
 use Rattle.avm_debug.specs.DebugRuns.{IsKept, seen}
 use Rattle.avm_debug.specs.DebugSteps.{StepsTo}
 use Rattle.avm_debug.proofs.Moving.{comes_over, ends_over}
+use Rattle.avm_debug.proofs.debugger.Debugger.step.Goals.{in-None-6, in-Some-2}
 use Rattle.avm_debug.proofs.debugger.Debugger.step.Goals as goal
 
 pub step_over-requires-clause-stands : goal.step_over-requires-clause-stands
@@ -39,5 +40,5 @@ returns-in-Err g c =
     let run = sym c.take.ensures.value ∙ c.in-Some.is in
     let kept = subst (IsKept c.self.inside.ledger c.self.inside.fault) run c.self.invariant in
     let old = sym c.self.view_is ∙ ap (seen c.self.inside.ledger c.self.inside.fault) run in
-    subst (λ (m : Option Debugged). StepsTo m (seen c.self.inside.ledger c.self.inside.fault c.take.new.self) (Err failure.Memory)) (sym old)
-    (rw c.take.ensures.after (comes_over c.self.inside.ledger c.self.inside.fault c.in-Some.run' kept c.if-not-comes_next.ensures).refused)
+    let refused = subst (λ (m : Option Debugged). StepsTo m None (Err failure.Memory)) (sym old) (comes_over c.self.inside.ledger c.self.inside.fault c.in-Some.run' kept c.if-not-comes_next.ensures).refused in
+    elim c.match-run-4.branch [ in-Some-2 w ↦ rw (w.self-is, c.take.ensures.after) refused | in-None-6 w ↦ rw (w.self-is, c.take.ensures.after) refused ]
