@@ -8,3 +8,4 @@ pub mod Prepared
 pub mod Viewing
 pub mod Moving
 pub mod Beginning
+pub mod OpenedEntries
