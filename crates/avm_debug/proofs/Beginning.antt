@@ -4,7 +4,6 @@ use Rattle.std.specs.Prelude.{IsSome}
 use Rattle.avm_ledger.specs.declared.application.Application.{Application}
 use Rattle.avm_ledger.specs.declared.header.Header.{Header}
 use Rattle.avm_ledger.specs.Ledgers.{Ledger}
-use Rattle.avm_items.specs.declared.call_data.Completion.{Completion}
 use Rattle.avm_items.specs.declared.call_data.CallData.{CallData}
 use Rattle.avm_items.specs.declared.item.Item.{Item}
 use Rattle.avm_items.specs.Items.{Look, value_in, with_item}
@@ -17,13 +16,12 @@ use Rattle.avm_call.specs.declared.outcome.Outcome.{Outcome}
 use Rattle.avm_call.specs.declared.outcome.Why.{Why}
 use Rattle.avm_call.specs.Runs.{Position}
 use Rattle.avm_call.specs.Calls.{Target, admitted}
-use Rattle.avm_call.specs.CallPaths.{Reached, call_path, path_of_row, path_of_target}
+use Rattle.avm_call.specs.CallPaths.{call_path, path_of_row, path_of_target}
 use Rattle.avm_run.specs.Advances.{AsksFor, MakesStep}
 use Rattle.avm_run.specs.Progress.{HasNoStep, HasStep, IsOutcomeAt, most_items, next_step}
 use Rattle.avm_run.specs.RunState.{Progress}
 use Rattle.avm_debug.specs.declared.opening.Begun.{Begun}
 use Rattle.avm_debug.specs.declared.opening.Begun.TheVariants as begun
-use Rattle.avm_debug.specs.Debugging.{Debugged}
 use Rattle.avm_debug.specs.DebugRuns.{IsKept, seen}
 use Rattle.avm_debug.specs.Opening.{HasNoProgram, HasProgram, row_of}
 use Rattle.avm_debug.specs.Starting.{Begins, HasBegun, HasNothing, StartsOver}

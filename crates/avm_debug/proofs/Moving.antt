@@ -1,5 +1,5 @@
 -- What a step makes of a debugger.
-use Rattle.std.proofs.Common.{◌≡◌, ◌⊎◌, inl, inr, ℕ, ◌+◌, eqb, Bool, true, false, List, length, Option, None, Some, Result, Ok, Err, refl, sym, ap, subst, ◌∙◌}
+use Rattle.std.proofs.Common.{◌≡◌, inl, inr, ℕ, ◌+◌, eqb, Bool, true, false, List, length, Option, None, Some, Ok, Err, refl, sym, ap, subst, ◌∙◌}
 use Rattle.std.specs.Prelude.{is_some, option_map}
 use Rattle.teal_value.specs.declared.failure.Failure.TheVariants as failure
 use Rattle.teal_value.specs.declared.fault.Fault.{Fault}
@@ -13,19 +13,18 @@ use Rattle.avm_items.specs.Asks.{result_over}
 use Rattle.avm_items.specs.LedgerItems.{at}
 use Rattle.avm_items.specs.Locality.{Agrees}
 use Rattle.avm_items.proofs.Questions.{result_on_ledger}
-use Rattle.avm_call.specs.declared.outcome.Ended.{Ended}
 use Rattle.avm_call.specs.declared.outcome.Ended.TheVariants as ended
 use Rattle.avm_call.specs.Runs.{Position}
 use Rattle.avm_call.specs.Calls.{program_of}
 use Rattle.avm_call.specs.CallPaths.{Reached, call_path}
-use Rattle.avm_call.specs.Views.{AtEnd, Faults, NextStep, Runs, View, view_after}
+use Rattle.avm_call.specs.Views.{AtEnd, Faults, NextStep, Runs, View}
 use Rattle.avm_run.specs.Progress.{EndsPath, HasStep, next_step}
 use Rattle.avm_run.specs.RunState.{Progress}
 use Rattle.avm_run.specs.Showing.{ComesNext, ShowsPath, Sight}
 use Rattle.avm_debug.specs.declared.faults.StepFault.TheVariants as stop
 use Rattle.avm_debug.specs.Debugging.{Debugged, next_shown}
-use Rattle.avm_debug.specs.DebugRuns.{FaultIs, HasFaulted, IsDebugged, IsKept, seen}
-use Rattle.avm_debug.specs.DebugSteps.{IsBeforeInstruction, IsFaulted, IsMoved, StepsTo}
+use Rattle.avm_debug.specs.DebugRuns.{HasFaulted, IsDebugged, IsKept, seen}
+use Rattle.avm_debug.specs.DebugSteps.{IsBeforeInstruction, StepsTo}
 use Rattle.avm_debug.specs.Stepping.{ComesNextBy, GoesOnOver, IsLeft, LeadsBy, LeadsTo, ShowsNext, StandsBefore}
 use Rattle.avm_debug.proofs.OnlyFaults.{inside_there}
 use Rattle.avm_debug.proofs.Viewing.{ShowsOver, next_faulted, next_of, next_over, position_of, shows_over, view_there}

@@ -1,13 +1,12 @@
 -- Where an instruction comes next, a step ends a program by a fault alone.
-use Rattle.std.proofs.Common.{◌≡◌, ℕ, suc, ◌+◌, ◌<◌, add-one, eqb, Bool, true, false, List, length, Option, None, Some, Result, Ok, Err, refl, sym, ap, subst, ◌∙◌, arith}
+use Rattle.std.proofs.Common.{◌≡◌, ℕ, suc, ◌+◌, ◌<◌, add-one, eqb, true, false, List, length, Option, None, Some, Result, Ok, Err, sym, ap, subst, ◌∙◌, arith}
 use Rattle.std.specs.Prelude.{is_some, unwrap_or}
 use Rattle.std.proofs.lemmas.Bool.Decides.{nat_tests}
 use Rattle.teal_code.specs.declared.instr.Instr.{Instr}
-use Rattle.avm_items.specs.declared.item_value.ItemValue.{ItemValue}
 use Rattle.avm_items.specs.declared.item_value.ItemValue.TheVariants as value
 use Rattle.avm_items.specs.Items.{ItemMap, Known, Look, value_in}
 use Rattle.avm_items.specs.LedgerItems.{value_before}
-use Rattle.avm_items.specs.Asks.{Gives, and_then, remaining_questions, result_over}
+use Rattle.avm_items.specs.Asks.{Gives, remaining_questions, result_over}
 use Rattle.avm_items.specs.Locality.{Agrees}
 use Rattle.avm_items.proofs.Questions.{result_on_ledger, result_over-and_then}
 use Rattle.avm_ops.specs.Frame.{Stepped}
@@ -15,8 +14,8 @@ use Rattle.avm_ops.specs.Effect.{effect}
 use Rattle.avm_call.specs.declared.outcome.Ended.{Ended}
 use Rattle.avm_call.specs.declared.outcome.Ended.TheVariants as ended
 use Rattle.avm_call.specs.Ends.{HasEnded}
-use Rattle.avm_call.specs.Runs.{Execution, Position, context_at, executed, instruction_at, known_itself, path, start, step, stepped, version_at}
-use Rattle.avm_call.specs.Calls.{admitted, execution, prepared, program_of}
+use Rattle.avm_call.specs.Runs.{Execution, Position, context_at, instruction_at, known_itself, path, start, step, stepped, version_at}
+use Rattle.avm_call.specs.Calls.{admitted, execution, prepared}
 use Rattle.avm_call.specs.CallPaths.{call_path}
 use Rattle.avm_call.proofs.Paths.{read_on}
 use Rattle.avm_run.specs.declared.call_run.Step.{Step}

@@ -1,5 +1,5 @@
 -- The entry of a block that is opened, from the parts of it.
-use Rattle.std.proofs.Common.{◌≡◌, ℕ, ◌-◌, IfErr, IfOk, Option, None, Some, Result, Ok, Err, refl, sym, ap, subst, ◌∙◌}
+use Rattle.std.proofs.Common.{◌≡◌, ℕ, ◌-◌, IfErr, IfOk, Option, None, Some, Result, Ok, Err, refl, subst, ◌∙◌}
 use Rattle.std.specs.Prelude.{IsSome}
 use Rattle.teal_value.specs.declared.failure.Failure.{Failure}
 use Rattle.teal_value.specs.declared.failure.Failure.TheVariants as failure

@@ -1,6 +1,6 @@
 -- What is prepared for a program changes no item that the call doesn't know by itself.
-use Rattle.std.proofs.Common.{◌≡◌, ℕ, Bool, true, false, eqb, cond, List, [], ◌∷◌, if◌then◌else◌, Option, None, Some, refl, sym, ap, subst, ◌∙◌}
-use Rattle.std.specs.Prelude.{◌==◌, ◌&&◌, ◌+◌, All}
+use Rattle.std.proofs.Common.{◌≡◌, ℕ, Bool, true, false, eqb, cond, List, [], ◌∷◌, if◌then◌else◌, Option, None, Some, refl, sym, ap, ◌∙◌}
+use Rattle.std.specs.Prelude.{◌&&◌, ◌+◌, All}
 use Rattle.std.specs.Ordering.{is_eq}
 use Rattle.std.specs.Map.{keys_of}
 use Rattle.std.proofs.lemmas.Bool.{eqb-true}
@@ -21,7 +21,7 @@ use Rattle.avm_items.specs.Items.{ItemMap, item_cmp, or_else, over, value_in, wi
 use Rattle.avm_items.specs.LedgerItems.{at, put, put_one}
 use Rattle.avm_items.specs.PutLaws.{changes_with}
 use Rattle.avm_items.proofs.Puts.{item_total, keeps_others}
-use Rattle.avm_call.specs.Calls.{created, creation, opting_in, prepared, sender_item}
+use Rattle.avm_call.specs.Calls.{created, creation, prepared, sender_item}
 use Rattle.avm_debug.proofs.OneMore.{is_there}
 
 abbrev Spares : Item → Item → Type 0

@@ -1,5 +1,5 @@
 -- What the definition of views shows, from where a run stands.
-use Rattle.std.proofs.Common.{◌≡◌, ℕ, ◌+◌, eqb, true, false, List, length, Option, None, Some, Result, Ok, Err, refl, sym, ap, subst, ◌∙◌, arith}
+use Rattle.std.proofs.Common.{◌≡◌, ℕ, eqb, true, false, List, length, Option, None, Some, Ok, refl, ap, ◌∙◌, arith}
 use Rattle.std.specs.Prelude.{option_map}
 use Rattle.std.proofs.lemmas.Bool.Decides.{nat_tests}
 use Rattle.teal_value.specs.declared.fault.Fault.{Fault}
@@ -15,10 +15,9 @@ use Rattle.avm_items.specs.Locality.{Agrees}
 use Rattle.avm_items.proofs.Questions.{result_on_ledger}
 use Rattle.avm_call.specs.declared.outcome.Ended.{Ended}
 use Rattle.avm_call.specs.declared.outcome.Ended.TheVariants as ended
-use Rattle.avm_call.specs.declared.outcome.Why.{Why}
-use Rattle.avm_call.specs.Runs.{Execution, Position, byte_constants_at, instruction_at, path, start, uint_constants_at}
-use Rattle.avm_call.specs.Calls.{Target, admitted, execution, prepared, program_of}
-use Rattle.avm_call.specs.CallPaths.{Reached, call_path}
+use Rattle.avm_call.specs.Runs.{Position, byte_constants_at, instruction_at, path, start, uint_constants_at}
+use Rattle.avm_call.specs.Calls.{admitted, execution, prepared, program_of}
+use Rattle.avm_call.specs.CallPaths.{call_path}
 use Rattle.avm_call.specs.Views.{AtEnd, Faults, NextStep, Runs, View, next_step, view_after, view_of}
 use Rattle.avm_run.specs.Showing.{ComesNext, ShowsPath, Sight}
 use Rattle.avm_debug.proofs.OnlyFaults.{inside_there}

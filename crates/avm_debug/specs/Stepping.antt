@@ -1,5 +1,5 @@
 -- One step of a run that is supplied from a ledger.
-use Rattle.std.specs.Prelude.{◌≡◌, ℕ, true, false, Bool, List, [], Option, Some, None, is_some}
+use Rattle.std.specs.Prelude.{◌≡◌, ℕ, true, false, Bool, [], Option, Some, None, is_some}
 use Rattle.teal_value.specs.declared.fault.Fault.{Fault}
 use Rattle.avm_ledger.specs.declared.header.Header.{Header}
 use Rattle.avm_ledger.specs.Ledgers.{Ledger}

@@ -1,5 +1,4 @@
 use Rattle.std.proofs.Common.{◌≡◌, Some, sym, ap, ◌∙◌}
-use Rattle.std.specs.Option.{option_copied}
 use Rattle.avm_debug.specs.Opening.{entry_at}
 use Rattle.avm_debug.proofs.OpenedEntries.{IsMet, opens_met, refuses_met}
 use Rattle.avm_debug.proofs.debugger.Debugger.open.Goals as goal

@@ -1,4 +1,4 @@
-use Rattle.std.proofs.Common.{◌≡◌, Err, None, Ok, Option, Some, sym, ap, subst, ◌∙◌}
+use Rattle.std.proofs.Common.{Err, None, Ok, Option, Some, sym, ap, subst, ◌∙◌}
 use Rattle.teal_value.specs.declared.failure.Failure.TheVariants as failure
 use Rattle.avm_debug.specs.declared.faults.StepFault.TheVariants as fault
 use Rattle.avm_debug.specs.Debugging.{Debugged}
