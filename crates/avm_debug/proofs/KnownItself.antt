@@ -27,6 +27,7 @@ use Rattle.avm_ops.specs.Effect.{effect}
 use Rattle.avm_laws.proofs.WrittenItems.{OnOk, Same}
 use Rattle.avm_laws.proofs.QuietRows.{Always, effect_same}
 use Rattle.avm_debug.proofs.OneMore.{is_there, same_or_other}
+use Rattle.avm_debug.proofs.Rows.{entry_asks, then_act, then_found, then_test, then_tests}
 
 -- what isn't known from the writes afterwards was not known from those before
 abbrev pub StaysKnown : ItemMap → ItemMap → Type 0
@@ -44,31 +45,6 @@ two_known : (w : ItemMap) (x y : Item) (u v : ItemValue) → StaysKnown w (with_
 two_known w x y u v z none = with_item_known w x u z (with_item_known (with_item w x u) y v z none)
 
 -- ---- rows that write
-
-then_act : {A : Type 0} (R : After → Type 0) (r : Result A Fault) (f : A → Act Fault After) → ((a : A) → Always (OnOk R) (f a)) → Always (OnOk R) (on_ok f r)
-then_act R (Ok a) f h = h a
-then_act R (Err e) f h = tt
-
-then_found : {A : Type 0} (R : After → Type 0) (o : Option A) (e : Fault) (f : A → Act Fault After) → ((a : A) → Always (OnOk R) (f a)) → Always (OnOk R) (and_then (found o e) (on_ok f))
-then_found R None e f h = tt
-then_found R (Some a) e f h = h a
-
-then_test : (R : After → Type 0) (b : Bool) (e : Fault) (f : Unit {0} → Act Fault After) → Always (OnOk R) (f tt) → Always (OnOk R) (and_then (test b e) (on_ok f))
-then_test R true e f h = h
-then_test R false e f h = tt
-
-then_tests : (R : After → Type 0) (f : Unit {0} → Act Fault After) → (b d : Bool) → Always (OnOk R) (f tt) → Always (OnOk R) (and_then (and_then (test b fault.KeyLength) (on_ok (λ _. test d fault.TooLong))) (on_ok f))
-then_tests R f true true h = h
-then_tests R f true false h = tt
-then_tests R f false d h = tt
-
-entry_by : (R : After → Type 0) (id : ℕ) (key : List ℕ) (f : Option Value → Act Fault After) → ((v : Option Value) → Always (OnOk R) (f v)) → (b : Bool)
-    → Always (OnOk R) (and_then (if b then reads entry_in (item.Key id key) else Gives (Ok None)) (on_ok f))
-entry_by R id key f h true = λ v. h (entry_in v)
-entry_by R id key f h false = h None
-
-entry_asks : (R : After → Type 0) (id : ℕ) (key : List ℕ) (f : Option Value → Act Fault After) → ((v : Option Value) → Always (OnOk R) (f v)) → Always (OnOk R) (and_then (global_entry id key) (on_ok f))
-entry_asks R id key f h = entry_by R id key f h (nat_le (length key) 64)
 
 put_keeps : (c : Context) (key : List ℕ) (v : Value) (old : Option Value) (b : Bool) → Always (OnOk (Keeps c)) (global_put_over c key v old b)
 put_keeps c key v old true = with_item_known c.writes (item.Key c.current key) (key_value (Some v))
@@ -115,7 +91,7 @@ result_at : {A : Type 0} (look : Look) (own : Known) (P : A → Type 0) (x : Ite
 result_at look own P x k h (Some v) = h v
 result_at look own P x k h None = h (look x)
 
-always_result : {A : Type 0} (look : Look) (own : Known) (P : A → Type 0) (t : Ask A) → Always P t → P (result_over look (remaining_questions own t))
+pub always_result : {A : Type 0} (look : Look) (own : Known) (P : A → Type 0) (t : Ask A) → Always P t → P (result_over look (remaining_questions own t))
 always_result look own P (Gives a) h = h
 always_result look own P (Asks x k) h = result_at look own P x k (λ v. always_result look own P (k v) (h v)) (own x)
 

@@ -1,5 +1,5 @@
 -- What the definition of views shows, from where a run stands.
-use Rattle.std.proofs.Common.{◌≡◌, ℕ, eqb, true, false, List, length, Option, None, Some, Ok, refl, ap, ◌∙◌, arith}
+use Rattle.std.proofs.Common.{◌≡◌, sym, ℕ, eqb, true, false, List, length, Option, None, Some, Ok, refl, ap, ◌∙◌, arith}
 use Rattle.std.specs.Prelude.{option_map}
 use Rattle.std.proofs.lemmas.Bool.Decides.{nat_tests}
 use Rattle.teal_value.specs.declared.fault.Fault.{Fault}
@@ -24,6 +24,7 @@ use Rattle.avm_debug.proofs.OnlyFaults.{inside_there}
 use Rattle.avm_debug.proofs.PathSteps.{path_there}
 use Rattle.avm_debug.proofs.PathsAlike.{run_alike}
 use Rattle.avm_debug.proofs.Prepared.{prepared_alike}
+use Rattle.avm_debug.proofs.ScratchSpace.{run_space}
 
 -- over the ledger that is prepared for the program
 prepared_path : (l : Ledger) (call : CallData) (header : Header) (id : ℕ) (row : Application) (steps : ℕ)
@@ -91,3 +92,10 @@ pub next_over : (l : Ledger) (call : CallData) (header : Header) (steps : ℕ) (
 next_over l call header steps s o =
     ap (option_map (λ (v : View). v.next)) (view_there l call header s.application o.row steps (position_of s o.passed, None) o.admits o.comes)
     ∙ ap (λ n. Some n) (next_is (program_of call.completion o.row) (position_of s o.passed) s.instruction o.next)
+
+-- the scratch space has 256 places
+pub space_over : (l : Ledger) (call : CallData) (header : Header) (steps : ℕ) (s : Sight) → ShowsOver l call header steps s → length s.machine.scratch ≡ 256
+space_over l call header steps s o =
+    let e = execution call header s.application o.row in
+    ap (λ (r : Position × Option Ended). length r.0.scratch) (sym (path_there (at l) call header s.application o.row steps (position_of s o.passed, None) o.admits o.comes))
+    ∙ run_space e steps (start e.program (prepared call s.application)) (at l)

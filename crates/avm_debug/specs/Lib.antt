@@ -4,3 +4,4 @@ pub mod DebugSteps
 pub mod Stepping
 pub mod Opening
 pub mod Starting
+pub mod Changes

@@ -5,10 +5,13 @@
 //! What is seen of a debugger is in `specs/Debugging.antt`, what a step does in `specs/DebugSteps.antt`.
 #![tactic(auto)]
 
+mod changes;
 mod debugger;
 mod faults;
 mod opening;
 mod stepping;
+mod view;
 
 pub use debugger::Debugger;
 pub use faults::{OpenError, OpenFault, StepError, StepFault};
+pub use view::{KeyChange, LocalChange, Next, ScratchPlace, View, ViewError, ViewFault};
