@@ -6,8 +6,11 @@ pub mod Rows
 pub mod KnownItself
 pub mod ScratchSpace
 pub mod PathsAlike
-pub mod Prepared
-pub mod Viewing
+pub mod PreparedItems
+pub mod ViewsThere
 pub mod Moving
 pub mod Beginning
 pub mod OpenedEntries
+pub mod Copies
+pub mod Places
+pub mod Shows

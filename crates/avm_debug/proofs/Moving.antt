@@ -27,7 +27,7 @@ use Rattle.avm_debug.specs.DebugRuns.{HasFaulted, IsDebugged, IsKept, seen}
 use Rattle.avm_debug.specs.DebugSteps.{IsBeforeInstruction, StepsTo}
 use Rattle.avm_debug.specs.Stepping.{ComesNextBy, GoesOnOver, IsLeft, LeadsBy, LeadsTo, ShowsNext, StandsBefore}
 use Rattle.avm_debug.proofs.OnlyFaults.{inside_there}
-use Rattle.avm_debug.proofs.Viewing.{ShowsOver, next_faulted, next_of, next_over, position_of, shows_over, view_there}
+use Rattle.avm_debug.proofs.ViewsThere.{ShowsOver, next_faulted, next_of, next_over, position_of, shows_over, view_there}
 
 -- ---- whether an instruction comes next
 

@@ -5,18 +5,18 @@ use Rattle.avm_ledger.specs.declared.application.Application.{Application}
 use Rattle.avm_ledger.specs.declared.header.Header.{Header}
 use Rattle.avm_ledger.specs.Ledgers.{Ledger}
 use Rattle.avm_items.specs.declared.call_data.CallData.{CallData}
-use Rattle.avm_items.specs.Items.{value_in}
+use Rattle.avm_items.specs.Items.{ItemMap, value_in}
 use Rattle.avm_items.specs.Asks.{result_over}
 use Rattle.avm_items.specs.LedgerItems.{at}
 use Rattle.avm_items.specs.Locality.{Agrees}
 use Rattle.avm_call.specs.declared.outcome.Ended.TheVariants as ended
 use Rattle.avm_call.specs.Runs.{Position}
-use Rattle.avm_call.specs.Calls.{admitted, program_of}
+use Rattle.avm_call.specs.Calls.{Target, admitted, prepared, program_of}
 use Rattle.avm_call.specs.CallPaths.{call_path}
 use Rattle.avm_run.specs.RunState.{Progress}
 use Rattle.avm_debug.specs.Debugging.{Debugged}
 
-abbrev steps_made : Option ℕ → ℕ
+abbrev pub steps_made : Option ℕ → ℕ
 steps_made None = 0
 steps_made (Some n) = n
 
@@ -58,3 +58,15 @@ IsKeptBy l fault (Some p) = IsDebugged l fault p
 abbrev pub IsKept : Ledger → Option Fault → Option (Option Progress) → Type 0
 IsKept l fault None = Unit {0}
 IsKept l fault (Some run) = IsKeptBy l fault run
+
+-- the items that are prepared for the program of the call
+abbrev pub ArePrepared : Ledger → CallData → ItemMap → Type 0
+ArePrepared l call items = (t : Target) → result_over (at l) (admitted call) ≡ Ok t → items ≡ prepared call t.id
+
+abbrev pub IsPreparedBy : Ledger → ItemMap → Option Progress → Type 0
+IsPreparedBy l items None = Unit {0}
+IsPreparedBy l items (Some p) = ArePrepared l p.call items
+
+abbrev pub IsPreparedFor : Ledger → ItemMap → Option (Option Progress) → Type 0
+IsPreparedFor l items None = Unit {0}
+IsPreparedFor l items (Some run) = IsPreparedBy l items run

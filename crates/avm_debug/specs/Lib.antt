@@ -5,3 +5,5 @@ pub mod Stepping
 pub mod Opening
 pub mod Starting
 pub mod Changes
+pub mod Scratch
+pub mod Shown

@@ -32,6 +32,15 @@ abbrev pub ComesNextBy : Option Fault → Option Progress → Bool → Type 0
 ComesNextBy (Some f) run comes = comes ≡ false
 ComesNextBy None run comes = IsLeft run comes
 
+-- these are the items that its call has written
+abbrev pub WritesAt : CallData → Header → ItemMap → Option ℕ → ItemMap → Type 0
+WritesAt call header reads None items = Unit {0}
+WritesAt call header reads (Some n) items = (s : Sight) × ShowsPath call header reads n s × (items ≡ s.writes)
+
+abbrev pub ShowsWrites : Option Progress → ItemMap → Type 0
+ShowsWrites None items = Unit {0}
+ShowsWrites (Some p) items = WritesAt p.call p.header p.reads p.steps items
+
 -- a run that stands before an instruction
 pub record StandsBefore (p : Progress) : Type 0 where
   pub steps : ℕ

@@ -3,13 +3,18 @@
 ghost use Rattle.std.specs.Prelude.{◌≡◌, IfErr, IfOk, None, Some};
 ghost use Rattle.avm_ops.specs.Objects.{IsFull};
 ghost use Rattle.avm_debug.specs.DebugSteps.{StepsTo};
+ghost use Rattle.avm_debug.specs.Shown.{IsShown};
 ghost use Rattle.avm_debug.specs.Opening.{HasProgram, IsOpenRefusal, IsOpened, IsStartRefusal};
 
 use crate::faults::{OpenError, OpenFault, StepError, StepFault};
 use crate::opening::{entry_of, ledger_before, start_over};
+use crate::prepared::writes_of;
 use crate::stepping::{comes_next, step_over};
+use crate::view::{View, ViewError, ViewFault};
+use crate::viewing::view_at;
 use avm_block::Block;
 use avm_call::Call;
+use avm_items::ItemMap;
 use avm_ledger::{Header, Ledger};
 use avm_ops::{BoxedOp, Op, OpSet};
 use avm_run::CallRun;
@@ -22,6 +27,8 @@ use teal_value::{Failure, Fault};
 #[derive(Drop)]
 pub struct Debugger {
     ledger: Ledger,
+    /// What the call has written before its program.
+    prepared: ItemMap,
     /// The run of the call, which is let go where memory is refused.
     run: Option<CallRun>,
     /// The fault of the step behind those made, where it was tried.
@@ -31,13 +38,13 @@ pub struct Debugger {
 impl Model for Debugger {
     ghost use Rattle.std.specs.Prelude.{Option};
     ghost use Rattle.avm_debug.specs.Debugging.{Debugged};
-    ghost use Rattle.avm_debug.specs.DebugRuns.{IsKept, seen};
+    ghost use Rattle.avm_debug.specs.DebugRuns.{IsKept, IsPreparedFor, seen};
 
     ghost Value = { Option Debugged };
 
     ghost view = { λ d. seen d.ledger d.fault d.run };
 
-    ghost invariant = { λ d. IsKept d.ledger d.fault d.run };
+    ghost invariant = { λ d. IsKept d.ledger d.fault d.run × IsPreparedFor d.ledger d.prepared d.run };
 }
 
 impl Debugger {
@@ -80,11 +87,15 @@ impl Debugger {
     {
         let mut run = CallRun::start(alloc, call, header, None)?;
         match start_over(alloc, ops, &ledger, &mut run) {
-            Ok(true) => Ok(Debugger {
-                ledger,
-                run: Some(run),
-                fault: None,
-            }),
+            Ok(true) => match writes_of(alloc, &run) {
+                Ok(prepared) => Ok(Debugger {
+                    ledger,
+                    prepared,
+                    run: Some(run),
+                    fault: None,
+                }),
+                Err(AllocError) => Err(Failure::Memory),
+            },
             Ok(false) => Err(Failure::Fault(OpenFault::NoProgram)),
             Err(AllocError) => Err(Failure::Memory),
         }
@@ -111,6 +122,25 @@ impl Debugger {
                 Ok(())
             }
             Err(AllocError) => Err(Failure::Memory),
+        }
+    }
+
+    /// What stands where the program stands. It makes the ledger before and after what the call has written so far, which
+    /// costs as much as the ledger is large.
+    pub fn view(&self, alloc: Global) -> Result<View<'_>, ViewError>
+        ensures { IsShown self.now result }
+    {
+        match &self.run {
+            Some(run) => match run.shown() {
+                Some(shown) => {
+                    match view_at(alloc, &self.ledger, &self.prepared, self.fault, shown) {
+                        Ok(view) => Ok(view),
+                        Err(AllocError) => Err(Failure::Memory),
+                    }
+                }
+                None => unreachable!(),
+            },
+            None => Err(Failure::Fault(ViewFault::Spent)),
         }
     }
 }

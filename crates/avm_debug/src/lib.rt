@@ -9,8 +9,11 @@ mod changes;
 mod debugger;
 mod faults;
 mod opening;
+mod prepared;
+mod scratch;
 mod stepping;
 mod view;
+mod viewing;
 
 pub use debugger::Debugger;
 pub use faults::{OpenError, OpenFault, StepError, StepFault};

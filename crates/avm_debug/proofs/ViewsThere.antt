@@ -23,7 +23,7 @@ use Rattle.avm_run.specs.Showing.{ComesNext, ShowsPath, Sight}
 use Rattle.avm_debug.proofs.OnlyFaults.{inside_there}
 use Rattle.avm_debug.proofs.PathSteps.{path_there}
 use Rattle.avm_debug.proofs.PathsAlike.{run_alike}
-use Rattle.avm_debug.proofs.Prepared.{prepared_alike}
+use Rattle.avm_debug.proofs.PreparedItems.{prepared_alike}
 use Rattle.avm_debug.proofs.ScratchSpace.{run_space}
 
 -- over the ledger that is prepared for the program
