@@ -1,5 +1,5 @@
 -- What a call knows of an item by itself it goes on to know, whatever its program does.
-use Rattle.std.proofs.Common.{◌≡◌, ℕ, Bool, true, false, nat_le, if◌then◌else◌, List, length, Option, None, Some, Result, Ok, Err, refl, sym, ap, ◌∙◌}
+use Rattle.std.proofs.Common.{◌≡◌, ℕ, Bool, true, false, nat_le, if◌then◌else◌, List, length, Option, None, Some, Ok, Err, refl, sym, ap, ◌∙◌}
 use Rattle.std.specs.Prelude.{◌||◌, is_some, unwrap_or}
 use Rattle.teal_value.specs.declared.value.Value.{Value}
 use Rattle.teal_value.specs.declared.fault.Fault.{Fault}
@@ -17,12 +17,12 @@ use Rattle.avm_items.specs.declared.item_value.ItemValue.TheVariants as value
 use Rattle.avm_items.specs.Items.{ItemMap, Known, Look, application_in, entry_in, key_value, local_state_in, value_in, with_item}
 use Rattle.avm_items.specs.Items as items
 use Rattle.avm_items.specs.CallFields.{account}
-use Rattle.avm_items.specs.Asks.{Ask, Gives, Asks, and_then, remaining_at, remaining_questions, result_over}
-use Rattle.avm_items.specs.Acts.{Act, done, found, on_ok, reads, test}
+use Rattle.avm_items.specs.Asks.{Ask, Gives, Asks, remaining_at, remaining_questions, result_over}
+use Rattle.avm_items.specs.Acts.{Act, done}
 use Rattle.avm_items.proofs.Puts.{item_total}
 use Rattle.avm_cpu.specs.Operands.{bytes_and_value, one_bytes, uint_and_bytes, uint_bytes_and_value}
 use Rattle.avm_ops.specs.Frame.{After, Context}
-use Rattle.avm_ops.specs.States.{counts_written, global_delete_of, global_entry, global_put_over, key_written, leaves, schema_in, value_length}
+use Rattle.avm_ops.specs.States.{counts_written, global_delete_of, global_put_over, key_written, leaves, schema_in, value_length}
 use Rattle.avm_ops.specs.Effect.{effect}
 use Rattle.avm_laws.proofs.WrittenItems.{OnOk, Same}
 use Rattle.avm_laws.proofs.QuietRows.{Always, effect_same}

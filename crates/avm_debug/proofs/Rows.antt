@@ -1,5 +1,5 @@
 -- Rows that ask, and what holds of their results whatever the items are.
-use Rattle.std.proofs.Common.{◌≡◌, ℕ, Bool, true, false, nat_le, if◌then◌else◌, List, length, Option, None, Some, Result, Ok, Err}
+use Rattle.std.proofs.Common.{ℕ, Bool, true, false, nat_le, if◌then◌else◌, List, length, Option, None, Some, Result, Ok, Err}
 use Rattle.teal_value.specs.declared.value.Value.{Value}
 use Rattle.teal_value.specs.declared.fault.Fault.{Fault}
 use Rattle.teal_value.specs.declared.fault.Fault.TheVariants as fault

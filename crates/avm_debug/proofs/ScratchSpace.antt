@@ -14,14 +14,14 @@ use Rattle.teal_code.specs.declared.decode.CodeFault.{CodeFault}
 use Rattle.teal_code.specs.declared.instr.Instr.{Instr}
 use Rattle.teal_code.specs.declared.instr.Immediates.{Immediates}
 use Rattle.avm_ledger.specs.Entries.{value_of_key, with_entry}
-use Rattle.avm_ledger.specs.Schemas.{count_without, counts_after, counts_in, is_within, keeps_kind, no_entries}
+use Rattle.avm_ledger.specs.Schemas.{counts_after, counts_in, is_within, keeps_kind, no_entries}
 use Rattle.avm_items.specs.declared.item.Item.TheVariants as item
 use Rattle.avm_items.specs.declared.item_value.ItemValue.TheVariants as value
 use Rattle.avm_items.specs.Items.{Look, application_in, local_state_in, with_item}
 use Rattle.avm_items.specs.Items as items
 use Rattle.avm_items.specs.CallFields.{account}
 use Rattle.avm_items.specs.Asks.{Gives, and_then, remaining_questions, result_over}
-use Rattle.avm_items.specs.Acts.{Act, done, on_ok}
+use Rattle.avm_items.specs.Acts.{done, on_ok}
 use Rattle.avm_items.proofs.Questions.{result_over-and_then}
 use Rattle.avm_cpu.specs.Operands.{bytes_and_value, one_bytes, one_value, uint_and_bytes, uint_bytes_and_value}
 use Rattle.avm_ops.specs.Frame.{After, Context, Stepped, next_with_stack, pushes, pushes_pair}

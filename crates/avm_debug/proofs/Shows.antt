@@ -1,6 +1,5 @@
 -- What a debugger shows, from what it keeps.
 use Rattle.std.proofs.Common.{◌≡◌, ℕ, ◌+◌, eqb, false, List, length, Option, None, Some, Result, Ok, Err, refl, sym, ap, subst, ◌∙◌}
-use Rattle.teal_value.specs.declared.failure.Failure.{Failure}
 use Rattle.teal_value.specs.declared.fault.Fault.{Fault}
 use Rattle.teal_code.specs.declared.instr.Instr.{Instr}
 use Rattle.avm_ledger.specs.declared.application.Application.{Application}
@@ -13,8 +12,8 @@ use Rattle.avm_items.specs.LedgerItems.{at, put}
 use Rattle.avm_call.specs.declared.outcome.Ended.{Ended}
 use Rattle.avm_call.specs.declared.outcome.Ended.TheVariants as ended
 use Rattle.avm_call.specs.declared.outcome.Why.{Why}
-use Rattle.avm_call.specs.Runs.{Execution, Position, byte_constants_at, uint_constants_at}
-use Rattle.avm_call.specs.Calls.{Target, admitted, execution, prepared, program_of}
+use Rattle.avm_call.specs.Runs.{Position}
+use Rattle.avm_call.specs.Calls.{Target, execution, prepared, program_of}
 use Rattle.avm_call.specs.CallPaths.{Reached, call_path}
 use Rattle.avm_call.specs.Views.{NextStep, next_step, state_changes, view_after, view_of}
 use Rattle.avm_call.specs.Views as views
@@ -26,11 +25,11 @@ use Rattle.avm_debug.specs.Changes.{global_entries, local_changes_along}
 use Rattle.avm_debug.specs.Scratch.{set_places}
 use Rattle.avm_debug.specs.Starting.{HasBegun}
 use Rattle.avm_debug.specs.Debugging.{debug_view, steps_shown}
-use Rattle.avm_debug.specs.DebugRuns.{ArePrepared, FaultIs, HasFaulted, IsDebugged, IsPreparedBy, IsPreparedFor, IsKept, seen, steps_made}
+use Rattle.avm_debug.specs.DebugRuns.{ArePrepared, FaultIs, IsDebugged, IsPreparedFor, IsKept, seen, steps_made}
 use Rattle.avm_debug.specs.Shown.{IsShown, next_by, view_by, view_seen}
 use Rattle.avm_debug.specs.Stepping.{LeadsTo, ShowsWrites, WritesAt}
 use Rattle.avm_debug.proofs.PathSteps.{path_there}
-use Rattle.avm_debug.proofs.ViewsThere.{ShowsOver, next_faulted, next_is, next_of, position_of, shows_over, space_over, view_there}
+use Rattle.avm_debug.proofs.ViewsThere.{ShowsOver, next_faulted, next_is, next_of, position_of, shows_over, view_there}
 
 -- ---- the items prepared
 

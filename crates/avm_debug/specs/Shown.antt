@@ -1,5 +1,5 @@
 -- What a debugger shows, as the definition of views has it.
-use Rattle.std.specs.Prelude.{◌≡◌, List, map, reverse, Option, Some, None, Result, Ok, Err}
+use Rattle.std.specs.Prelude.{◌≡◌, reverse, Option, Some, None, Result, Ok, Err}
 use Rattle.teal_value.specs.declared.failure.Failure.{Failure}
 use Rattle.teal_value.specs.declared.failure.Failure.TheVariants as failure
 use Rattle.teal_value.specs.declared.fault.Fault.{Fault}

@@ -1,6 +1,6 @@
 use Rattle.std.proofs.Common.{◌≡◌, [], ap, ◌∙◌}
 use Rattle.avm_call.specs.Views.{state_changes}
-use Rattle.avm_debug.specs.Changes.{changes_along, changes_seen, gathered}
+use Rattle.avm_debug.specs.Changes.{changes_along, gathered}
 use Rattle.avm_debug.proofs.changes.key_changes.Goals as goal
 
 pub loop-key-init : goal.loop-key-init

@@ -1,4 +1,4 @@
-use Rattle.std.proofs.Common.{Option, Some, subst}
+use Rattle.std.proofs.Common.{subst}
 use Rattle.avm_debug.specs.Starting.{BeginsOver}
 use Rattle.avm_debug.proofs.Beginning.{nothing_opened, opened, starts_at_first}
 use Rattle.avm_debug.proofs.Shows.{prepared_begun}

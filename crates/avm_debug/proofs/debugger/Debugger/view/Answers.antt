@@ -1,4 +1,4 @@
-use Rattle.std.proofs.Common.{◌≡◌, Ok, Option, Some, sym, ap, subst, ◌∙◌}
+use Rattle.std.proofs.Common.{Ok, Option, sym, ap, subst, ◌∙◌}
 use Rattle.avm_run.specs.Showing.{sight_of}
 use Rattle.avm_debug.specs.Debugging.{Debugged}
 use Rattle.avm_debug.specs.DebugRuns.{IsKept, IsPreparedFor, seen}
