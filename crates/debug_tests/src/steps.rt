@@ -41,7 +41,7 @@ enum Came {
     End,
 }
 
-fn came(next: &Next<'_>) -> Came {
+fn kind_of(next: &Next<'_>) -> Came {
     match next {
         Next::Instruction(instruction) => Came::Instruction(instruction.opcode),
         Next::Fault(fault) => Came::Fault(*fault),
@@ -90,7 +90,7 @@ fn is_some_uint(value: &Option<Value>, number: u64) -> bool {
 /// Whether the number under `n` is the only key that has changed.
 fn has_set(changes: &[KeyChange], number: u64) -> bool {
     match changes {
-        [change] => change.key.as_slice() == b"n" && is_some_uint(&change.now, number),
+        [change] => change.key.as_slice() == b"n".as_slice() && is_some_uint(&change.now, number),
         _ => false,
     }
 }
@@ -99,7 +99,7 @@ fn has_set_locally(changes: &[LocalChange], number: u64) -> bool {
     match changes {
         [change] => {
             change.account == NOBODY
-                && change.key.as_slice() == b"n"
+                && change.key.as_slice() == b"n".as_slice()
                 && is_some_uint(&change.now, number)
         }
         _ => false,
@@ -138,20 +138,20 @@ fn a_count_is_shown(alloc: Global, ops: &OpSet) -> Result<bool, Fail>
     let put = view_of(alloc, &eighth)?;
     Ok(
         begins.place == 1
-            && came(&begins.next) == Came::Instruction(Opcode::Intcblock)
+            && kind_of(&begins.next) == Came::Instruction(Opcode::Intcblock)
             && begins.stack.is_empty()
             && begins.uint_constants.is_empty()
             && begins.byte_constants.is_empty()
             && is_unchanged(&begins)
             && found.place == 11
-            && came(&found.next) == Came::Instruction(Opcode::Intc0)
+            && kind_of(&found.next) == Came::Instruction(Opcode::Intc0)
             && found.stack.len() == 2
             && is_uint(&found.stack[1], 1)
             && is_unchanged(&found)
             && put.place == 14
-            && came(&put.next) == Came::Instruction(Opcode::Intc0)
+            && kind_of(&put.next) == Came::Instruction(Opcode::Intc0)
             && put.stack.is_empty()
-            && put.uint_constants == [1u64]
+            && put.uint_constants == [1u64].as_slice()
             && put.byte_constants.len() == 1
             && has_set(&put.global_changes, 2)
             && put.local_changes.is_empty(),
@@ -178,7 +178,7 @@ fn an_end_is_shown(alloc: Global, ops: &OpSet) -> Result<bool, Fail>
     Ok(
         refused == Some(StepFault::Ended)
             && view.place == 15
-            && came(&view.next) == Came::End
+            && kind_of(&view.next) == Came::End
             && stack_is(view.stack, 1)
             && has_set(&view.global_changes, 1),
     )
@@ -196,11 +196,11 @@ fn a_fault_is_shown(alloc: Global, ops: &OpSet) -> Result<bool, Fail>
     let view = view_of(alloc, &sixth)?;
     Ok(
         before.place == 11
-            && came(&before.next) == Came::Instruction(Opcode::Err)
+            && kind_of(&before.next) == Came::Instruction(Opcode::Err)
             && has_set(&before.global_changes, 1)
             && refused == Some(StepFault::Ended)
             && view.place == 11
-            && came(&view.next) == Came::Fault(Fault::Err)
+            && kind_of(&view.next) == Came::Fault(Fault::Err)
             && view.stack.is_empty()
             && has_set(&view.global_changes, 1),
     )
