@@ -41,6 +41,32 @@ enum Came {
     End,
 }
 
+/// What is seen of a view: of the stack how many values and a uint on top, of the scratch space a last place that is a uint,
+/// and of the states what has become of a last key `n` that has changed.
+#[derive(Clone, Copy, Debug, PartialEq, Eq)]
+struct Seen {
+    place: u16,
+    next: Came,
+    depth: usize,
+    top: Option<u64>,
+    scratch: Option<(u8, u64)>,
+    constants: (usize, usize),
+    global: Option<u64>,
+    local: Option<u64>,
+}
+
+/// What is seen where nothing is there and nothing has changed.
+const NOTHING: Seen = Seen {
+    place: 1,
+    next: Came::Instruction(Opcode::Intcblock),
+    depth: 0,
+    top: None,
+    scratch: None,
+    constants: (0, 0),
+    global: None,
+    local: None,
+};
+
 fn kind_of(next: &Next<'_>) -> Came {
     match next {
         Next::Instruction(instruction) => Came::Instruction(instruction.opcode),
@@ -49,188 +75,265 @@ fn kind_of(next: &Next<'_>) -> Came {
     }
 }
 
-/// The call of an entry over the empty ledger, after so many steps.
-fn opened(
+fn uint_of(value: Option<&Value>) -> Option<u64> {
+    match value {
+        Some(Value::Uint(number)) => Some(*number),
+        _ => None,
+    }
+}
+
+fn scratch_of(places: &[ScratchPlace]) -> Option<(u8, u64)> {
+    match places.last() {
+        Some(place) => match &place.value {
+            Value::Uint(number) => Some((place.index, *number)),
+            Value::Bytes(_) => None,
+        },
+        None => None,
+    }
+}
+
+fn global_of(changes: &[KeyChange]) -> Option<u64> {
+    match changes.last() {
+        Some(change) if change.key.as_slice() == b"n".as_slice() => uint_of(change.now.as_ref()),
+        _ => None,
+    }
+}
+
+fn local_of(changes: &[LocalChange]) -> Option<u64> {
+    match changes.last() {
+        Some(change) if change.account == NOBODY && change.key.as_slice() == b"n".as_slice() =>
+            uint_of(change.now.as_ref()),
+        _ => None,
+    }
+}
+
+fn seen_of(view: &View<'_>) -> Seen {
+    Seen {
+        place: view.place,
+        next: kind_of(&view.next),
+        depth: view.stack.len(),
+        top: uint_of(view.stack.last()),
+        scratch: scratch_of(&view.scratch),
+        constants: (view.uint_constants.len(), view.byte_constants.len()),
+        global: global_of(&view.global_changes),
+        local: local_of(&view.local_changes),
+    }
+}
+
+/// What a debugger shows.
+fn seen(alloc: Global, debugger: &Debugger) -> Result<Seen, Fail> {
+    match debugger.view(alloc) {
+        Ok(view) => Ok(seen_of(&view)),
+        Err(_) => Err("there is a view".into()),
+    }
+}
+
+/// Makes so many steps; the first refusal of one, if there is one.
+fn stepped(alloc: Global, ops: &OpSet, debugger: &mut Debugger, steps: usize) -> Option<StepFault>
+    requires full { IsFull ⟦<BoxedOp as Op>⟧.opcode ops.now }
+{
+    for _step in 0..steps {
+        if let Err(Failure::Fault(fault)) = debugger.step(alloc, ops) {
+            return Some(fault);
+        }
+    }
+    None
+}
+
+/// What is shown of an entry's call over the empty ledger after so many steps, and the refusal of the last.
+fn shown_after(
     alloc: Global,
     ops: &OpSet,
     block: &Block,
     entry: usize,
     steps: usize,
-) -> Result<Debugger, Fail>
+) -> Result<(Seen, Option<StepFault>), Fail>
     requires full { IsFull ⟦<BoxedOp as Op>⟧.opcode ops.now }
 {
     match Debugger::open(alloc, &Ledger::new(alloc), block, entry, ops) {
         Ok(debugger) => {
             let mut debugger = debugger;
-            for _step in 0..steps {
-                if debugger.step(alloc, ops).is_err() {
-                    return Err("a step is made".into());
-                }
-            }
-            Ok(debugger)
+            let refused = stepped(alloc, ops, &mut debugger, steps);
+            let seen = seen(alloc, &debugger)?;
+            Ok((seen, refused))
         }
         Err(_) => Err("the entry's call has a program".into()),
     }
 }
 
-fn is_uint(value: &Value, number: u64) -> bool {
-    match value {
-        Value::Uint(found) => *found == number,
-        Value::Bytes(_) => false,
-    }
+/// A program and how what it makes is called; the entry, the steps, what is seen after them, and the last one's refusal.
+type Case = (
+    &'static str,
+    Completion,
+    usize,
+    usize,
+    Seen,
+    Option<StepFault>,
+);
+
+const ENDED: Option<StepFault> = Some(StepFault::Ended);
+
+/// In turn: before the first instruction; the second call of `COUNTS` finds 1, and puts 2; the first puts 1, ends, and has no
+/// further step; before `err`, at its fault, and no step behind it; a place of the scratch space; a local state.
+const CASES: [Case; 9] = [
+    (COUNTS, Completion::NoOp, 2, 0, NOTHING, None),
+    (
+        COUNTS,
+        Completion::NoOp,
+        2,
+        5,
+        Seen {
+            place: 11,
+            next: Came::Instruction(Opcode::Intc0),
+            depth: 2,
+            top: Some(1),
+            scratch: None,
+            constants: (1, 1),
+            global: None,
+            local: None,
+        },
+        None,
+    ),
+    (
+        COUNTS,
+        Completion::NoOp,
+        2,
+        8,
+        Seen {
+            place: 14,
+            next: Came::Instruction(Opcode::Intc0),
+            depth: 0,
+            top: None,
+            scratch: None,
+            constants: (1, 1),
+            global: Some(2),
+            local: None,
+        },
+        None,
+    ),
+    (
+        COUNTS,
+        Completion::NoOp,
+        1,
+        10,
+        Seen {
+            place: 15,
+            next: Came::End,
+            depth: 1,
+            top: Some(1),
+            scratch: None,
+            constants: (1, 1),
+            global: Some(1),
+            local: None,
+        },
+        ENDED,
+    ),
+    (
+        PUTS_AND_ERRS,
+        Completion::NoOp,
+        1,
+        5,
+        Seen {
+            place: 11,
+            next: Came::Instruction(Opcode::Err),
+            depth: 0,
+            top: None,
+            scratch: None,
+            constants: (1, 1),
+            global: Some(1),
+            local: None,
+        },
+        None,
+    ),
+    (
+        PUTS_AND_ERRS,
+        Completion::NoOp,
+        1,
+        6,
+        Seen {
+            place: 11,
+            next: Came::Fault(Fault::Err),
+            depth: 0,
+            top: None,
+            scratch: None,
+            constants: (1, 1),
+            global: Some(1),
+            local: None,
+        },
+        None,
+    ),
+    (
+        PUTS_AND_ERRS,
+        Completion::NoOp,
+        1,
+        7,
+        Seen {
+            place: 11,
+            next: Came::Fault(Fault::Err),
+            depth: 0,
+            top: None,
+            scratch: None,
+            constants: (1, 1),
+            global: Some(1),
+            local: None,
+        },
+        ENDED,
+    ),
+    (
+        STORES,
+        Completion::NoOp,
+        2,
+        3,
+        Seen {
+            place: 8,
+            next: Came::Instruction(Opcode::Intc1),
+            depth: 0,
+            top: None,
+            scratch: Some((255, 7)),
+            constants: (2, 0),
+            global: None,
+            local: None,
+        },
+        None,
+    ),
+    (
+        PUTS_AND_REJECTS,
+        Completion::OptIn,
+        2,
+        8,
+        Seen {
+            place: 20,
+            next: Came::Instruction(Opcode::Intc0),
+            depth: 0,
+            top: None,
+            scratch: None,
+            constants: (2, 1),
+            global: None,
+            local: Some(1),
+        },
+        None,
+    ),
+];
+
+/// Whether a case is shown as it should be.
+fn is_shown(alloc: Global, ops: &OpSet, case: &Case) -> Result<bool, Fail>
+    requires full { IsFull ⟦<BoxedOp as Op>⟧.opcode ops.now }
+{
+    let (program, completion, entry, steps, wanted, refused) = *case;
+    let block = block_of(alloc, ops, program, 1, completion)?;
+    let found = shown_after(alloc, ops, &block, entry, steps)?;
+    Ok(found == (wanted, refused))
 }
 
-fn is_some_uint(value: &Option<Value>, number: u64) -> bool {
-    match value {
-        Some(value) => is_uint(value, number),
-        None => false,
-    }
-}
-
-/// Whether the number under `n` is the only key that has changed.
-fn has_set(changes: &[KeyChange], number: u64) -> bool {
-    match changes {
-        [change] => change.key.as_slice() == b"n".as_slice() && is_some_uint(&change.now, number),
-        _ => false,
-    }
-}
-
-fn has_set_locally(changes: &[LocalChange], number: u64) -> bool {
-    match changes {
-        [change] => {
-            change.account == NOBODY
-                && change.key.as_slice() == b"n".as_slice()
-                && is_some_uint(&change.now, number)
+fn cases_are_shown(alloc: Global, ops: &OpSet) -> Result<bool, Fail>
+    requires full { IsFull ⟦<BoxedOp as Op>⟧.opcode ops.now }
+{
+    for case in &CASES {
+        if !is_shown(alloc, ops, case)? {
+            return Ok(false);
         }
-        _ => false,
     }
-}
-
-/// Whether nothing has changed.
-fn is_unchanged(view: &View<'_>) -> bool {
-    view.scratch.is_empty() && view.global_changes.is_empty() && view.local_changes.is_empty()
-}
-
-fn stack_is(values: &[Value], number: u64) -> bool {
-    match values {
-        [value] => is_uint(value, number),
-        _ => false,
-    }
-}
-
-fn view_of<'a>(alloc: Global, debugger: &'a Debugger) -> Result<View<'a>, Fail> {
-    match debugger.view(alloc) {
-        Ok(view) => Ok(view),
-        Err(_) => Err("there is a view".into()),
-    }
-}
-
-/// Before the first instruction nothing is there, and the second call of `COUNTS` finds 1 and puts 2.
-fn a_count_is_shown(alloc: Global, ops: &OpSet) -> Result<bool, Fail>
-    requires full { IsFull ⟦<BoxedOp as Op>⟧.opcode ops.now }
-{
-    let block = block_of(alloc, ops, COUNTS, 1, Completion::NoOp)?;
-    let first = opened(alloc, ops, &block, 2, 0)?;
-    let begins = view_of(alloc, &first)?;
-    let third = opened(alloc, ops, &block, 2, 5)?;
-    let found = view_of(alloc, &third)?;
-    let eighth = opened(alloc, ops, &block, 2, 8)?;
-    let put = view_of(alloc, &eighth)?;
-    Ok(
-        begins.place == 1
-            && kind_of(&begins.next) == Came::Instruction(Opcode::Intcblock)
-            && begins.stack.is_empty()
-            && begins.uint_constants.is_empty()
-            && begins.byte_constants.is_empty()
-            && is_unchanged(&begins)
-            && found.place == 11
-            && kind_of(&found.next) == Came::Instruction(Opcode::Intc0)
-            && found.stack.len() == 2
-            && is_uint(&found.stack[1], 1)
-            && is_unchanged(&found)
-            && put.place == 14
-            && kind_of(&put.next) == Came::Instruction(Opcode::Intc0)
-            && put.stack.is_empty()
-            && put.uint_constants == [1u64].as_slice()
-            && put.byte_constants.len() == 1
-            && has_set(&put.global_changes, 2)
-            && put.local_changes.is_empty(),
-    )
-}
-
-fn refusal_of(debugger: &mut Debugger, alloc: Global, ops: &OpSet) -> Option<StepFault>
-    requires full { IsFull ⟦<BoxedOp as Op>⟧.opcode ops.now }
-{
-    match debugger.step(alloc, ops) {
-        Err(Failure::Fault(fault)) => Some(fault),
-        _ => None,
-    }
-}
-
-/// At its end a program has no further step, and is shown as before.
-fn an_end_is_shown(alloc: Global, ops: &OpSet) -> Result<bool, Fail>
-    requires full { IsFull ⟦<BoxedOp as Op>⟧.opcode ops.now }
-{
-    let block = block_of(alloc, ops, COUNTS, 1, Completion::NoOp)?;
-    let mut debugger = opened(alloc, ops, &block, 1, 9)?;
-    let refused = refusal_of(&mut debugger, alloc, ops);
-    let view = view_of(alloc, &debugger)?;
-    Ok(
-        refused == Some(StepFault::Ended)
-            && view.place == 15
-            && kind_of(&view.next) == Came::End
-            && stack_is(view.stack, 1)
-            && has_set(&view.global_changes, 1),
-    )
-}
-
-/// The sixth step faults, and leaves the place; there is no seventh.
-fn a_fault_is_shown(alloc: Global, ops: &OpSet) -> Result<bool, Fail>
-    requires full { IsFull ⟦<BoxedOp as Op>⟧.opcode ops.now }
-{
-    let block = block_of(alloc, ops, PUTS_AND_ERRS, 1, Completion::NoOp)?;
-    let fifth = opened(alloc, ops, &block, 1, 5)?;
-    let before = view_of(alloc, &fifth)?;
-    let mut sixth = opened(alloc, ops, &block, 1, 6)?;
-    let refused = refusal_of(&mut sixth, alloc, ops);
-    let view = view_of(alloc, &sixth)?;
-    Ok(
-        before.place == 11
-            && kind_of(&before.next) == Came::Instruction(Opcode::Err)
-            && has_set(&before.global_changes, 1)
-            && refused == Some(StepFault::Ended)
-            && view.place == 11
-            && kind_of(&view.next) == Came::Fault(Fault::Err)
-            && view.stack.is_empty()
-            && has_set(&view.global_changes, 1),
-    )
-}
-
-fn is_last_place(places: &[ScratchPlace], number: u64) -> bool {
-    match places {
-        [place] => place.index == 255 && is_uint(&place.value, number),
-        _ => false,
-    }
-}
-
-fn scratch_and_local_states_are_shown(alloc: Global, ops: &OpSet) -> Result<bool, Fail>
-    requires full { IsFull ⟦<BoxedOp as Op>⟧.opcode ops.now }
-{
-    let stores = block_of(alloc, ops, STORES, 1, Completion::NoOp)?;
-    let third = opened(alloc, ops, &stores, 2, 3)?;
-    let stored = view_of(alloc, &third)?;
-    let puts = block_of(alloc, ops, PUTS_AND_REJECTS, 1, Completion::OptIn)?;
-    let eighth = opened(alloc, ops, &puts, 2, 8)?;
-    let put = view_of(alloc, &eighth)?;
-    Ok(
-        stored.place == 8
-            && is_last_place(&stored.scratch, 7)
-            && stored.global_changes.is_empty()
-            && put.place == 20
-            && put.stack.is_empty()
-            && put.global_changes.is_empty()
-            && has_set_locally(&put.local_changes, 1),
-    )
+    Ok(true)
 }
 
 /// Why an entry over a ledger is not opened.
@@ -249,7 +352,38 @@ fn open_fault(
     }
 }
 
-/// The second call is of an application that is not there. An entry that is not there is refused over any ledger.
+/// The entries of a block over its base, of which the second calls an application that is not there.
+const FAULTS: [(usize, Option<OpenFault>); 4] = [
+    (0, Some(OpenFault::NoEntry)),
+    (1, None),
+    (2, Some(OpenFault::NoProgram)),
+    (3, Some(OpenFault::NoEntry)),
+];
+
+/// The same over another ledger.
+const FAULTS_OVER_ANOTHER: [(usize, Option<OpenFault>); 2] = [
+    (2, Some(OpenFault::WrongBase)),
+    (3, Some(OpenFault::NoEntry)),
+];
+
+/// Whether the entries of a block are refused so over a ledger.
+fn are_refused(
+    alloc: Global,
+    ops: &OpSet,
+    ledger: &Ledger,
+    block: &Block,
+    faults: &[(usize, Option<OpenFault>)],
+) -> bool
+    requires full { IsFull ⟦<BoxedOp as Op>⟧.opcode ops.now }
+{
+    for (entry, fault) in faults {
+        if open_fault(alloc, ops, ledger, block, *entry) != *fault {
+            return false;
+        }
+    }
+    true
+}
+
 fn calls_are_refused(alloc: Global, ops: &OpSet) -> Result<bool, Fail>
     requires full { IsFull ⟦<BoxedOp as Op>⟧.opcode ops.now }
 {
@@ -257,11 +391,8 @@ fn calls_are_refused(alloc: Global, ops: &OpSet) -> Result<bool, Fail>
     let base = Ledger::new(alloc);
     let other = state_at(alloc, &base, &block, 1, ops)?;
     Ok(
-        open_fault(alloc, ops, &base, &block, 0) == Some(OpenFault::NoEntry)
-            && open_fault(alloc, ops, &other, &block, 3) == Some(OpenFault::NoEntry)
-            && open_fault(alloc, ops, &other, &block, 2) == Some(OpenFault::WrongBase)
-            && open_fault(alloc, ops, &base, &block, 2) == Some(OpenFault::NoProgram)
-            && open_fault(alloc, ops, &base, &block, 1).is_none(),
+        are_refused(alloc, ops, &base, &block, &FAULTS)
+            && are_refused(alloc, ops, &other, &block, &FAULTS_OVER_ANOTHER),
     )
 }
 
@@ -287,10 +418,7 @@ fn calls_are_stepped_through(rt: HostRuntime) -> Result<(), Fail> {
     if ops.missing().is_some() {
         return Err("an opcode has no object".into());
     }
-    assert!(rt; a_count_is_shown(alloc, &ops)?);
-    assert!(rt; an_end_is_shown(alloc, &ops)?);
-    assert!(rt; a_fault_is_shown(alloc, &ops)?);
-    assert!(rt; scratch_and_local_states_are_shown(alloc, &ops)?);
+    assert!(rt; cases_are_shown(alloc, &ops)?);
     assert!(rt; calls_are_refused(alloc, &ops)?);
     Ok(())
 }
