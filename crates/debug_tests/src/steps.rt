@@ -121,7 +121,7 @@ fn seen_of(view: &View<'_>) -> Seen {
 }
 
 /// What a debugger shows.
-fn seen(alloc: Global, debugger: &Debugger) -> Result<Seen, Fail> {
+fn shown_by(alloc: Global, debugger: &Debugger) -> Result<Seen, Fail> {
     match debugger.view(alloc) {
         Ok(view) => Ok(seen_of(&view)),
         Err(_) => Err("there is a view".into()),
@@ -154,7 +154,7 @@ fn shown_after(
         Ok(debugger) => {
             let mut debugger = debugger;
             let refused = stepped(alloc, ops, &mut debugger, steps);
-            let seen = seen(alloc, &debugger)?;
+            let seen = shown_by(alloc, &debugger)?;
             Ok((seen, refused))
         }
         Err(_) => Err("the entry's call has a program".into()),
