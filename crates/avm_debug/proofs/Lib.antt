@@ -14,3 +14,4 @@ pub mod OpenedEntries
 pub mod Copies
 pub mod Places
 pub mod Shows
+pub mod EntriesBefore

@@ -7,3 +7,4 @@ pub mod Starting
 pub mod Changes
 pub mod Scratch
 pub mod Shown
+pub mod Laws

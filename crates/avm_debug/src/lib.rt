@@ -8,6 +8,7 @@
 mod changes;
 mod debugger;
 mod faults;
+mod laws;
 mod opening;
 mod prepared;
 mod scratch;
@@ -17,4 +18,5 @@ mod viewing;
 
 pub use debugger::Debugger;
 pub use faults::{OpenError, OpenFault, StepError, StepFault};
+pub use laws::ledgers_before_are_replays;
 pub use view::{KeyChange, LocalChange, Next, ScratchPlace, View, ViewError, ViewFault};
