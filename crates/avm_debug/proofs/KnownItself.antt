@@ -1,0 +1,109 @@
+-- What a call knows of an item by itself it goes on to know, whatever its program does.
+use Rattle.std.proofs.Common.{◌≡◌, ℕ, Bool, true, false, nat_le, if◌then◌else◌, List, length, Option, None, Some, Ok, Err, refl, sym, ap, ◌∙◌}
+use Rattle.std.specs.Prelude.{◌||◌, is_some, unwrap_or}
+use Rattle.teal_value.specs.declared.value.Value.{Value}
+use Rattle.teal_value.specs.declared.fault.Fault.{Fault}
+use Rattle.teal_value.specs.declared.fault.Fault.TheVariants as fault
+use Rattle.teal_table.specs.declared.opcode.Opcode.{Opcode}
+use Rattle.teal_table.specs.declared.opcode.Opcode.TheVariants as op
+use Rattle.teal_code.specs.declared.instr.Immediates.{Immediates}
+use Rattle.avm_ledger.specs.Entries.{value_of_key, with_entry, without_entry}
+use Rattle.avm_ledger.specs.Schemas.{count_without, counts_after, counts_in, is_within, keeps_kind, no_entries}
+use Rattle.avm_ledger.proofs.Maps.{lookup-inserted_other}
+use Rattle.avm_items.specs.declared.item.Item.{Item}
+use Rattle.avm_items.specs.declared.item.Item.TheVariants as item
+use Rattle.avm_items.specs.declared.item_value.ItemValue.{ItemValue}
+use Rattle.avm_items.specs.declared.item_value.ItemValue.TheVariants as value
+use Rattle.avm_items.specs.Items.{ItemMap, Known, Look, application_in, entry_in, key_value, local_state_in, value_in, with_item}
+use Rattle.avm_items.specs.Items as items
+use Rattle.avm_items.specs.CallFields.{account}
+use Rattle.avm_items.specs.Asks.{Ask, Gives, Asks, remaining_at, remaining_questions, result_over}
+use Rattle.avm_items.specs.Acts.{Act, done}
+use Rattle.avm_items.proofs.Puts.{item_total}
+use Rattle.avm_cpu.specs.Operands.{bytes_and_value, one_bytes, uint_and_bytes, uint_bytes_and_value}
+use Rattle.avm_ops.specs.Frame.{After, Context}
+use Rattle.avm_ops.specs.States.{counts_written, global_delete_of, global_put_over, key_written, leaves, schema_in, value_length}
+use Rattle.avm_ops.specs.Effect.{effect}
+use Rattle.avm_laws.proofs.WrittenItems.{OnOk, Same}
+use Rattle.avm_laws.proofs.QuietRows.{Always, effect_same}
+use Rattle.avm_debug.proofs.OneMore.{is_there, same_or_other}
+use Rattle.avm_debug.proofs.Rows.{entry_asks, then_act, then_found, then_test, then_tests}
+
+-- what isn't known from the writes afterwards was not known from those before
+abbrev pub StaysKnown : ItemMap → ItemMap → Type 0
+StaysKnown before after = (x : Item) → value_in after x ≡ None → value_in before x ≡ None
+
+abbrev Keeps : Context → After → Type 0
+Keeps c after = StaysKnown c.writes after.writes
+
+with_item_known : (w : ItemMap) (y : Item) (v : ItemValue) → StaysKnown w (with_item w y v)
+with_item_known w y v x none =
+    same_or_other y x (λ same. let both : Some v ≡ None = sym (is_there w y v) ∙ ap (value_in (with_item w y v)) (sym same) ∙ none in absurd cc)
+    (λ other. sym (lookup-inserted_other item_total x y v w other) ∙ none)
+
+two_known : (w : ItemMap) (x y : Item) (u v : ItemValue) → StaysKnown w (with_item (with_item w x u) y v)
+two_known w x y u v z none = with_item_known w x u z (with_item_known (with_item w x u) y v z none)
+
+-- ---- rows that write
+
+put_keeps : (c : Context) (key : List ℕ) (v : Value) (old : Option Value) (b : Bool) → Always (OnOk (Keeps c)) (global_put_over c key v old b)
+put_keeps c key v old true = with_item_known c.writes (item.Key c.current key) (key_value (Some v))
+put_keeps c key v old false = λ counts limit.
+    then_test (Keeps c) (is_within (counts_after old (Some v) (unwrap_or (items.counts_in counts) no_entries)) (schema_in (λ row. row.global_schema) (application_in limit))) fault.Schema
+    (λ _. done (leaves c 2 (counts_written c (counts_after old (Some v) (unwrap_or (items.counts_in counts) no_entries)) (key_written c key (Some v) c.writes))))
+    (two_known c.writes (item.Key c.current key) (item.Counts c.current) (key_value (Some v)) (value.Counts (counts_after old (Some v) (unwrap_or (items.counts_in counts) no_entries))))
+
+delete_keeps : (c : Context) (key : List ℕ) (old : Option Value) → Always (OnOk (Keeps c)) (global_delete_of c key old)
+delete_keeps c key None = λ x none. none
+delete_keeps c key (Some v) = λ counts. two_known c.writes (item.Key c.current key) (item.Counts c.current) (key_value None) (value.Counts (count_without v (unwrap_or (items.counts_in counts) no_entries)))
+
+same_keeps : (c : Context) (t : Act Fault After) → Always (OnOk (Same c)) t → Always (OnOk (Keeps c)) t
+same_keeps c (Gives (Ok after)) h = λ x none. sym (ap (λ w. value_in w x) h) ∙ none
+same_keeps c (Gives (Err f)) h = tt
+same_keeps c (Asks x k) h = λ v. same_keeps c (k v) (h v)
+
+removed_keeps : (w : ItemMap) (x : Item) (v : ItemValue) (b : Bool) → StaysKnown w (if b then with_item w x v else w)
+removed_keeps w x v true = with_item_known w x v
+removed_keeps w x v false = λ y none. none
+
+effect_keeps : (c : Context) (o : Opcode) (i : Immediates) → Always (OnOk (Keeps c)) (effect c o i)
+unfolding effect
+effect_keeps c op.AppGlobalPut i =
+    then_act (Keeps c) (bytes_and_value c.machine.stack) _ (λ a. then_tests (Keeps c) _ (nat_le (length a.0) 64) (nat_le (value_length a.1) 64)
+    (entry_asks (Keeps c) c.current a.0 _ (λ old. put_keeps c a.0 a.1 old (keeps_kind old (Some a.1)))))
+effect_keeps c op.AppGlobalDel i =
+    then_act (Keeps c) (one_bytes c.machine.stack) _ (λ key. entry_asks (Keeps c) c.current key _ (delete_keeps c key))
+effect_keeps c op.AppLocalPut i =
+    then_act (Keeps c) (uint_bytes_and_value c.machine.stack) _ (λ a. then_found (Keeps c) (account c.call a.0) fault.NoAccount _ (λ who v. then_found (Keeps c) (local_state_in v) fault.NotOptedIn _ (λ state.
+    then_tests (Keeps c) _ (nat_le (length a.1) 64) (nat_le (value_length a.2) 64) (λ limit.
+    then_test (Keeps c) (keeps_kind (value_of_key state a.1) (Some a.2) || is_within (counts_in (with_entry state a.1 a.2)) (schema_in (λ row. row.local_schema) (application_in limit))) fault.Schema
+    (λ _. done (leaves c 3 (with_item c.writes (item.Local who c.current) (value.Local (with_entry state a.1 a.2)))))
+    (with_item_known c.writes (item.Local who c.current) (value.Local (with_entry state a.1 a.2)))))))
+effect_keeps c op.AppLocalDel i =
+    then_act (Keeps c) (uint_and_bytes c.machine.stack) _ (λ a. then_found (Keeps c) (account c.call a.0) fault.NoAccount _ (λ who v. then_found (Keeps c) (local_state_in v) fault.NotOptedIn _ (λ state.
+    removed_keeps c.writes (item.Local who c.current) (value.Local (without_entry state a.1)) (is_some (value_of_key state a.1)))))
+effect_keeps c o i = same_keeps c (effect c o i) (effect_same c o i refl)
+
+-- ---- what is left to ask
+
+result_at : {A : Type 0} (look : Look) (own : Known) (P : A → Type 0) (x : Item) (k : ItemValue → Ask A) → ((v : ItemValue) → P (result_over look (remaining_questions own (k v)))) → (o : Option ItemValue)
+    → P (result_over look (remaining_at x (λ v. remaining_questions own (k v)) o))
+result_at look own P x k h (Some v) = h v
+result_at look own P x k h None = h (look x)
+
+pub always_result : {A : Type 0} (look : Look) (own : Known) (P : A → Type 0) (t : Ask A) → Always P t → P (result_over look (remaining_questions own t))
+always_result look own P (Gives a) h = h
+always_result look own P (Asks x k) h = result_at look own P x k (λ v. always_result look own P (k v) (h v)) (own x)
+
+pub effect_stays_known : (look : Look) (own : Known) (c : Context) (o : Opcode) (i : Immediates) → OnOk (Keeps c) (result_over look (remaining_questions own (effect c o i)))
+effect_stays_known look own c o i = always_result look own (OnOk (Keeps c)) (effect c o i) (effect_keeps c o i)
+
+alike_at : {A : Type 0} (look other : Look) (own : Known) (x : Item) (k : ItemValue → Ask A) → ((v : ItemValue) → result_over look (remaining_questions own (k v)) ≡ result_over other (remaining_questions own (k v)))
+    → (o : Option ItemValue) → (o ≡ None → look x ≡ other x) → result_over look (remaining_at x (λ v. remaining_questions own (k v)) o) ≡ result_over other (remaining_at x (λ v. remaining_questions own (k v)) o)
+alike_at look other own x k h (Some v) same = h v
+alike_at look other own x k h None same = h (look x) ∙ ap (λ v. result_over other (remaining_questions own (k v))) (same refl)
+
+-- alike on what isn't known, alike in the result
+pub remaining_alike : {A : Type 0} (look other : Look) (own : Known) → ((x : Item) → own x ≡ None → look x ≡ other x) → (t : Ask A) → result_over look (remaining_questions own t) ≡ result_over other (remaining_questions own t)
+remaining_alike look other own alike (Gives a) = refl
+remaining_alike look other own alike (Asks x k) = alike_at look other own x k (λ v. remaining_alike look other own alike (k v)) (own x) (alike x)

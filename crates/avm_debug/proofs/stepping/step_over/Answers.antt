@@ -1,0 +1,13 @@
+use Rattle.std.proofs.Common.{arith}
+use Rattle.avm_debug.proofs.Supplied.{SuppliedNext, supplied_next}
+use Rattle.avm_debug.proofs.stepping.step_over.Goals as goal
+
+pub loop-fault-smaller : goal.loop-fault-smaller
+loop-fault-smaller g c =
+    let next : SuppliedNext c.args.ledger.now c.args.run.now c.loop-fault.run c.supply_from.new.run = supplied_next c.args.ledger.now c.args.run.now c.loop-fault.run c.try_step.new.run c.supply_from.new.run c.in_ok-try_step.field-0 c.in-Need.item c.loop-fault.invariant.goes_on c.in_ok-try_step.ensures c.in-Need.is c.in_ok-supply_from-in-Need.ensures in
+    omega (arith, next.few, next.longer)
+
+pub loop-fault-preserved : goal.loop-fault-preserved
+loop-fault-preserved g c = record {
+  goes_on = (supplied_next c.args.ledger.now c.args.run.now c.loop-fault.run c.try_step.new.run c.supply_from.new.run c.in_ok-try_step.field-0 c.in-Need.item c.loop-fault.invariant.goes_on c.in_ok-try_step.ensures c.in-Need.is c.in_ok-supply_from-in-Need.ensures).goes_on;
+}

@@ -1,0 +1,56 @@
+-- The start of a run's program over a ledger.
+use Rattle.std.specs.Prelude.{◌≡◌, Bool, true, false, Option, Some, None}
+use Rattle.avm_ledger.specs.Ledgers.{Ledger}
+use Rattle.avm_items.specs.Items.{value_in}
+use Rattle.avm_items.specs.LedgerItems.{at}
+use Rattle.avm_items.specs.Locality.{Agrees}
+use Rattle.avm_call.specs.declared.outcome.Outcome.{Outcome}
+use Rattle.avm_run.specs.Advances.{AsksFor, MakesStep}
+use Rattle.avm_run.specs.Progress.{HasNoStep, HasStep}
+use Rattle.avm_run.specs.RunState.{Progress}
+use Rattle.avm_debug.specs.declared.opening.Begun.{Begun}
+use Rattle.avm_debug.specs.declared.opening.Begun.TheVariants as begun
+use Rattle.avm_debug.specs.Opening.{HasNoProgram}
+
+-- a run whose program has not begun
+abbrev pub IsAtTests : Option Progress → Type 0
+IsAtTests None = ⊥
+IsAtTests (Some p) = p.steps ≡ None
+
+abbrev pub Begins : Option Progress → Option Progress → Begun → Type 0
+Begins (Some p) after begun.Program = MakesStep p after
+Begins (Some p) after (begun.Need x) = AsksFor p p.steps after x
+Begins (Some p) after begun.Nothing = (o : Outcome) × HasNoStep p.call p.header p.reads 0 o
+Begins None after _ = ⊥
+
+-- A run has come from another by items of the ledger alone, and its program has not begun.
+pub record StartsOver (l : Ledger) (old now : Option Progress) : Type 0 where
+  pub first : Progress
+  pub was : old ≡ Some first
+  pub here : Progress
+  pub is : now ≡ Some here
+  pub same_call : here.call ≡ first.call
+  pub same_header : here.header ≡ first.header
+  pub tests : here.steps ≡ None
+  pub agrees : Agrees (value_in here.reads) (at l)
+
+-- the run of the call stands before the first instruction of its program
+pub record HasBegun (l : Ledger) (old now : Option Progress) : Type 0 where
+  pub first : Progress
+  pub was : old ≡ Some first
+  pub here : Progress
+  pub is : now ≡ Some here
+  pub same_call : here.call ≡ first.call
+  pub same_header : here.header ≡ first.header
+  pub counted : here.steps ≡ Some 0
+  pub agrees : Agrees (value_in here.reads) (at l)
+  pub there : HasStep here.call here.header here.reads 0
+
+pub record HasNothing (l : Ledger) (old : Option Progress) : Type 0 where
+  pub first : Progress
+  pub was : old ≡ Some first
+  pub none : HasNoProgram l first.call
+
+abbrev pub BeginsOver : Ledger → Option Progress → Option Progress → Bool → Type 0
+BeginsOver l old now true = HasBegun l old now
+BeginsOver l old now false = HasNothing l old

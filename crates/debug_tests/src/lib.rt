@@ -1,0 +1,7 @@
+//! Calls of blocks that are stepped through, with views worked out by hand from the programs' bytes.
+#![tactic(auto)]
+
+#[cfg(test)]
+mod blocks;
+#[cfg(test)]
+mod steps;
