@@ -18,8 +18,8 @@ pub enum GateEvent {
 /// Whoever is told of each event, and may hold the worker there. A worker holds no lock while it tells of one, but for
 /// [`GateEvent::Inside`].
 pub trait Gate: Sync {
-    /// A worker has come to an event of the call of this number, from 1, in its first, second or further attempt. The attempt
-    /// is 0 for the one thread that runs what the workers left; it stays at the greatest number.
+    /// A worker has come to an event of the call of this number, from 1, in its first, second or further attempt. The
+    /// attempt is 0 for the one thread that runs what the workers left; it stays at the greatest number.
     fn pause(&self, number: u32, attempt: u32, event: GateEvent);
 }
 

@@ -80,8 +80,8 @@ fn commit(journal: &mut Journal, held: &mut Held, attempt: Attempt, finished: Fi
     }
 }
 
-/// Locks the shards that are wanted, by rising index, and does the work while all of them are held. No lock is let go before
-/// it is done; then each shard goes back behind its own.
+/// Locks the shards that are wanted, by rising index, and does the work while all of them are held. No lock is let go
+/// before it is done; then each shard goes back behind its own.
 pub(crate) fn work_with<R: Wait>(
     rt: &R,
     locks: &[ShardLock],

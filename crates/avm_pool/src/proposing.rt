@@ -28,9 +28,9 @@ use std::sync::{Arc, Mutex, Wait};
 use std::thread::Threads;
 use teal_value::Failure;
 
-/// Runs calls on a ledger in as many threads as there are sets of objects, and gives their block. Each call is committed once
-/// it has read what the committed calls before it leave; calls that read and write different items do not wait for one another.
-/// What the workers leave, the calling thread runs with its own set.
+/// Runs calls on a ledger in as many threads as there are sets of objects, and gives their block. A program runs
+/// outside all locks, and reads of items in different shards share none. What the workers leave, the calling thread
+/// runs with its own set.
 ///
 /// The gate is told of each event, and may hold the thread that tells it.
 pub fn propose<G: Gate, R: Threads + Wait + Sync>(

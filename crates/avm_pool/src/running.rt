@@ -46,8 +46,8 @@ impl<'a, G: Gate> Shared<'a, G> {
         self.calls.get(number as usize - 1)
     }
 
-    /// Runs the call of an attempt to its end, on the spare machine, which it leaves for the next run. `tries` counts the
-    /// attempts of the call, this one too.
+    /// Runs the call of an attempt to its end, on the spare machine, which it leaves for the next run. `tries` counts
+    /// the attempts of the call, this one too.
     pub fn run<R: Wait>(
         &self,
         rt: &R,

@@ -113,8 +113,8 @@ impl Numbers {
         self.queue.another::<Worker>(pass)
     }
 
-    /// Puts the next number. It comes back only where the queue was full at one moment of the call, which it never is for
-    /// whoever puts at most [`ROOM`] numbers.
+    /// Puts the next number. It comes back only where the queue was full at one moment of the call, which it never is
+    /// for whoever puts at most [`ROOM`] numbers.
     pub fn put<R: Wait>(&self, rt: &R, pass: &mut NumberPass, number: u32) -> Result<(), u32>
         requires queue { IsWith self.now pass.old }
         requires next { ((view pass.old).puts ≡ true) × (number ≡ (view pass.old).put + 1) }

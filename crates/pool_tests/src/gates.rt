@@ -20,8 +20,8 @@ use std::thread::{self, Threads};
 /// How often a held worker lets others go first, at most.
 const TURNS: u32 = 1_000_000;
 
-/// Holds attempt 1 of both calls before their commits until both are there, and a further attempt at its beginning until the
-/// other call is committed.
+/// Holds attempt 1 of both calls before their commits until both are there, and a further attempt at its beginning
+/// until the other call is committed.
 #[derive(Drop)]
 struct Overlap {
     there: AtomicU64,
@@ -71,7 +71,8 @@ impl Gate for Overlap {
     }
 }
 
-/// Whether two calls that overlap are both in the block: the one with the smaller timestamp comes too late, and is made again.
+/// Whether two calls that overlap are both in the block: the one with the smaller timestamp comes too late, and is made
+/// again.
 fn both_count<R: Threads + Wait + Sync>(
     rt: &R,
     alloc: Global,
