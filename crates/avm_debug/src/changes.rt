@@ -139,7 +139,8 @@ fn push_account(
     push_all(changes, &account, found)
 }
 
-/// The keys of an application's local states whose values differ between two ledgers, of the states that the second has.
+/// The keys of an application's local states whose values differ between two ledgers, of the states that the second
+/// has.
 pub(crate) fn local_changes(
     alloc: Global,
     before: &Ledger,

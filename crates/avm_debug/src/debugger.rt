@@ -22,8 +22,8 @@ use std::alloc::{AllocError, Global};
 use std::marker::Model;
 use teal_value::{Failure, Fault};
 
-/// A call that is stepped through over the ledger that it met, which contracts see as that ledger, the call and its header
-/// with the steps made; as none where it is spent.
+/// A call that is stepped through over the ledger that it met, which contracts see as that ledger, the call and its
+/// header with the steps made; as none where it is spent.
 #[derive(Drop)]
 pub struct Debugger {
     ledger: Ledger,
@@ -48,8 +48,8 @@ impl Model for Debugger {
 }
 
 impl Debugger {
-    /// The call of an entry of a block, before the first instruction of its program, over the ledger that the calls before it
-    /// have led to. That ledger is made here, by a replay of those calls over the ledger before the block.
+    /// The call of an entry of a block, before the first instruction of its program, over the ledger that the calls
+    /// before it have led to. That ledger is made here, by a replay of those calls over the ledger before the block.
     ///
     /// Entries are numbered from 1, by rising timestamp. How the entries say that their calls ended is not compared.
     pub fn open(
@@ -101,8 +101,8 @@ impl Debugger {
         }
     }
 
-    /// Carries out the instruction that comes next, over the ledger. One that faults leaves place and stack as they were,
-    /// and its fault is shown from then on. It costs what the instruction does.
+    /// Carries out the instruction that comes next, over the ledger. One that faults leaves place and stack as they
+    /// were, and its fault is shown from then on. It costs what the instruction does.
     pub fn step(&mut self, alloc: Global, ops: &OpSet) -> Result<(), StepError>
         requires full { IsFull ⟦<BoxedOp as Op>⟧.opcode ops.now }
         ensures { StepsTo self.old self.new result }
@@ -125,8 +125,8 @@ impl Debugger {
         }
     }
 
-    /// What stands where the program stands. It makes the ledger before and after what the call has written so far, which
-    /// costs as much as the ledger is large.
+    /// What stands where the program stands. It makes the ledger before and after what the call has written so far,
+    /// which costs as much as the ledger is large.
     pub fn view(&self, alloc: Global) -> Result<View<'_>, ViewError>
         ensures { IsShown self.now result }
     {

@@ -2,7 +2,8 @@
 
 ghost use Rattle.avm_debug.specs.Laws.{LedgersBeforeAreReplays};
 
-/// The ledger over which an entry's call is opened is the one after the calls of the entries before it, one after another.
+/// The ledger over which an entry's call is opened is the one after the calls of the entries before it, one after
+/// another.
 pub fn ledgers_before_are_replays()
     ensures { LedgersBeforeAreReplays }
 {}

@@ -1,6 +1,6 @@
-//! A debugger of calls in blocks: whoever disputes an outcome steps through the call's program, over the ledger that the
-//! call met, and looks at what stands there. What is shown is the definition of views (`avm_call`, `specs/Views.antt`),
-//! which goes by the instruction table; the ledger is made by replay (`avm_replay`).
+//! A debugger of calls in blocks: whoever disputes an outcome steps through the call's program, over the ledger that
+//! the call met, and looks at what stands there. What is shown is the definition of views (`avm_call`,
+//! `specs/Views.antt`), which goes by the instruction table; the ledger is made by replay (`avm_replay`).
 //!
 //! What is seen of a debugger is in `specs/Debugging.antt`, what a step does in `specs/DebugSteps.antt`.
 #![tactic(auto)]

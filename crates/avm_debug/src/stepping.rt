@@ -76,8 +76,8 @@ pub(crate) fn supply_from(ledger: &Ledger, run: &mut CallRun, item: Item) -> Res
     }
 }
 
-/// Makes the step of the instruction that comes next, over a ledger, or answers its fault. Each item that it asks for is
-/// looked up once.
+/// Makes the step of the instruction that comes next, over a ledger, or answers its fault. Each item that it asks for
+/// is looked up once.
 pub(crate) fn step_over(
     alloc: Global,
     ops: &OpSet,

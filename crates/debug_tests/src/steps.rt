@@ -22,15 +22,16 @@ use teal_value::{Failure, Fault, Value};
 /// 14 `intc_0`; it has 15 bytes.
 const COUNTS: &str = "022001012601016e28286422086722";
 
-/// Puts a number and errs: 1 `intcblock 1`, 4 `bytecblock 0x6e`, 8 `bytec_0`, 9 `intc_0`, 10 `app_global_put`, 11 `err`.
+/// Puts a number and errs: 1 `intcblock 1`, 4 `bytecblock 0x6e`, 8 `bytec_0`, 9 `intc_0`, 10 `app_global_put`, 11
+/// `err`.
 const PUTS_AND_ERRS: &str = "022001012601016e28226700";
 
 /// Stores 7 at the last place: 1 `intcblock 7 1`, 5 `intc_0`, 6 `store 255`, 8 `intc_1`.
 const STORES: &str = "02200207012235ff23";
 
-/// Approves a creation; else puts a uint into the sender's local state, and rejects: 1 `intcblock 0 1`, 5 `bytecblock 0x6e`,
-/// 9 `txn ApplicationID`, 11 `bnz` to 16, 14 `intc_1`, 15 `return`, 16 `intc_0`, 17 `bytec_0`, 18 `intc_1`,
-/// 19 `app_local_put`, 20 `intc_0`.
+/// Approves a creation; else puts a uint into the sender's local state, and rejects: 1 `intcblock 0 1`, 5 `bytecblock
+/// 0x6e`, 9 `txn ApplicationID`, 11 `bnz` to 16, 14 `intc_1`, 15 `return`, 16 `intc_0`, 17 `bytec_0`, 18 `intc_1`, 19
+/// `app_local_put`, 20 `intc_0`.
 const PUTS_AND_REJECTS: &str = "02200200012601016e311840000223432228236622";
 
 /// What comes next.
@@ -41,8 +42,8 @@ enum Came {
     End,
 }
 
-/// What is seen of a view: of the stack how many values and a uint on top, of the scratch space a last place that is a uint,
-/// and of the states what has become of a last key `n` that has changed.
+/// What is seen of a view: of the stack how many values and a uint on top, of the scratch space a last place that is
+/// a uint, and of the states what has become of a last key `n` that has changed.
 #[derive(Clone, Copy, Debug, PartialEq, Eq)]
 struct Seen {
     place: u16,
@@ -161,7 +162,8 @@ fn shown_after(
     }
 }
 
-/// A program and how what it makes is called; the entry, the steps, what is seen after them, and the last one's refusal.
+/// A program and how what it makes is called; the entry, the steps, what is seen after them, and the last one's
+/// refusal.
 type Case = (
     &'static str,
     Completion,
@@ -173,8 +175,9 @@ type Case = (
 
 const ENDED: Option<StepFault> = Some(StepFault::Ended);
 
-/// In turn: before the first instruction; the second call of `COUNTS` finds 1, and puts 2; the first puts 1, ends, and has no
-/// further step; before `err`, at its fault, and no step behind it; a place of the scratch space; a local state.
+/// In turn: before the first instruction; the second call of `COUNTS` finds 1, and puts 2; the first puts 1, ends,
+/// and has no further step; before `err`, at its fault, and no step behind it; a place of the scratch space; a local
+/// state.
 const CASES: [Case; 9] = [
     (COUNTS, Completion::NoOp, 2, 0, NOTHING, None),
     (
