@@ -58,7 +58,7 @@ fn what_was_not_there_is_read(rt: HostRuntime) -> Result<(), Fail> {
     assert!(rt; creation_is_late(alloc, &ops, &mut store)?);
     assert!(rt; commits_at(alloc, &ops, &mut store, 1, 3)?);
     assert!(rt; !has_second(alloc, &store, 2) && has_second(alloc, &store, 3));
-    assert!(rt; store.entries()[0].outcome() == NOT_THERE);
+    assert!(rt; store.entries().len() == 2 && store.entries()[0].outcome() == NOT_THERE);
     assert!(rt; seals_to(alloc, &ops, store, LOOKS_ABROAD, [2, 3], [2, 1])?);
     Ok(())
 }
