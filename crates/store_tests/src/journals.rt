@@ -6,38 +6,22 @@ ghost use Rattle.avm_items.specs.Items.{with_item};
 ghost use Rattle.avm_laws.specs.Orderly.{IsOrderly};
 ghost use Rattle.avm_ops.specs.Objects.{IsFull};
 
-use avm_arith::ArithOp;
+use crate::examples::{
+    BOTH_IN, CREATION, FIVE_IN_Y, HEADER, Y, call_of, crossed_calls, full_set, ledger_of,
+};
 use avm_call::{Call, Outcome};
-use avm_flow_ops::FlowOp;
-use avm_items::{Addresses, CallData, Completion, Item, ItemMap, ItemValue};
-use avm_ledger::{Header, Ledger, Profile, Schema};
-use avm_ops::{BoxedOp, Op, OpSet, Ops};
+use avm_items::{Item, ItemMap, ItemValue};
+use avm_ledger::Ledger;
+use avm_ops::{BoxedOp, Op, OpSet};
 use avm_replay::{Verdict, replay};
 use avm_run::{Advance, CallRun, Finished};
-use avm_state_ops::StateOp;
 use mv_core::{ReadFault, StateFault, Store, Ticket};
-use mv_parts::{CommitFault, Journal, open_parts};
+use mv_parts::{CommitFault, Journal, RefusedCommit, open_parts};
 use mv_shards::{Attempt, Held};
 use std::alloc::{AllocError, Global};
 use std::sync::Arc;
 use std::test::Fail;
-use teal_value::{Address, ByteString, ByteStrings, Failure, Uints};
-
-const NOBODY: Address = Address([0; 32]);
-
-const NO_ENTRY: Schema = Schema { uints: 0, bytes: 0 };
-
-// `int 1` of version 2.
-const APPROVES: &str = "0220010122";
-
-const HEADER: Header = Header {
-    profile: Profile::Two,
-    round: 0,
-    latest_timestamp: 0,
-    min_fee: 0,
-    min_balance: 0,
-    max_life: 0,
-};
+use teal_value::Failure;
 
 // The ledger without applications.
 fn no_applications(alloc: Global) -> Ledger
@@ -48,35 +32,9 @@ fn no_applications(alloc: Global) -> Ledger
     ledger
 }
 
-// A creation whose programs approve.
-fn creation(alloc: Global) -> Result<Call, Fail> {
-    let fields = CallData {
-        sender: NOBODY,
-        fee: 0,
-        first_valid: 0,
-        last_valid: 0,
-        note: ByteString::new(alloc),
-        lease: [0; 32],
-        rekey_to: NOBODY,
-        application: 0,
-        completion: Completion::NoOp,
-        arguments: ByteStrings::from_vec(Vec::new(alloc)),
-        accounts: Addresses::from_vec(Vec::new(alloc)),
-        foreign_applications: Uints::from_vec(Vec::new(alloc)),
-        approval: ByteString::from_vec(hex::decode(alloc, APPROVES)?),
-        clear: ByteString::from_vec(hex::decode(alloc, APPROVES)?),
-        global_schema: NO_ENTRY,
-        local_schema: NO_ENTRY,
-    };
-    match Call::check(alloc, fields) {
-        Ok(call) => Ok(call),
-        Err(_) => Err("these fields make a call".into()),
-    }
-}
-
 // The calls: one creation.
 fn one_creation(alloc: Global) -> Result<Arc<Vec<Call>>, Fail> {
-    Ok(Arc::new(alloc, vec![in alloc; creation(alloc)?]?)?)
+    Ok(Arc::new(alloc, vec![in alloc; call_of(alloc, &CREATION)?]?)?)
 }
 
 // An item alone.
@@ -109,12 +67,13 @@ fn read_of(
 fn finished(
     alloc: Global,
     ops: &OpSet,
+    call: &Call,
     held: &mut Held,
     attempt: &mut Attempt,
 ) -> Result<Finished, Fail>
     requires full { IsFull ⟦<BoxedOp as Op>⟧.opcode ops.now }
 {
-    let mut run = CallRun::start(alloc, &creation(alloc)?, &HEADER, None)?;
+    let mut run = CallRun::start(alloc, call, &HEADER, None)?;
     for _ in 0..16 {
         match run.advance(alloc, ops) {
             Ok(Advance::Done(finished)) => return Ok(finished),
@@ -124,10 +83,10 @@ fn finished(
                     return Err("what is asked for is taken".into());
                 }
             }
-            Err(_) => return Err("a creation ends".into()),
+            Err(_) => return Err("a call ends".into()),
         }
     }
-    Err("a creation asks for few items".into())
+    Err("a call asks for few items".into())
 }
 
 // Whether the shards take a commit, and the call ends approved at timestamp 1; committed once more, it is unknown.
@@ -143,7 +102,7 @@ fn is_committed(
         Ok(attempt) => attempt,
         Err(_) => return Err("an idle call begins".into()),
     };
-    let done = finished(alloc, ops, held, &mut attempt)?;
+    let done = finished(alloc, ops, &call_of(alloc, &CREATION)?, held, &mut attempt)?;
     if !held.covers(attempt.reads()) || !held.covers(done.writes()) {
         return Err("all shards are held".into());
     }
@@ -163,7 +122,7 @@ fn is_unknown(
     requires full { IsFull ⟦<BoxedOp as Op>⟧.opcode ops.now }
 {
     let mut attempt = Attempt::new(alloc, 1, 7);
-    let done = finished(alloc, ops, held, &mut attempt)?;
+    let done = finished(alloc, ops, &call_of(alloc, &CREATION)?, held, &mut attempt)?;
     if !held.covers(attempt.reads()) || !held.covers(done.writes()) {
         return Err("all shards are held".into());
     }
@@ -221,25 +180,88 @@ fn is_sealed(alloc: Global, ops: &OpSet, journal: Journal) -> Result<bool, Fail>
 #[test]
 fn a_creation_is_committed(rt: HostRuntime) -> Result<(), Fail> {
     let alloc = rt.alloc();
-    let mut ops: OpSet = Ops::new(alloc)?;
-    for code in 0..256usize {
-        let code = code as u8;
-        let op: Box<dyn Op> = if let Some(op) = ArithOp::of(code) {
-            Box::new(alloc, op)?
-        } else if let Some(op) = FlowOp::of(code) {
-            Box::new(alloc, op)?
-        } else if let Some(op) = StateOp::of(code) {
-            Box::new(alloc, op)?
-        } else {
-            continue;
-        };
-        assert!(rt; ops.push(BoxedOp { op }).is_ok());
-    }
-    assert!(rt; ops.missing().is_none());
+    let ops = full_set(alloc)?;
     match first_wrong(alloc, &ops)? {
         None => Ok(()),
         Some(wrong) => Err(wrong.into()),
     }
+}
+
+// A journal of the two calls that read both accounts over the ledger of these digits, with all its shards.
+fn crossed_parts(alloc: Global, digits: &str) -> Result<(Journal, Held), Fail> {
+    match open_parts(
+        alloc,
+        ledger_of(alloc, digits)?,
+        HEADER,
+        crossed_calls(alloc)?,
+    ) {
+        Ok(parts) => Ok(parts),
+        Err(_) => Err("two calls make a journal".into()),
+    }
+}
+
+// Call 1 begins, and reads all that it asks for.
+fn first_attempt(
+    alloc: Global,
+    ops: &OpSet,
+    journal: &mut Journal,
+    held: &mut Held,
+) -> Result<(Attempt, Finished), Fail>
+    requires full { IsFull ⟦<BoxedOp as Op>⟧.opcode ops.now }
+{
+    let mut attempt = match journal.begin(1) {
+        Ok(attempt) => attempt,
+        Err(_) => return Err("an idle call begins".into()),
+    };
+    match journal.call(1) {
+        Some(call) => {
+            let done = finished(alloc, ops, call, held, &mut attempt)?;
+            Ok((attempt, done))
+        }
+        None => Err("the number is a call's".into()),
+    }
+}
+
+// The item of which a journal has another value than an attempt has read, where that is why it does not commit.
+fn moved_item(
+    journal: &mut Journal,
+    held: &mut Held,
+    attempt: Attempt,
+    done: Finished,
+) -> Result<Item, Fail> {
+    if !held.covers(attempt.reads()) || !held.covers(done.writes()) {
+        return Err("all shards are held".into());
+    }
+    match journal.commit(held, attempt, done) {
+        Ok(_timestamp) => Err("a read has moved".into()),
+        Err(refused) => {
+            let RefusedCommit {
+                error,
+                attempt: _attempt,
+                finished: _finished,
+            } = refused;
+            match error {
+                Failure::Fault(CommitFault::Moved { item }) => Ok(item),
+                _ => Err("a read has moved".into()),
+            }
+        }
+    }
+}
+
+// What call 1 has read over one ledger has moved over another, where it is live at the same timestamp.
+#[test]
+fn reads_of_another_ledger_have_moved(rt: HostRuntime) -> Result<(), Fail> {
+    let alloc = rt.alloc();
+    let ops = full_set(alloc)?;
+    let (mut journal, mut held) = crossed_parts(alloc, BOTH_IN)?;
+    let (attempt, done) = first_attempt(alloc, &ops, &mut journal, &mut held)?;
+    let (mut other, mut other_held) = crossed_parts(alloc, FIVE_IN_Y)?;
+    let (own, _own_done) = first_attempt(alloc, &ops, &mut other, &mut other_held)?;
+    assert!(rt; own.timestamp() == attempt.timestamp());
+    let item = moved_item(&mut other, &mut other_held, attempt, done)?;
+    assert!(rt; item == Item::Local(Y, 1));
+    assert!(rt; other.entries().is_empty() && other.is_live(&own));
+    Ok(())
 }
 
 // Whether an item is read by a ticket, as the next id of the ledger without applications.

@@ -2,4 +2,16 @@
 #![tactic(auto)]
 
 #[cfg(test)]
+mod creations;
+#[cfg(test)]
+mod examples;
+#[cfg(test)]
 mod journals;
+#[cfg(test)]
+mod keys;
+#[cfg(test)]
+mod skew;
+#[cfg(test)]
+mod steps;
+#[cfg(test)]
+mod tickets;

@@ -1,0 +1,175 @@
+//! Tickets of attempts that have ended, forged ones, and finished calls that are another attempt's.
+
+ghost use Rattle.avm_ops.specs.Objects.{IsFull};
+
+use crate::examples::{BOTH_IN, FIVE_IN_Y, X, crossed_calls, full_set};
+use crate::steps::{
+    FinishedAttempt, attempted, back_as_stranger, commits, ends_late, store_of, unknown_back,
+};
+use avm_items::Item;
+use avm_ops::{BoxedOp, Op, OpSet};
+use avm_run::Finished;
+use mv_core::{Store, Ticket};
+use std::alloc::Global;
+use std::test::Fail;
+
+// What shows of a store: the digest of its state at a timestamp, its low mark, and how many calls are committed.
+#[derive(Clone, Copy, Debug, PartialEq, Eq)]
+struct Seen {
+    digest: [u8; 32],
+    low: u64,
+    entries: usize,
+}
+
+fn seen_at(alloc: Global, store: &Store, timestamp: u64) -> Result<Seen, Fail> {
+    match store.state_at(alloc, timestamp) {
+        Ok(ledger) => Ok(Seen {
+            digest: ledger.digest(alloc)?,
+            low: store.low(),
+            entries: store.entries().len(),
+        }),
+        Err(_) => Err("nothing was pruned".into()),
+    }
+}
+
+const ABANDONED: Ticket = Ticket {
+    number: 1,
+    timestamp: 1,
+};
+
+const COMMITTED: Ticket = Ticket {
+    number: 2,
+    timestamp: 2,
+};
+
+const FORGED: [Ticket; 4] = [
+    Ticket {
+        number: 1,
+        timestamp: 2,
+    },
+    Ticket {
+        number: 2,
+        timestamp: 1,
+    },
+    Ticket {
+        number: 0,
+        timestamp: 1,
+    },
+    Ticket {
+        number: 3,
+        timestamp: 3,
+    },
+];
+
+// What call 1 came to, which was then abandoned; call 2 has committed.
+fn both_ended(alloc: Global, ops: &OpSet, store: &mut Store) -> Result<Finished, Fail>
+    requires full { IsFull ⟦<BoxedOp as Op>⟧.opcode ops.now }
+{
+    let first = attempted(alloc, ops, store, 1)?;
+    let second = attempted(alloc, ops, store, 2)?;
+    let FinishedAttempt { ticket, finished } = first;
+    let named = ticket == ABANDONED && second.ticket == COMMITTED;
+    if store.abandon(&ticket).is_ok() && commits(store, second) && named {
+        Ok(finished)
+    } else {
+        Err("call 1 is abandoned, and call 2 committed".into())
+    }
+}
+
+// Whether all these tickets are of no live attempt. The finished call is tried with each.
+fn are_unknown(store: &mut Store, finished: Finished) -> bool {
+    let mut left = unknown_back(store, &ABANDONED, finished);
+    left = match left {
+        Some(back) => unknown_back(store, &COMMITTED, back),
+        None => None,
+    };
+    for ticket in FORGED {
+        left = match left {
+            Some(back) => unknown_back(store, &ticket, back),
+            None => None,
+        };
+    }
+    left.is_some()
+}
+
+// A ticket whose attempt was abandoned or committed is of none; so is a forged one. Nothing changes.
+#[test]
+fn ended_and_forged_tickets_are_unknown(rt: HostRuntime) -> Result<(), Fail> {
+    let alloc = rt.alloc();
+    let ops = full_set(alloc)?;
+    let mut store = store_of(alloc, BOTH_IN, crossed_calls(alloc)?)?;
+    let finished = both_ended(alloc, &ops, &mut store)?;
+    let before = seen_at(alloc, &store, 2)?;
+    assert!(rt; are_unknown(&mut store, finished));
+    assert!(rt; seen_at(alloc, &store, 2)? == before);
+    Ok(())
+}
+
+// Whether a finished call is a stranger to a live attempt and comes back, and the store shows what it showed.
+fn stranger_back(
+    alloc: Global,
+    store: &mut Store,
+    ticket: &Ticket,
+    finished: Finished,
+) -> Result<Finished, Fail> {
+    let before = seen_at(alloc, store, ticket.timestamp)?;
+    match back_as_stranger(store, ticket, finished) {
+        Some(back) => {
+            if seen_at(alloc, store, ticket.timestamp)? == before {
+                Ok(back)
+            } else {
+                Err("nothing changes".into())
+            }
+        }
+        None => Err("the call is a stranger".into()),
+    }
+}
+
+// Whether what call 1 came to is a stranger to call 2's attempt, and comes back: by its own ticket it is late, as it was.
+fn is_a_stranger(alloc: Global, ops: &OpSet, store: &mut Store) -> Result<bool, Fail>
+    requires full { IsFull ⟦<BoxedOp as Op>⟧.opcode ops.now }
+{
+    let first = attempted(alloc, ops, store, 1)?;
+    let second = attempted(alloc, ops, store, 2)?;
+    let FinishedAttempt { ticket, finished } = first;
+    let finished = stranger_back(alloc, store, &second.ticket, finished)?;
+    let late = ends_late(
+        store,
+        FinishedAttempt { ticket, finished },
+        &Item::Local(X, 1),
+        2,
+    );
+    Ok(commits(store, second) && late)
+}
+
+// Another call's end does not commit, though its attempt is live too.
+#[test]
+fn another_calls_end_is_a_stranger(rt: HostRuntime) -> Result<(), Fail> {
+    let alloc = rt.alloc();
+    let ops = full_set(alloc)?;
+    let mut store = store_of(alloc, BOTH_IN, crossed_calls(alloc)?)?;
+    assert!(rt; is_a_stranger(alloc, &ops, &mut store)?);
+    Ok(())
+}
+
+// What call 1 comes to over the ledger where Y has 5.
+fn elsewhere(alloc: Global, ops: &OpSet) -> Result<Finished, Fail>
+    requires full { IsFull ⟦<BoxedOp as Op>⟧.opcode ops.now }
+{
+    let mut store = store_of(alloc, FIVE_IN_Y, crossed_calls(alloc)?)?;
+    let attempted = attempted(alloc, ops, &mut store, 1)?;
+    Ok(attempted.finished)
+}
+
+// Nor does what the right call came to over another base, where it read otherwise.
+#[test]
+fn other_reads_are_a_stranger(rt: HostRuntime) -> Result<(), Fail> {
+    let alloc = rt.alloc();
+    let ops = full_set(alloc)?;
+    let mut store = store_of(alloc, BOTH_IN, crossed_calls(alloc)?)?;
+    let first = attempted(alloc, &ops, &mut store, 1)?;
+    let other = elsewhere(alloc, &ops)?;
+    let _back = stranger_back(alloc, &mut store, &first.ticket, other)?;
+    assert!(rt; commits(&mut store, first));
+    Ok(())
+}
