@@ -5,7 +5,6 @@ use Rattle.std.specs.List.{AllByRecursion}
 use Rattle.std.proofs.lemmas.List.{drop_more, take_more}
 use Rattle.std.proofs.lemmas.List.Elements.{All-cons, All-nil}
 use Rattle.std.proofs.lemmas.List.Sums.{sum_by-cons}
-use Rattle.std.proofs.Math.Seq.{take-length}
 use Rattle.avm_ledger.specs.declared.header.Header.{Header}
 use Rattle.avm_ledger.specs.declared.header.Profile.{Profile}
 use Rattle.avm_ledger.specs.Ledgers.{Ledger}
@@ -17,17 +16,15 @@ use Rattle.avm_call.specs.Places.{HasPlace}
 use Rattle.avm_call.specs.Replay.{ledger_after, outcome_on, outcomes, replayed}
 use Rattle.avm_block.specs.AcceptedCalls.{is_accepted, is_within}
 use Rattle.avm_block.specs.declared.entry.Entry as block
-use Rattle.avm_block.specs.Blocks.{Block, RisesAbove, Replays, calls_in, outcomes_in}
+use Rattle.avm_block.specs.Blocks.{Block, RisesAbove, calls_in, outcomes_in}
 use Rattle.avm_replay.specs.Plain.{first_beyond}
 use Rattle.avm_replay.proofs.Entries.{heads, tails}
 use Rattle.mv_history.specs.History.{IsRising, commit_count, entries_below}
-use Rattle.mv_history.specs.World.{live_count}
 use Rattle.mv_history.proofs.Lists.{Compared, less, not_less, compared}
 use Rattle.mv_history.proofs.Replay.{none_left}
 use Rattle.mv_calls.specs.CallHistory.{CallEntry, call_of, calls_made, with_call}
 use Rattle.mv_calls.specs.Laws.{ledger_with}
 use Rattle.mv_calls.specs.SerialCalls.{AreOfCalls, AreSerialCalls, ledger_of}
-use Rattle.mv_parts.specs.declared.open_fault.OpenFault.{OpenFault}
 use Rattle.mv_parts.specs.declared.open_fault.OpenFault.TheVariants as fault
 use Rattle.mv_parts.specs.Journals.{Journal}
 use Rattle.mv_parts.specs.Opening.{open_fault}

@@ -3,7 +3,8 @@
 //! Systems", section 5.3). It stands on the shards of mv_shards, which hold the versions of items; what their parts
 //! are told, each by its own lock, this crate joins.
 //!
-//! What is seen of a journal, and what it keeps, is in specs/Journals.antt.
+//! What is seen of a journal, and what it keeps, is in specs/Journals.antt; to which block it is sealed, in
+//! specs/Sealing.antt.
 #![tactic(auto)]
 
 mod begin_fault;

@@ -33,8 +33,8 @@ pub struct Sealed {
 }
 
 impl Journal {
-    /// The block of the committed calls, by rising timestamp. It is refused while an attempt is live. It copies the base,
-    /// and makes each entry's writes there again, for the digest of the ledger after them.
+    /// The block of the committed calls, by rising timestamp. It is refused while an attempt is live. It copies the
+    /// base, and puts each entry's writes there, for the digest of the ledger after them.
     pub fn seal(self, alloc: Global) -> Result<Sealed, RefusedSeal>
         ensures sealed { IfOk result (λ sealed. IsSealed self sealed.block sealed.numbers.items) }
         ensures over { OnOk result (self.world.live ≡ []) }
@@ -56,8 +56,8 @@ impl Journal {
         }
     }
 
-    /// Whether the journal is of this ledger, header and calls, and no attempt is live. It takes no memory; it goes through
-    /// the ledger and the calls.
+    /// Whether the journal is of this ledger, header and calls, and no attempt is live. It takes no memory; it goes
+    /// through the ledger and the calls.
     pub fn is_of(&self, base: &Ledger, header: &Header, calls: &[Call]) -> bool
         ensures { IsTrue result ↔ IsOf self.now base.now header.now calls.now }
     {

@@ -213,9 +213,8 @@ fn is_sealed(alloc: Global, ops: &OpSet, journal: Journal) -> Result<bool, Fail>
         Err(_) => return Err("no attempt is live".into()),
     };
     let verdict = replay(alloc, &no_applications(alloc), &sealed.block, ops)?;
-    Ok(sealed.block.entries().len() == 1
-        && sealed.numbers.as_slice() == [1]
-        && matches!(verdict, Verdict::Agrees(_)))
+    let is_one = sealed.block.entries().len() == 1 && matches!(sealed.numbers.as_slice(), [1]);
+    Ok(is_one && matches!(verdict, Verdict::Agrees(_)))
 }
 
 // A creation is committed, and the ledger after it has the next id.
