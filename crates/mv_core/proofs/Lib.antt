@@ -9,3 +9,4 @@ pub mod Openings
 pub mod Commits
 pub mod CommitCalls
 pub mod WorkerSteps
+pub mod Sealings

@@ -13,6 +13,7 @@ mod event_list;
 mod faults;
 mod opening;
 mod reading;
+mod sealing;
 mod steps;
 mod store;
 mod ticket;
@@ -24,6 +25,7 @@ pub use faults::{
     StateFault,
 };
 pub use mv_running::Event;
+pub use sealing::RefusedSeal;
 pub use store::Store;
 pub use ticket::Ticket;
 pub use world::{Worker, World};

@@ -1,6 +1,7 @@
 //! Stores.
 
-ghost use Rattle.std.specs.Prelude.{◌≡◌, ◌⊎◌, ◌↔◌, ◌<◌, ◌+◌, suc, None, IfErr, IfOk, IsErrOf, OnErr, OnOk};
+ghost use Rattle.std.specs.Prelude.{◌≡◌, ◌⊎◌, ◌↔◌, ◌<◌, ◌+◌, suc, None, IfErr, IfOk, IsErrOf, OnErr, OnOk, length};
+ghost use Rattle.std.specs.Option.{option_copied};
 ghost use Rattle.teal_value.specs.declared.failure.Failure.TheVariants.{Fault};
 ghost use Rattle.avm_items.specs.LedgerItems.{at};
 ghost use Rattle.avm_laws.specs.LedgerLooks.{IsOfLedger};
@@ -35,7 +36,7 @@ use avm_items::{Item, ItemValue};
 use avm_ledger::{Header, Ledger};
 use avm_run::Finished;
 use mv_calls::every_consistent_world_of_calls_is_serial;
-use mv_parts::{BeginError, Journal, OpenError, open_parts};
+use mv_parts::{BeginError, Entry, Journal, OpenError, open_parts};
 use mv_shards::{Attempt, Held};
 use std::alloc::Global;
 use std::marker::Model;
@@ -45,9 +46,9 @@ use teal_value::Failure;
 /// A journal, all shards, and a place for the attempt of each call.
 #[derive(Drop)]
 pub struct Store {
-    journal: Journal,
-    held: Held,
-    attempts: Vec<Option<Attempt>>,
+    pub(crate) journal: Journal,
+    pub(crate) held: Held,
+    pub(crate) attempts: Vec<Option<Attempt>>,
 }
 
 impl Model for Store {
@@ -195,6 +196,35 @@ impl Store {
             return Err(Failure::Fault(StateFault::Pruned));
         }
         Ok(self.journal.ledger_at(alloc, timestamp)?)
+    }
+
+    /// How many versions of an item are held: one where no commit has written it. It takes no memory, and looks only at
+    /// the item's own versions.
+    pub fn versions(&self, item: &Item) -> usize
+        ensures { result ≡ length (versions_for self.now.places item.now) }
+    {
+        self.held.version_count(item)
+    }
+
+    /// The ledger before all calls.
+    pub fn base(&self) -> &Ledger
+        ensures { result.now ≡ self.now.base }
+    {
+        self.journal.base()
+    }
+
+    /// The call of a number, from 1.
+    pub fn call(&self, number: u32) -> Option<&Call>
+        ensures { option_copied result ≡ call_of self.now.calls number }
+    {
+        self.journal.call(number)
+    }
+
+    /// The committed calls, by rising timestamp.
+    pub fn entries(&self) -> &[Entry]
+        ensures { result.now ≡ self.now.world.entries }
+    {
+        self.journal.entries()
     }
 
     /// The low mark: there is no state below it any more.

@@ -1,6 +1,6 @@
 //! Shards that are held together.
 
-ghost use Rattle.std.specs.Prelude.{◌≡◌, ◌==◌, ◌<◌, ◌⊎◌, ◌↔◌, None, Some, IfErr, IfOk, IfNone, IfSome, IsErrOf, IsOk, IsSome, IsTrue, OnErr, OnOk, get_or, set, ◌-◌};
+ghost use Rattle.std.specs.Prelude.{◌≡◌, ◌==◌, ◌<◌, ◌⊎◌, ◌↔◌, None, Some, IfErr, IfOk, IfNone, IfSome, IsErrOf, IsOk, IsSome, IsTrue, OnErr, OnOk, get_or, length, set, ◌-◌};
 ghost use Rattle.std.proofs.Common.{replicate};
 ghost use Rattle.teal_value.specs.declared.failure.Failure.TheVariants.{Fault};
 ghost use Rattle.mv_shards.specs.declared.read_fault.ReadFault.TheVariants.{Pruned};
@@ -12,7 +12,7 @@ ghost use Rattle.mv_chain.specs.Versions.{lateness, newest_at};
 
 use crate::attempt::Attempt;
 use crate::index::{SHARD_COUNT, shard_of};
-use crate::part::{has_value, late, prune, read, refuses};
+use crate::part::{has_value, late, prune, read, refuses, version_count};
 use crate::read_fault::ReadError;
 use crate::room::Parts;
 use crate::shard::Shard;
@@ -129,6 +129,17 @@ impl Held {
     {
         match &self.parts[usize::from(shard_of(item))] {
             Some(part) => has_value(part, item, timestamp, value),
+            None => unreachable!(),
+        }
+    }
+
+    /// How many versions of an item are held: one where nothing has written it. It takes no memory.
+    pub fn version_count(&self, item: &Item) -> usize
+        requires held { IsHeld self.now item.now }
+        ensures { result ≡ length (versions_for self.now item.now) }
+    {
+        match &self.parts[usize::from(shard_of(item))] {
+            Some(part) => version_count(part, item),
             None => unreachable!(),
         }
     }

@@ -1,6 +1,6 @@
 //! A part of the items with their versions, as a shard keeps them.
 
-ghost use Rattle.std.specs.Prelude.{◌≡◌, ◌≤◌, ◌<◌, ◌⊎◌, ◌↔◌, ◌==◌, ◌&&◌, IfErr, IfOk, IsErrOf, IsSome, None, OnErr, OnOk, Some};
+ghost use Rattle.std.specs.Prelude.{◌≡◌, ◌≤◌, ◌<◌, ◌⊎◌, ◌↔◌, ◌==◌, ◌&&◌, length, IfErr, IfOk, IsErrOf, IsSome, None, OnErr, OnOk, Some};
 ghost use Rattle.teal_value.specs.declared.failure.Failure.TheVariants.{Fault};
 ghost use Rattle.avm_items.specs.Items.{value_in};
 ghost use Rattle.avm_items.specs.LedgerItems.{at};
@@ -143,6 +143,17 @@ pub(crate) fn has_value(part: &Part, item: &Item, timestamp: u64, value: &ItemVa
     match part.chains.get(item) {
         Some(chain) => chain.read_at(timestamp).is_same(value),
         None => is_value_in(&part.base, item, value),
+    }
+}
+
+/// How many versions of an item there are.
+pub(crate) fn version_count(part: &Part, item: &Item) -> usize
+    requires { IsPart part.now }
+    ensures { result ≡ length (versions_held (seen part.now) item.now) }
+{
+    match part.chains.get(item) {
+        Some(chain) => chain.count(),
+        None => 1,
     }
 }
 

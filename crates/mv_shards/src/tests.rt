@@ -45,6 +45,15 @@ fn next_id_at(alloc: Global, held: &mut Held, timestamp: u64) -> Result<u64, All
     }
 }
 
+// How many versions of the next id are held, or 0 where its shard isn't.
+fn next_id_count(alloc: Global, held: &Held) -> Result<usize, AllocError> {
+    let wanted = next_id_is(alloc, 0)?;
+    if !held.covers(&wanted) {
+        return Ok(0);
+    }
+    Ok(held.version_count(&Item::NextApp))
+}
+
 // One commit, and reads below, at and above its timestamp; those below are refused once the low mark is there.
 #[test]
 fn reads_find_the_newest_version_not_above_them(rt: HostRuntime) -> Result<(), Fail> {
@@ -52,12 +61,15 @@ fn reads_find_the_newest_version_not_above_them(rt: HostRuntime) -> Result<(), F
     let mut held = first_held(alloc)?;
     let writes = next_id_is(alloc, 2)?;
     let mut others = first_held(alloc)?;
+    assert!(rt; next_id_count(alloc, &held)? == 1);
     held.write_both(&mut others, alloc, &ItemMap::new(alloc), &writes, 5)?;
+    assert!(rt; next_id_count(alloc, &held)? == 2);
     for (timestamp, id) in READS {
         let found = next_id_at(alloc, &mut held, timestamp)?;
         assert!(rt; found == id);
     }
     held.prune(5);
+    assert!(rt; next_id_count(alloc, &held)? == 1);
     assert!(rt; next_id_at(alloc, &mut held, 4)? == 0);
     assert!(rt; next_id_at(alloc, &mut held, 5)? == 2);
     assert!(rt; held.take().is_some());
