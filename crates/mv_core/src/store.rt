@@ -241,13 +241,6 @@ impl Store {
         self.journal.header()
     }
 
-    /// The call of a number, from 1.
-    pub fn call(&self, number: u32) -> Option<&Call>
-        ensures { option_copied result ≡ call_of self.now.calls number }
-    {
-        self.journal.call(number)
-    }
-
     /// What every store keeps: its committed calls, by rising timestamp, are those of one thread, and each version that it
     /// holds is an entry's. It does no work.
     pub fn holds(&self)
