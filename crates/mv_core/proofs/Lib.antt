@@ -10,3 +10,4 @@ pub mod Commits
 pub mod CommitCalls
 pub mod WorkerSteps
 pub mod Sealings
+pub mod EventRuns

@@ -1,5 +1,5 @@
 -- One event of one worker, against what it means.
-use Rattle.std.proofs.Common.{◌≡◌, ℕ, suc, ◌+◌, ◌<◌, ◌≤◌, ◌==◌, ◌&&◌, not, Bool, true, false, nat_lt, nat_le, if◌then◌else◌, List, [], ◌∷◌, length, map, Option, None, Some, Result, Ok, Err, get_or, set, slice_set, refl, sym, ap, ◌∙◌, subst, arith, inl, inr}
+use Rattle.std.proofs.Common.{◌≡◌, ℕ, zero, suc, ◌+◌, ◌-◌, ◌<◌, ◌≤◌, ◌==◌, ◌&&◌, not, Bool, true, false, nat_lt, nat_le, if◌then◌else◌, List, [], ◌∷◌, length, map, Option, None, Some, Result, Ok, Err, get_or, set, slice_set, refl, sym, ap, ◌∙◌, subst, arith, inl, inr}
 use Rattle.std.specs.Prelude.{◌⊎◌, ◌^◌, is_none, is_some, option_map}
 use Rattle.std.specs.List.{AllByRecursion}
 use Rattle.std.proofs.lemmas.List.{map-set, length-map}
@@ -13,9 +13,9 @@ use Rattle.avm_call.specs.Calls.{CallResult, call_result}
 use Rattle.avm_run.specs.Advances.{Supplies}
 use Rattle.avm_run.specs.Results.{CallRecord, with_changes}
 use Rattle.avm_run.specs.RunState.{Progress}
-use Rattle.mv_history.specs.History.{version_below}
+use Rattle.mv_history.specs.History.{commit_count, version_below}
 use Rattle.mv_history.specs.SameWorlds.{HaveSameMarks, IsSameWorld}
-use Rattle.mv_history.specs.World.{after_abandon, after_begin, after_commit, after_prune, after_read, attempt_at, fresh_attempt, greatest_mark}
+use Rattle.mv_history.specs.World.{after_abandon, after_begin, after_commit, after_prune, after_read, attempt_at, fresh_attempt, greatest_mark, live_count}
 use Rattle.mv_history.proofs.Lists.{Compared, less, not_less, compared}
 use Rattle.mv_history.proofs.SameWorlds.{same_world-itself, same_world-sym}
 use Rattle.mv_calls.specs.CallHistory.{CallAttempt, CallEntry, CallWorld, call_of, same_item}
@@ -129,38 +129,39 @@ ticket_live s (Some a) t is live = subst (λ (u : Ticket). IsLive s.world.live u
 
 at_map : (ws : List Worker) (i : ℕ) (d : Worker) → i < length ws → d ≡ get_or ws i d → get_or (map attempt_of ws) i None ≡ attempt_of d
 at_map [] i d inside is = absurd (omega (arith, inside))
-at_map (w ∷ ws) 0 d inside is = ap attempt_of (sym is)
+at_map (w ∷ ws) zero d inside is = ap attempt_of (sym is)
 at_map (w ∷ ws) (suc i) d inside is = at_map ws i d (omega (arith, inside)) is
 
 sound_at : (input : RunInput) (ws : List Worker) (i : ℕ) (d : Worker) → i < length ws → d ≡ get_or ws i d → AreSound input ws → IsSound input d
 sound_at input [] i d inside is h = absurd (omega (arith, inside))
-sound_at input (w ∷ ws) 0 d inside is h = subst (IsSound input) (sym is) h.0
+sound_at input (w ∷ ws) zero d inside is h = subst (IsSound input) (sym is) h.0
 sound_at input (w ∷ ws) (suc i) d inside is h = sound_at input ws i d (omega (arith, inside)) is h.1
 
 sound_set : (input : RunInput) (ws : List Worker) (i : ℕ) (w : Worker) → AreSound input ws → IsSound input w → AreSound input (set ws i w)
 sound_set input [] i w h k = h
-sound_set input (v ∷ vs) 0 w h k = (k, h.1)
+sound_set input (v ∷ vs) zero w h k = (k, h.1)
 sound_set input (v ∷ vs) (suc i) w h k = (h.0, sound_set input vs i w h.1 k)
 
 set_twice : (ws : List Worker) (i : ℕ) (v w : Worker) → set (set ws i v) i w ≡ set ws i w
 set_twice [] i v w = refl
-set_twice (x ∷ xs) 0 v w = refl
+set_twice (x ∷ xs) zero v w = refl
 set_twice (x ∷ xs) (suc i) v w = ap (λ ys. x ∷ ys) (set_twice xs i v w)
 
 set_here : {A : Type 0} (xs : List (Option A)) (i : ℕ) (o : Option A) → get_or xs i None ≡ o → i < length xs → set xs i o ≡ xs
 set_here [] i o is inside = refl
-set_here (x ∷ xs) 0 o is inside = ap (λ y. y ∷ xs) (sym is)
+set_here (x ∷ xs) zero o is inside = ap (λ y. y ∷ xs) (sym is)
 set_here (x ∷ xs) (suc i) o is inside = ap (λ ys. x ∷ ys) (set_here xs i o is (omega (arith, inside)))
 
-pub live_at : (s : Store) (ws : List Worker) (i : ℕ) (d : Worker) → i < length ws → d ≡ get_or ws i d → ((w : ℕ) (a : CallAttempt) → get_or (map attempt_of ws) w None ≡ Some a → IsLiveWith s a) → IsLiveIfAny s (attempt_of d)
+live_at : (s : Store) (ws : List Worker) (i : ℕ) (d : Worker) → i < length ws → d ≡ get_or ws i d → ((w : ℕ) (a : CallAttempt) → get_or (map attempt_of ws) w None ≡ Some a → IsLiveWith s a) → IsLiveIfAny s (attempt_of d)
 live_at s ws i d inside is live = by (attempt_of d) (at_map ws i d inside is)
   where
     by : (o : Option CallAttempt) → get_or (map attempt_of ws) i None ≡ o → IsLiveIfAny s o
     by None h = tt
     by (Some a) h = live i a h
 
-pub sound_here : (input : RunInput) (ws : List Worker) (i : ℕ) (d : Worker) → i < length ws → d ≡ get_or ws i d → AreSound input ws → IsSound input d
-sound_here input ws i d inside is h = sound_at input ws i d inside is h
+-- taken from its place
+pub live_here : (s : Store) (ws : List Worker) (i : ℕ) (w d : Worker) → i < length ws → w ≡ d → d ≡ get_or ws i d → ((v : ℕ) (a : CallAttempt) → get_or (map attempt_of ws) v None ≡ Some a → IsLiveWith s a) → IsLiveIfAny s (attempt_of w)
+live_here s ws i w d inside taken there live = subst (λ (v : Worker). IsLiveIfAny s (attempt_of v)) (sym taken) (live_at s ws i d inside there live)
 
 -- ---- whether a commit is in time
 
@@ -177,6 +178,36 @@ in_time_same s ws t (e ∷ es) = by (nat_le mark t) (nat_lt t mark) refl refl (i
     by true false p q rest = rest
     by false true p q rest = refl
     by false false p q rest = absurd (grind (arith, p, q))
+
+-- ---- what a worker's call answers
+
+asked : (s : Store) (ticket : Ticket) (run : Option Progress) (x : Item) → AsksFor (input_of s) ticket run x → answer_of s.header (reads_or_none run) (call_of s.calls ticket.number) ≡ Some (Err x)
+asked s ticket run x asks =
+    ap (answer_of s.header (reads_or_none run)) asks.call
+    ∙ (λ i. Some (answer_from (value_in (reads_or_none (asks.goes_on i))) (call_result asks.progress.call (sym asks.header i))))
+    ∙ ap Some asks.definition
+
+ok_is : {a b : CallResult} → ◌≡◌ {A = Answer CallResult} (Ok a) (Ok b) → a ≡ b
+ok_is e = cc
+
+-- a call that has ended gives its outcome, and writes of which its own change something
+pub record GivesResult (s : Store) (ticket : Ticket) (f : CallRecord) : Type 0 where
+  result : CallResult
+  answer : answer_of s.header f.reads (call_of s.calls ticket.number) ≡ Some (Ok result)
+  outcome : result.0 ≡ f.outcome
+  writes : pruned (value_before (value_in f.reads)) result.1 ≡ f.writes
+
+ended : (s : Store) (ticket : Ticket) (f : CallRecord) → HasEnded (input_of s) ticket f → GivesResult s ticket f
+ended s ticket f has = by (answer_from (value_in f.reads) (call_result f.call f.header)) refl has.finished.result
+  where
+    by : (a : Answer CallResult) → answer_from (value_in f.reads) (call_result f.call f.header) ≡ a → (then) (λ r. Ok (with_changes f.reads r)) a ≡ Ok (f.outcome, f.writes) → GivesResult s ticket f
+    by (Ok result) is gives = record {
+      result = result;
+      answer = ap (answer_of s.header f.reads) has.call ∙ ap (λ h. Some (answer_from (value_in f.reads) (call_result f.call h))) (sym has.header) ∙ ap Some is;
+      outcome = ap (λ (r : CallResult). r.0) (ok_is gives);
+      writes = ap (λ (r : CallResult). r.1) (ok_is gives);
+    }
+    by (Err x) is gives = absurd cc
 
 -- ---- a worker's event
 
@@ -196,7 +227,7 @@ module _ (old new : Store) (ws : List Worker) (i : ℕ) (w after : Worker) (insi
   stays : (e : Event) → running_after (input_of old) r e ≡ r → new ≡ old → attempt_of after ≡ attempt_of w → IsSameRunning (input_of old) (running_after (input_of old) r e) (running_of new new_ws)
   stays e still same own = subst (λ (s : Running). IsSameRunning (input_of old) s (running_of new new_ws)) (sym still) (record {
     world = subst (λ (s : Store). IsSameWorld same_item (at old.base) old.world s.world) (sym same) (same_world-itself same_item (at old.base) old.world);
-    workers = sym (new_workers ∙ ap (set (map attempt_of ws) i) own ∙ set_here (map attempt_of ws) i (attempt_of w) here (subst (λ n. i < n) (sym (length-map attempt_of ws)) inside));
+    workers = sym (new_workers ∙ ap (set (map attempt_of ws) i) own ∙ set_here (map attempt_of ws) i (attempt_of w) here (subst (λ n. i < n) (sym (length-map ws attempt_of)) inside));
   })
 
   moves : (e : Event) (v : CallWorld) (o : Option CallAttempt) → running_after (input_of old) r e ≡ with_worker r v i o → IsSameWorld same_item (at old.base) v new.world → attempt_of after ≡ o
@@ -216,10 +247,16 @@ module _ (old new : Store) (ws : List Worker) (i : ℕ) (w after : Worker) (insi
   -- ---- begin
 
   there_is : nat_lt i (length (map attempt_of ws)) ≡ true
-  there_is = let many : length (map attempt_of ws) ≡ length ws = length-map attempt_of ws in grind (arith, many, inside)
+  there_is = let many : length (map attempt_of ws) ≡ length ws = length-map ws attempt_of in grind (arith, many, inside)
 
   may_is : (n : ℕ) → may_begin (input_of old) r i n ≡ (is_none (attempt_of w) && may_begin_call old n)
-  may_is n = (λ j. there_is j && is_none (here j) && may_begin_call old n)
+  may_is n =
+      (λ j. there_is j && is_none (here j) && is_some (call_of old.calls n) && (commit_count n old.world.entries == 0) && (live_count n old.world.live == 0) && nat_lt old.world.clock (2 ^ 64 - 1))
+      ∙ by (is_none (attempt_of w))
+    where
+      by : (b : Bool) → (true && b && is_some (call_of old.calls n) && (commit_count n old.world.entries == 0) && (live_count n old.world.live == 0) && nat_lt old.world.clock (2 ^ 64 - 1)) ≡ (b && may_begin_call old n)
+      by true = refl
+      by false = refl
 
   begun : (n : ℕ) (o : Option CallAttempt) → attempt_of w ≡ o → (p : Option CallAttempt) → attempt_of after ≡ p → IsBegunBy old new n o p → Worked (event.Begin i n)
   begun n (Some a) own p result (same, again) =
@@ -250,3 +287,129 @@ module _ (old new : Store) (ws : List Worker) (i : ℕ) (w after : Worker) (insi
             (subst (λ (s : Store). IsSameWorld same_item (at old.base) (after_abandon old.world a.timestamp) s.world) (sym same) (same_world-itself same_item (at old.base) (after_abandon old.world a.timestamp)))
             none;
       }
+
+  -- ---- read
+
+  idle_reads : attempt_of w ≡ None → running_after (input_of old) r (event.Read i) ≡ r
+  idle_reads own = ap (by_worker r (λ a. read_by (input_of old) r i a (answer_of old.header a.reads (call_of old.calls a.number)))) (here ∙ own)
+
+  -- what a worker's call answers over what it has read
+  answers : (a : CallAttempt) (c : Option (Answer CallResult)) → attempt_of w ≡ Some a → answer_of old.header a.reads (call_of old.calls a.number) ≡ c
+      → (running_after (input_of old) r (event.Read i) ≡ read_by (input_of old) r i a c) × (running_after (input_of old) r (event.Commit i) ≡ commit_by (input_of old) r i a c)
+  answers a c own is = (
+    ap (by_worker r (λ b. read_by (input_of old) r i b (answer_of old.header b.reads (call_of old.calls b.number)))) (here ∙ own) ∙ ap (read_by (input_of old) r i a) is,
+    ap (by_worker r (λ b. commit_by (input_of old) r i b (answer_of old.header b.reads (call_of old.calls b.number)))) (here ∙ own) ∙ ap (commit_by (input_of old) r i a) is,
+  )
+
+  read_moves : (ticket : Ticket) (run : Option Progress) (x : Item) → attempt_of w ≡ Some (attempt_by ticket (reads_or_none run)) → AsksFor (input_of old) ticket run x → IsRead old new (attempt_by ticket (reads_or_none run)) x (attempt_of after)
+      → Worked (event.Read i)
+  read_moves ticket run x own asks read = record {
+    input = read.input;
+    running = moves (event.Read i) (after_read same_item (at old.base) old.world ticket.timestamp (place_of (reads_or_none run) x) x)
+        (Some (record (attempt_by ticket (reads_or_none run)) { reads = with_item (reads_or_none run) x (version_below same_item (at old.base) old.world.entries (suc ticket.timestamp) x).1 }))
+        (answers (attempt_by ticket (reads_or_none run)) (Some (Err x)) own (asked old ticket run x asks)).0 (same_world-sym same_item (at old.base) new.world (after_read same_item (at old.base) old.world ticket.timestamp (place_of (reads_or_none run) x) x) read.event) read.joins;
+  }
+
+  read_by_worker : (v : Worker) → w ≡ v → IsSound (input_of old) v → IsReadBy old new v (attempt_of after) → Worked (event.Read i)
+  read_by_worker worker.Idle own sound (same, none) = record { input = ap input_of same; running = stays (event.Read i) (idle_reads (ap attempt_of own)) same (none ∙ sym (ap attempt_of own)) }
+  read_by_worker (worker.Running ticket run x) own asks read = read_moves ticket run x (ap attempt_of own) asks read
+  read_by_worker (worker.Finished ticket f) own has (same, again) =
+      let g = ended old ticket f has in
+      record { input = ap input_of same; running = stays (event.Read i) (answers (attempt_by ticket f.reads) (Some (Ok g.result)) (ap attempt_of own) g.answer).0 same (again ∙ sym (ap attempt_of own)) }
+
+  -- ---- commit
+
+  idle_commits : attempt_of w ≡ None → running_after (input_of old) r (event.Commit i) ≡ r
+  idle_commits own = ap (by_worker r (λ a. commit_by (input_of old) r i a (answer_of old.header a.reads (call_of old.calls a.number)))) (here ∙ own)
+
+  commits : (ticket : Ticket) (f : CallRecord) → w ≡ worker.Finished ticket f → HasEnded (input_of old) ticket f → (o : Option CommitFault) → late_write old ticket.timestamp f.writes ≡ o
+      → running_after (input_of old) r (event.Commit i) ≡ (if not (is_some o) then with_worker r (after_commit old.world (entry_of ticket.timestamp ticket.number f)) i None else r)
+  commits ticket f own has o late =
+      let g = ended old ticket f has in
+      let entry : entry_by (attempt_by ticket f.reads) g.result ≡ entry_of ticket.timestamp ticket.number f = λ j. record { timestamp = ticket.timestamp; number = ticket.number; outcome = g.outcome j; reads = f.reads; writes = g.writes j } in
+      (answers (attempt_by ticket f.reads) (Some (Ok g.result)) (ap attempt_of own) g.answer).1
+      ∙ ap (λ (e : CallEntry). if writes_in_time (input_of old) r ticket.timestamp e.writes then with_worker r (after_commit old.world e) i None else r) entry
+      ∙ ap (λ b. if b then with_worker r (after_commit old.world (entry_of ticket.timestamp ticket.number f)) i None else r) (in_time_same old ws ticket.timestamp f.writes ∙ ap (λ p. not (is_some p)) late)
+
+  commit_by_worker : (v : Worker) → w ≡ v → IsSound (input_of old) v → (o : Option CallAttempt) → attempt_of after ≡ o → IsCommitBy old new v o → Worked (event.Commit i)
+  commit_by_worker worker.Idle own sound o result (same, none) = record { input = ap input_of same; running = stays (event.Commit i) (idle_commits (ap attempt_of own)) same (result ∙ none ∙ sym (ap attempt_of own)) }
+  commit_by_worker (worker.Running ticket run x) own asks o result (same, again) =
+      record {
+        input = ap input_of same;
+        running = stays (event.Commit i) (answers (attempt_by ticket (reads_or_none run)) (Some (Err x)) (ap attempt_of own) (asked old ticket run x asks)).1 same (result ∙ again ∙ sym (ap attempt_of own));
+      }
+  commit_by_worker (worker.Finished ticket f) own has None result done =
+      record {
+        input = done.input;
+        running = moves (event.Commit i) (after_commit old.world (entry_of ticket.timestamp ticket.number f)) None (commits ticket f own has None done.in_time)
+            (same_world-sym same_item (at old.base) new.world (after_commit old.world (entry_of ticket.timestamp ticket.number f)) done.event) result;
+      }
+  commit_by_worker (worker.Finished ticket f) own has (Some a) result (late, same, again) =
+      record {
+        input = ap input_of same;
+        running = stays (event.Commit i)
+            (commits ticket f own has (late_write old ticket.timestamp f.writes) refl
+            ∙ ap (λ b. if not b then with_worker r (after_commit old.world (entry_of ticket.timestamp ticket.number f)) i None else r) late)
+            same (result ∙ ap Some again ∙ sym (ap attempt_of own));
+      }
+
+  -- ---- any event of the worker
+
+  worked : (e : Event) → worker_in e ≡ Some i → IsSound (input_of old) w → IsWork e old new w (attempt_of after) → Worked e
+  worked (event.Begin k n) own sound h = subst (λ j. Worked (event.Begin j n)) (sym (some_is own)) (begun n (attempt_of w) refl (attempt_of after) refl h)
+  worked (event.Read k) own sound h = subst (λ j. Worked (event.Read j)) (sym (some_is own)) (read_by_worker w refl sound h)
+  worked (event.Commit k) own sound h = subst (λ j. Worked (event.Commit j)) (sym (some_is own)) (commit_by_worker w refl sound (attempt_of after) refl h)
+  worked (event.Abandon k) own sound h = subst (λ j. Worked (event.Abandon j)) (sym (some_is own)) (abandoned (attempt_of w) refl h)
+  worked (event.Prune t) own sound h = absurd h
+
+-- what was at its place comes back changed
+pub stepped : (e : Event) (old new : Store) (ws : List Worker) (i : ℕ) (w d x after : Worker) → worker_in e ≡ Some i → i < length ws → w ≡ d → d ≡ get_or ws i d → AreSound (input_of old) ws → IsSound (input_of old) after
+    → IsWork e old new w (attempt_of after) → IsStep e old new ws (slice_set (slice_set ws i x) i after)
+stepped e old new ws i w d x after own inside taken there sound sound_after h =
+    subst (IsStep e old new ws) (sym (set_twice ws i x after))
+    (record { input = done.input; running = done.running; sound = sound_set (input_of old) ws i after sound sound_after })
+  where
+    is : w ≡ get_or ws i w
+    is = subst (λ (v : Worker). v ≡ get_or ws i v) (sym taken) there
+
+    done : Worked old new ws i w after inside is e
+    done = worked old new ws i w after inside is e own (sound_at (input_of old) ws i w inside is sound) h
+
+-- ---- events of no worker
+
+none_beyond : (ws : List Worker) (i : ℕ) → length ws ≤ i → get_or (map attempt_of ws) i None ≡ None
+none_beyond [] i h = refl
+none_beyond (w ∷ ws) zero h = absurd (omega (arith, h))
+none_beyond (w ∷ ws) (suc i) h = none_beyond ws i (omega (arith, h))
+
+-- a worker beyond the last does nothing
+beyond_last : (s : Store) (ws : List Worker) (i : ℕ) (e : Event) → worker_in e ≡ Some i → length ws ≤ i → running_after (input_of s) (running_of s ws) e ≡ running_of s ws
+beyond_last s ws i (event.Begin k n) own past =
+    let few : length (map attempt_of ws) ≡ length ws = length-map ws attempt_of in
+    let k_is : k ≡ i = some_is own in
+    let never : nat_lt k (length (map attempt_of ws)) ≡ false = grind (arith, few, k_is, past) in
+    ap (λ b. if b && is_none (worker_at (running_of s ws) k) && is_some (call_of s.calls n) && (commit_count n s.world.entries == 0) && (live_count n s.world.live == 0) && nat_lt s.world.clock (2 ^ 64 - 1) then with_worker (running_of s ws) (after_begin s.world n) k (Some (fresh_attempt n (s.world.clock + 1))) else running_of s ws) never
+beyond_last s ws i (event.Read k) own past = ap (by_worker (running_of s ws) (λ a. read_by (input_of s) (running_of s ws) k a (answer_of s.header a.reads (call_of s.calls a.number)))) (ap (λ j. get_or (map attempt_of ws) j None) (some_is own) ∙ none_beyond ws i past)
+beyond_last s ws i (event.Commit k) own past = ap (by_worker (running_of s ws) (λ a. commit_by (input_of s) (running_of s ws) k a (answer_of s.header a.reads (call_of s.calls a.number)))) (ap (λ j. get_or (map attempt_of ws) j None) (some_is own) ∙ none_beyond ws i past)
+beyond_last s ws i (event.Abandon k) own past = ap (by_worker (running_of s ws) (λ a. with_worker (running_of s ws) (after_abandon s.world a.timestamp) k None)) (ap (λ j. get_or (map attempt_of ws) j None) (some_is own) ∙ none_beyond ws i past)
+beyond_last s ws i (event.Prune t) own past = absurd cc
+
+pub nothing_done : (s : Store) (ws : List Worker) (i : ℕ) (e : Event) → worker_in e ≡ Some i → length ws ≤ i → AreSound (input_of s) ws → IsStep e s s ws ws
+nothing_done s ws i e own past sound = record {
+  input = refl;
+  running = subst (λ (q : Running). IsSameRunning (input_of s) q (running_of s ws)) (sym (beyond_last s ws i e own past)) (record { world = same_world-itself same_item (at s.base) s.world; workers = refl });
+  sound = sound;
+}
+
+-- ---- a prune
+
+pub pruned_step : (old new : Store) (ws : List Worker) (t : ℕ) → IsPrune old new t → AreSound (input_of old) ws → IsStep (event.Prune t) old new ws ws
+pruned_step old new ws t h sound = record {
+  input = ap input_of h.others;
+  running = record {
+    world = subst (λ (v : CallWorld). IsSameWorld same_item (at old.base) (after_prune old.world t old.world.marks) v) (sym h.event)
+        (record { clock = refl; low = refl; entries = refl; live = refl; marks = subst (λ l. HaveSameMarks same_item (at old.base) l old.world.entries old.world.marks new.world.marks) (ap (λ (v : CallWorld). v.low) h.event) h.same });
+    workers = refl;
+  };
+  sound = sound;
+}

@@ -1,5 +1,5 @@
 -- Eight workers over a store, against what their steps mean.
-use Rattle.std.specs.Prelude.{◌≡◌, ℕ, suc, ◌+◌, ◌^◌, ◌-◌, ◌==◌, ◌&&◌, Bool, true, false, nat_lt, is_some, List, [], ◌∷◌, length, get_or, map, replicate, Option, IsSome, None, Some, Err}
+use Rattle.std.specs.Prelude.{◌≡◌, ℕ, suc, ◌+◌, ◌^◌, ◌-◌, ◌==◌, ◌&&◌, Bool, true, false, nat_lt, is_some, List, [], ◌∷◌, length, get_or, map, Option, IsSome, None, Some, Err}
 use Rattle.std.specs.List.{AllByRecursion}
 use Rattle.avm_ledger.specs.declared.header.Header.{Header}
 use Rattle.avm_ledger.specs.Ledgers.{Ledger}
@@ -102,12 +102,6 @@ abbrev pub IsRun : RunInput → List Event → World → Type 0
 IsRun input events w = IsRunTo input events w.store w.workers.items
 
 -- ---- by parts
-
--- so many workers, each idle
-pub record AreIdle (count : ℕ) (workers : List Worker) : Type 0 where
-  pub are : length workers ≡ count
-  pub idle : map attempt_of workers ≡ replicate count None
-  pub sound : (input : RunInput) → AreSound input workers
 
 -- a run that is not spent
 abbrev pub IsGoing : Option Progress → Type 0

@@ -1,11 +1,12 @@
 //! A list of events over a store, step by step.
 
-ghost use Rattle.std.specs.Prelude.{◌≡◌, [], None, Some, IfOk, OnOk};
+ghost use Rattle.std.specs.Prelude.{◌≡◌, [], None, Some, IfOk, OnOk, replicate};
 ghost use Rattle.std.specs.Arc.{arc_value};
 ghost use Rattle.avm_laws.specs.Orderly.{IsOrderly};
 ghost use Rattle.avm_ops.specs.Objects.{IsFull};
 ghost use Rattle.mv_parts.specs.Opening.{open_fault};
-ghost use Rattle.mv_core.specs.Worlds.{AreIdle, AreLiveIn, AreSound, IsRun, IsRunTo, IsStep, input_of, worker_in};
+ghost use Rattle.mv_core.specs.declared.world.Worker.TheVariants.{Idle};
+ghost use Rattle.mv_core.specs.Worlds.{AreLiveIn, AreSound, IsRun, IsRunTo, IsStep, input_of, worker_in};
 
 use crate::steps::work;
 use crate::store::Store;
@@ -69,7 +70,7 @@ fn run_on(
 
 /// Workers without an attempt.
 fn idle_workers(alloc: Global) -> Result<Vec<Worker>, AllocError>
-    ensures { IfOk result (λ workers. AreIdle WORKER_COUNT workers.items) }
+    ensures { IfOk result (λ workers. workers.items ≡ replicate WORKER_COUNT Idle) }
 {
     let mut workers = Vec::with_capacity(alloc, WORKER_COUNT)?;
     for _number in 0..WORKER_COUNT {
