@@ -23,7 +23,9 @@ pub const HEADER: Header = Header {
 
 /// Accounts.
 pub const X: Address = Address([1; 32]);
+
 pub const Y: Address = Address([2; 32]);
+
 pub const Z: Address = Address([3; 32]);
 
 /// A call: who makes it, on which application, with how many empty arguments, with which further account and which

@@ -10,6 +10,7 @@ use avm_ledger::Ledger;
 use avm_ops::{BoxedOp, Op, OpSet};
 use avm_replay::{Verdict, replay, state_at};
 use mv_core::{Event, Store, World, run_events};
+use mv_parts::Sealed;
 use std::alloc::Global;
 use std::sync::Arc;
 use std::test::Fail;
@@ -37,14 +38,6 @@ pub fn world_after(
         )?),
         Err(_) => Err("these calls make a store".into()),
     }
-}
-
-/// Reads of a worker, so many.
-pub fn push_reads(events: &mut Vec<Event>, worker: u8, count: u64) -> Result<(), Fail> {
-    for _time in 0..count {
-        events.push(Event::Read(worker))?;
-    }
-    Ok(())
 }
 
 /// The digest of the ledger of a timestamp, by a store.
@@ -107,6 +100,58 @@ fn leads_to(
     }
 }
 
+/// What a store in which nothing is live says of its past.
+#[derive(Clone, Copy, Debug)]
+struct Past {
+    low: u64,
+    clock: u64,
+    timestamp: u64,
+    /// The digests of the ledgers of the timestamp and of the clock.
+    then: [u8; 32],
+    now: [u8; 32],
+}
+
+/// The past of a store, for a timestamp that is so far behind its low mark. Where nothing is live, a prune raises the low
+/// mark to the clock.
+fn past_of(alloc: Global, store: &mut Store, behind: u64) -> Result<Past, Fail> {
+    let low = store.low();
+    let timestamp = low.saturating_add(behind);
+    let then = digest_at(alloc, store, timestamp)?;
+    store.prune(u64::MAX);
+    let clock = store.low();
+    let now = digest_at(alloc, store, clock)?;
+    Ok(Past {
+        low,
+        clock,
+        timestamp,
+        then,
+        now,
+    })
+}
+
+/// Where a sealed block and what its store said differ from the replay, if they do.
+fn difference(
+    alloc: Global,
+    ops: &OpSet,
+    base: &Ledger,
+    sealed: &Sealed,
+    past: &Past,
+    calls: usize,
+) -> Result<Option<&'static str>, Fail>
+    requires full { IsFull ⟦<BoxedOp as Op>⟧.opcode ops.now }
+{
+    if !stand_once(alloc, sealed.numbers.as_slice(), calls)? {
+        return Ok(Some("a call is committed twice"));
+    }
+    if !leads_to(alloc, ops, base, &sealed.block, &past.now)? {
+        return Ok(Some("the block doesn't replay"));
+    }
+    if replayed_at(alloc, ops, base, &sealed.block, past.timestamp)? != past.then {
+        return Ok(Some("the ledgers of a timestamp differ"));
+    }
+    Ok(None)
+}
+
 /// A block that was replayed, with the low mark and the clock of its store.
 #[derive(Drop)]
 pub struct Replayed {
@@ -129,29 +174,16 @@ pub fn replay_store(
     requires full { IsFull ⟦<BoxedOp as Op>⟧.opcode ops.now }
 {
     let mut store = store;
-    let low = store.low();
-    let timestamp = low.saturating_add(behind);
-    let then = digest_at(alloc, &store, timestamp)?;
-    // Where nothing is live, the low mark rises to the clock.
-    store.prune(u64::MAX);
-    let clock = store.low();
-    let now = digest_at(alloc, &store, clock)?;
-    let sealed = match store.seal(alloc) {
-        Ok(sealed) => sealed,
-        Err(_) => return Err("no attempt is live".into()),
-    };
-    if !stand_once(alloc, sealed.numbers.as_slice(), calls)? {
-        return Err("a call is committed twice".into());
+    let past = past_of(alloc, &mut store, behind)?;
+    match store.seal(alloc) {
+        Ok(sealed) => match difference(alloc, ops, base, &sealed, &past, calls)? {
+            None => Ok(Replayed {
+                block: sealed.block,
+                low: past.low,
+                clock: past.clock,
+            }),
+            Some(difference) => Err(difference.into()),
+        },
+        Err(_) => Err("an attempt is live".into()),
     }
-    if !leads_to(alloc, ops, base, &sealed.block, &now)? {
-        return Err("the block doesn't replay".into());
-    }
-    if replayed_at(alloc, ops, base, &sealed.block, timestamp)? != then {
-        return Err("the ledgers of a timestamp differ".into());
-    }
-    Ok(Replayed {
-        block: sealed.block,
-        low,
-        clock,
-    })
 }

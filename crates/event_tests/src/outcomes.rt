@@ -70,15 +70,41 @@ fn place<'a>(tally: &'a mut Tally, entry: &Entry) -> &'a mut u64 {
     }
 }
 
-/// Adds a list, of so many calls.
-pub fn count(tally: &mut Tally, list: &Replayed, calls: u64) {
+/// Adds a list, of so many calls, in which so many were late at the end.
+pub fn count(tally: &mut Tally, list: &Replayed, calls: u64, late: u64) {
+    tally.late = tally.late.saturating_add(late);
     tally.lists = tally.lists.saturating_add(1);
     for entry in list.block.entries() {
         let place = place(tally, entry);
         *place = place.saturating_add(1);
     }
-    tally.restarts = tally.restarts.saturating_add(list.clock.saturating_sub(calls));
+    tally.restarts = tally
+        .restarts
+        .saturating_add(list.clock.saturating_sub(calls));
     if list.low > 0 {
         tally.prunes = tally.prunes.saturating_add(1);
     }
+}
+
+/// Whether each kind of call and outcome has come so often at least, with so many late calls, restarts and prunes.
+pub fn is_ample(tally: &Tally, each: u64, late: u64, restarts: u64, prunes: u64) -> bool {
+    let kinds = [
+        tally.creations,
+        tally.opt_ins,
+        tally.close_outs,
+        tally.clearings,
+        tally.updates,
+        tally.deletions,
+        tally.plain,
+        tally.rejected,
+        tally.faulted,
+        tally.refused,
+        tally.cleared_anyway,
+    ];
+    for count in kinds {
+        if count < each {
+            return false;
+        }
+    }
+    tally.late >= late && tally.restarts >= restarts && tally.prunes >= prunes
 }

@@ -1,19 +1,18 @@
 //! Random lists of events over a store, each of whose blocks is replayed.
 
-ghost use Rattle.std.specs.Prelude.{◌≤◌};
 ghost use Rattle.avm_laws.specs.Orderly.{IsOrderly};
 ghost use Rattle.avm_ops.specs.Objects.{IsFull};
 
 use crate::calls::{Row, X, Y, Z, calls_of, ledger_of};
-use crate::lists::{push_reads, replay_store, world_after};
+use crate::lists::{Replayed, replay_store, world_after};
 use crate::outcomes::{Tally, count};
 use crate::random::Random;
 use avm_call::Call;
 use avm_items::Completion;
 use avm_ledger::Ledger;
 use avm_ops::{BoxedOp, Op, OpSet};
-use mv_core::{Event, Worker, World};
-use std::alloc::Global;
+use mv_core::{Event, Worker};
+use std::alloc::{AllocError, Global};
 use std::sync::Arc;
 use std::test::Fail;
 
@@ -50,14 +49,8 @@ const PLAIN: Row = Row {
 /// What the calls of a list are drawn from: calls that count, that write what they read of one another's states, that
 /// reject or err, creations with and without room for what they put, and calls of each other completion.
 const ROWS: [Row; 20] = [
-    Row {
-        sender: X,
-        ..PLAIN
-    },
-    Row {
-        sender: Y,
-        ..PLAIN
-    },
+    Row { sender: X, ..PLAIN },
+    Row { sender: Y, ..PLAIN },
     Row {
         sender: X,
         arguments: 1,
@@ -163,18 +156,14 @@ const ROWS: [Row; 20] = [
 /// So many calls has each list,
 const CALLS: u64 = 8;
 
-/// and so many actions.
-const ACTIONS: u64 = 160;
+/// and so many rounds of reads and another event.
+const ROUNDS: u64 = 128;
 
 /// More reads than a call asks for.
 const ALL_READS: u64 = 16;
 
 /// Drawn calls.
-fn some_calls(
-    alloc: Global,
-    random: &mut Random,
-    all: &[Call],
-) -> Result<Arc<Vec<Call>>, Fail> {
+fn some_calls(alloc: Global, random: &mut Random, all: &[Call]) -> Result<Arc<Vec<Call>>, Fail> {
     let mut calls = Vec::new(alloc);
     for _number in 0..CALLS {
         match all.get(random.below(ROWS.len() as u64) as usize) {
@@ -185,28 +174,38 @@ fn some_calls(
     Ok(Arc::new(alloc, calls)?)
 }
 
-/// One action of a worker, or a prune. There are eight workers, and no call has the first or the last number.
-fn push_action(random: &mut Random, events: &mut Vec<Event>) -> Result<(), Fail> {
-    let worker = random.below(9) as u8;
-    match random.below(16) {
-        0..=3 => events.push(Event::Begin(worker, random.below(CALLS + 2) as u32))?,
-        4..=9 => push_reads(events, worker, 1 + random.below(4))?,
-        10..=11 => events.push(Event::Commit(worker))?,
-        12..=13 => {
-            events.push(Event::Commit(worker))?;
-            events.push(Event::Abandon(worker))?;
-        }
-        14 => events.push(Event::Abandon(worker))?,
-        _ => events.push(Event::Prune(random.below(24)))?,
+/// Pushes these reads of a worker.
+fn push_reads(events: &mut Vec<Event>, worker: u8, count: u64) -> Result<(), AllocError> {
+    for _time in 0..count {
+        events.push(Event::Read(worker))?;
     }
     Ok(())
 }
 
-/// Random actions, behind which each worker reads all and tries to commit.
-fn random_events(alloc: Global, random: &mut Random) -> Result<Vec<Event>, Fail> {
+/// One event of a worker, or a prune. There are eight workers, and no call has the first or the last number.
+fn some_event(random: &mut Random) -> Event {
+    let worker = random.below(9) as u8;
+    match random.below(16) {
+        0..=5 => Event::Begin(worker, random.below(CALLS + 2) as u32),
+        6..=11 => Event::Commit(worker),
+        12..=14 => Event::Abandon(worker),
+        _ => Event::Prune(random.below(24)),
+    }
+}
+
+/// Reads of a worker and another event.
+fn push_some(events: &mut Vec<Event>, random: &mut Random) -> Result<(), AllocError> {
+    let worker = random.below(8) as u8;
+    push_reads(events, worker, random.below(6))?;
+    events.push(some_event(random))?;
+    Ok(())
+}
+
+/// Random events, behind which each worker reads all and tries to commit.
+fn some_events(alloc: Global, random: &mut Random) -> Result<Vec<Event>, AllocError> {
     let mut events = Vec::new(alloc);
-    for _action in 0..ACTIONS {
-        push_action(random, &mut events)?;
+    for _round in 0..ROUNDS {
+        push_some(&mut events, random)?;
     }
     for worker in 0..8u8 {
         push_reads(&mut events, worker, ALL_READS)?;
@@ -215,22 +214,56 @@ fn random_events(alloc: Global, random: &mut Random) -> Result<Vec<Event>, Fail>
     Ok(events)
 }
 
+/// Each worker abandons its attempt.
+fn push_abandons(events: &mut Vec<Event>) -> Result<(), AllocError> {
+    for worker in 0..8u8 {
+        events.push(Event::Abandon(worker))?;
+    }
+    Ok(())
+}
+
 /// How many workers have an attempt whose call has ended.
 fn ended(workers: &[Worker]) -> u64 {
     let mut count = 0u64;
     for worker in workers {
-        if let Worker::Finished {
-            ticket: _ticket,
-            finished: _finished,
-        } = worker
-        {
+        if matches!(worker, Worker::Finished { .. }) {
             count = count.saturating_add(1);
         }
     }
     count
 }
 
-/// One list: what came is added to the tally. At the end each worker abandons its attempt, so that the store is sealed.
+/// How many calls are late, where each worker has tried to commit behind these events.
+fn late_calls(
+    alloc: Global,
+    ops: &OpSet,
+    base: &Ledger,
+    calls: &Arc<Vec<Call>>,
+    events: &[Event],
+) -> Result<u64, Fail>
+    requires full { IsFull ⟦<BoxedOp as Op>⟧.opcode ops.now }
+    requires orderly { IsOrderly base.now }
+{
+    Ok(ended(&world_after(alloc, ops, base, calls, events)?.workers))
+}
+
+/// The replayed block of these events, behind which nothing is live.
+fn replayed_list(
+    alloc: Global,
+    ops: &OpSet,
+    base: &Ledger,
+    calls: &Arc<Vec<Call>>,
+    events: &[Event],
+    behind: u64,
+) -> Result<Replayed, Fail>
+    requires full { IsFull ⟦<BoxedOp as Op>⟧.opcode ops.now }
+    requires orderly { IsOrderly base.now }
+{
+    let store = world_after(alloc, ops, base, calls, events)?.store;
+    replay_store(alloc, ops, base, store, calls.len(), behind)
+}
+
+/// One list: what came is added to the tally.
 fn run_list(
     alloc: Global,
     ops: &OpSet,
@@ -244,19 +277,11 @@ fn run_list(
 {
     let mut random = Random::new(seed);
     let calls = some_calls(alloc, &mut random, all)?;
-    let mut events = random_events(alloc, &mut random)?;
-    // Who has ended now, has tried to commit, and was late.
-    let before = world_after(alloc, ops, base, &calls, &events)?;
-    tally.late = tally.late.saturating_add(ended(&before.workers));
-    for worker in 0..8u8 {
-        events.push(Event::Abandon(worker))?;
-    }
-    let World {
-        store,
-        workers: _workers,
-    } = world_after(alloc, ops, base, &calls, &events)?;
-    let sealed = replay_store(alloc, ops, base, store, calls.len(), random.below(24))?;
-    count(tally, &sealed, CALLS);
+    let mut events = some_events(alloc, &mut random)?;
+    let late = late_calls(alloc, ops, base, &calls, &events)?;
+    push_abandons(&mut events)?;
+    let list = replayed_list(alloc, ops, base, &calls, &events, random.below(24))?;
+    count(tally, &list, CALLS, late);
     Ok(())
 }
 

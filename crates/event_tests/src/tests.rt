@@ -1,13 +1,16 @@
 //! The tests, each through a set with an object of every opcode.
 
-use crate::outcomes::NOTHING;
+use crate::outcomes::{NOTHING, is_ample};
 use crate::random_lists::run_lists;
-use crate::worked::check_all;
+use crate::worked::first_wrong;
 use avm_arith::ArithOp;
 use avm_flow_ops::FlowOp;
 use avm_ops::{BoxedOp, Op, OpSet, Ops};
 use avm_state_ops::StateOp;
 use std::test::Fail;
+
+/// So many random lists.
+const LISTS: u64 = 2000;
 
 #[test]
 fn worked_lists(rt: HostRuntime) -> Result<(), Fail> {
@@ -27,7 +30,10 @@ fn worked_lists(rt: HostRuntime) -> Result<(), Fail> {
         assert!(rt; ops.push(BoxedOp { op }).is_ok());
     }
     assert!(rt; ops.missing().is_none());
-    check_all(alloc, &ops)
+    match first_wrong(alloc, &ops)? {
+        None => Ok(()),
+        Some(wrong) => Err(wrong.into()),
+    }
 }
 
 #[test]
@@ -49,8 +55,8 @@ fn random_lists(rt: HostRuntime) -> Result<(), Fail> {
     }
     assert!(rt; ops.missing().is_none());
     let mut tally = NOTHING;
-    let run = run_lists(alloc, &ops, 100, &mut tally);
+    let run = run_lists(alloc, &ops, LISTS, &mut tally);
     assert!(rt; run.is_ok(), "behind {} lists", tally.lists);
-    assert!(rt; tally.late == 0, "{tally:?}");
+    assert!(rt; is_ample(&tally, 100, 400, 2000, 1000), "{tally:?}");
     run
 }

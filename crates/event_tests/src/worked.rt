@@ -1,18 +1,15 @@
 //! Worked lists: a write skew, with and without prunes, a read of what is not there yet, and events that do not apply.
 //! What they lead to is worked out by hand from the rules of timestamp ordering and the AVM specification.
 
-ghost use Rattle.avm_laws.specs.Orderly.{IsOrderly};
 ghost use Rattle.avm_ops.specs.Objects.{IsFull};
 
 use crate::calls::{Row, X, Y, calls_of, ledger_of};
-use crate::lists::{push_reads, replay_store, world_after};
-use avm_call::{Call, Outcome};
+use crate::lists::{replay_store, world_after};
+use avm_call::Outcome;
 use avm_items::{Completion, Item};
-use avm_ledger::Ledger;
 use avm_ops::{BoxedOp, Op, OpSet};
-use mv_core::{CommitFault, Event, RefusedCommit, StateFault, Store, Ticket, Worker, World};
+use mv_core::{CommitFault, Event, RefusedCommit, StateFault, Store, Worker, World};
 use std::alloc::Global;
-use std::sync::Arc;
 use std::test::Fail;
 use teal_value::{Failure, Fault};
 
@@ -86,12 +83,75 @@ const EARLY_CALLS: [Row; 2] = [
 ];
 
 /// The committed calls of a write skew.
-const SKEW_ENTRIES: [(u64, u32, Outcome); 2] = [(2, 2, Outcome::Approved), (3, 1, Outcome::Approved)];
+const SKEW_ENTRIES: [(u64, u32, Outcome); 2] = [
+    (2, 2, Outcome::Approved),
+    (3, 1, Outcome::Approved),
+];
 
 /// The committed calls of an early read.
 const EARLY_ENTRIES: [(u64, u32, Outcome); 2] = [
     (2, 2, Outcome::Faulted(Fault::NoSuchApp, 10)),
     (3, 1, Outcome::Approved),
+];
+
+/// Both calls begin and read, and the first tries to commit, which is late; it is abandoned, the second commits, and the
+/// first begins again and commits. Each call reads the application and both local states.
+const SKEW_EVENTS: [Event; 17] = [
+    Event::Begin(0, 1),
+    Event::Read(0),
+    Event::Read(0),
+    Event::Read(0),
+    Event::Begin(1, 2),
+    Event::Read(1),
+    Event::Read(1),
+    Event::Read(1),
+    Event::Commit(0),
+    Event::Abandon(0),
+    Event::Commit(1),
+    Event::Begin(0, 1),
+    Event::Read(0),
+    Event::Read(0),
+    Event::Read(0),
+    Event::Commit(0),
+    // Nothing is asked for any more.
+    Event::Read(0),
+];
+
+/// The same, with a prune behind the abandoned attempt and one at the end.
+const PRUNED_EVENTS: [Event; 17] = [
+    Event::Begin(0, 1),
+    Event::Read(0),
+    Event::Read(0),
+    Event::Read(0),
+    Event::Begin(1, 2),
+    Event::Read(1),
+    Event::Read(1),
+    Event::Read(1),
+    Event::Abandon(0),
+    Event::Prune(9),
+    Event::Commit(1),
+    Event::Begin(0, 1),
+    Event::Read(0),
+    Event::Read(0),
+    Event::Read(0),
+    Event::Commit(0),
+    Event::Prune(3),
+];
+
+/// The creation begins; the call that asks for what it creates reads the application, and that there is no application 2,
+/// and commits; the creation reads the next id and is late, is abandoned, begins again, and commits.
+const EARLY_EVENTS: [Event; 11] = [
+    Event::Begin(0, 1),
+    Event::Begin(1, 2),
+    Event::Read(1),
+    Event::Read(1),
+    Event::Commit(1),
+    Event::Read(0),
+    Event::Commit(0),
+    Event::Abandon(0),
+    Event::Begin(0, 1),
+    Event::Read(0),
+    Event::Commit(0),
 ];
 
 /// Idle workers neither read nor commit; there is no call of number 9; a call that is live doesn't begin again, and a
@@ -105,42 +165,12 @@ const NOT_APPLYING: [Event; 6] = [
     Event::Begin(0, 2),
 ];
 
-/// More reads than these calls ask for.
-const ALL: u64 = 12;
-
-/// Both calls begin and read, and the first tries to commit.
-fn push_skew(events: &mut Vec<Event>) -> Result<(), Fail> {
-    events.push(Event::Begin(0, 1))?;
-    push_reads(events, 0, ALL)?;
-    events.push(Event::Begin(1, 2))?;
-    push_reads(events, 1, ALL)?;
-    Ok(events.push(Event::Commit(0))?)
-}
-
-/// Call 1 creates and call 2 asks for what it creates, and commits first.
-fn push_early(events: &mut Vec<Event>) -> Result<(), Fail> {
-    events.push(Event::Begin(0, 1))?;
-    events.push(Event::Begin(1, 2))?;
-    push_reads(events, 1, ALL)?;
-    events.push(Event::Commit(1))?;
-    push_reads(events, 0, ALL)?;
-    Ok(events.push(Event::Commit(0))?)
-}
-
-/// Worker 0 makes call 1 from its beginning to its commit.
-fn push_first(events: &mut Vec<Event>) -> Result<(), Fail> {
-    events.push(Event::Begin(0, 1))?;
-    push_reads(events, 0, ALL)?;
-    Ok(events.push(Event::Commit(0))?)
-}
-
 /// What makes the commit of worker 0's call late, if it has ended and is late: an item, its version, and its mark.
 fn late_of(world: World) -> Option<(Item, u64, u64)> {
     let World { store, workers } = world;
     let mut store = store;
     match workers.into_iter().next() {
-        Some(Worker::Finished { ticket, finished }) =>
-            late_answer(store.commit(&ticket, finished)),
+        Some(Worker::Finished { ticket, finished }) => late_answer(store.commit(&ticket, finished)),
         _ => None,
     }
 }
@@ -196,144 +226,166 @@ fn is_pruned(alloc: Global, store: &Store, timestamp: u64) -> bool {
     )
 }
 
-/// Two calls that each read what the other writes: the one at the lower timestamp is late, and begins again.
-fn write_skew(alloc: Global, ops: &OpSet) -> Result<(), Fail>
-    requires full { IsFull ⟦<BoxedOp as Op>⟧.opcode ops.now }
-{
-    let base = ledger_of(alloc, SKEW)?;
-    let calls = calls_of(alloc, &SKEW_CALLS)?;
-    let mut events = Vec::new(alloc);
-    push_skew(&mut events)?;
-    match late_of(world_after(alloc, ops, &base, &calls, &events)?) {
-        Some((Item::Local(who, 1), 0, 2)) if who == X => {}
-        _ => return Err("the first commit isn't late".into()),
-    }
-    events.push(Event::Abandon(0))?;
-    events.push(Event::Commit(1))?;
-    push_first(&mut events)?;
-    let World {
-        store,
-        workers: _workers,
-    } = world_after(alloc, ops, &base, &calls, &events)?;
-    if !has_entries(&store, &SKEW_ENTRIES) || store.versions(&Item::Local(X, 1)) != 2 {
-        return Err("the committed calls are others".into());
-    }
-    if !has_state(alloc, &store, 1, SKEW)? || !has_state(alloc, &store, 2, SKEW_AT_2)? {
-        return Err("the ledgers on the way are others".into());
-    }
-    if !has_state(alloc, &store, 3, SKEW_AT_3)? {
-        return Err("the ledger after is another".into());
-    }
-    let _replayed = replay_store(alloc, ops, &base, store, 2, 2)?;
-    Ok(())
-}
-
-/// The same, where the low mark rises to the live attempt behind the abandoned one, and at the end to the clock.
-fn pruned_skew(alloc: Global, ops: &OpSet) -> Result<(), Fail>
-    requires full { IsFull ⟦<BoxedOp as Op>⟧.opcode ops.now }
-{
-    let base = ledger_of(alloc, SKEW)?;
-    let calls = calls_of(alloc, &SKEW_CALLS)?;
-    let mut events = Vec::new(alloc);
-    push_skew(&mut events)?;
-    events.push(Event::Abandon(0))?;
-    events.push(Event::Prune(9))?;
-    let World {
-        store,
-        workers: _workers,
-    } = world_after(alloc, ops, &base, &calls, &events)?;
-    if store.low() != 2 || !is_pruned(alloc, &store, 1) || !has_state(alloc, &store, 2, SKEW)? {
-        return Err("the first prune goes elsewhere".into());
-    }
-    events.push(Event::Commit(1))?;
-    push_first(&mut events)?;
-    events.push(Event::Prune(3))?;
-    ends_pruned(alloc, ops, &base, &calls, &events)
-}
-
-fn ends_pruned(
+/// What a list makes of two calls over a ledger.
+fn world_of(
     alloc: Global,
     ops: &OpSet,
-    base: &Ledger,
-    calls: &Arc<Vec<Call>>,
+    base: &str,
+    rows: &[Row],
     events: &[Event],
-) -> Result<(), Fail>
+) -> Result<World, Fail>
     requires full { IsFull ⟦<BoxedOp as Op>⟧.opcode ops.now }
-    requires orderly { IsOrderly base.now }
 {
-    let World {
-        store,
-        workers: _workers,
-    } = world_after(alloc, ops, base, calls, events)?;
-    if !has_entries(&store, &SKEW_ENTRIES) || !has_state(alloc, &store, 3, SKEW_AT_3)? {
-        return Err("the committed calls are others".into());
-    }
-    if store.versions(&Item::Local(X, 1)) != 1 || store.versions(&Item::Local(Y, 1)) != 1 {
-        return Err("the last prune leaves other versions".into());
-    }
-    if store.low() != 3 || !is_pruned(alloc, &store, 2) {
-        return Err("the last prune goes elsewhere".into());
-    }
-    let _replayed = replay_store(alloc, ops, base, store, 2, 0)?;
-    Ok(())
+    let base = ledger_of(alloc, base)?;
+    let calls = calls_of(alloc, rows)?;
+    world_after(alloc, ops, &base, &calls, events)
 }
 
-/// A call asks for an application before the creation at a lower timestamp commits: the creation is late, and comes after.
-fn early_read(alloc: Global, ops: &OpSet) -> Result<(), Fail>
+/// Whether the block that a list makes of two calls over a ledger replays.
+fn replays(
+    alloc: Global,
+    ops: &OpSet,
+    base: &str,
+    rows: &[Row],
+    events: &[Event],
+) -> Result<bool, Fail>
     requires full { IsFull ⟦<BoxedOp as Op>⟧.opcode ops.now }
 {
-    let base = ledger_of(alloc, EARLY)?;
-    let calls = calls_of(alloc, &EARLY_CALLS)?;
-    let mut events = Vec::new(alloc);
-    push_early(&mut events)?;
-    match late_of(world_after(alloc, ops, &base, &calls, &events)?) {
-        Some((Item::App(2), 0, 2)) => {}
-        _ => return Err("the creation isn't late".into()),
-    }
-    events.push(Event::Abandon(0))?;
-    push_first(&mut events)?;
-    let World {
-        store,
-        workers: _workers,
-    } = world_after(alloc, ops, &base, &calls, &events)?;
-    if !has_entries(&store, &EARLY_ENTRIES) || !has_state(alloc, &store, 3, EARLY_AFTER)? {
-        return Err("the committed calls are others".into());
-    }
-    let _replayed = replay_store(alloc, ops, &base, store, 2, 2)?;
-    Ok(())
+    let store = world_of(alloc, ops, base, rows, events)?.store;
+    let base = ledger_of(alloc, base)?;
+    Ok(replay_store(alloc, ops, &base, store, rows.len(), 2)?.clock == 3)
 }
 
-fn events_that_do_not_apply(alloc: Global, ops: &OpSet) -> Result<(), Fail>
+/// Two calls that each read what the other writes: the one at the lower timestamp is late.
+fn skew_is_late(alloc: Global, ops: &OpSet) -> Result<bool, Fail>
     requires full { IsFull ⟦<BoxedOp as Op>⟧.opcode ops.now }
 {
-    let base = ledger_of(alloc, SKEW)?;
-    let calls = calls_of(alloc, &SKEW_CALLS)?;
-    let World { store, workers } = world_after(alloc, ops, &base, &calls, &NOT_APPLYING)?;
-    let first = Ticket {
-        number: 1,
-        timestamp: 1,
-    };
-    let second = Ticket {
-        number: 2,
-        timestamp: 2,
-    };
-    let mut busy = workers.iter().filter(|worker| worker.ticket().is_some());
-    if !busy.next().is_some_and(|worker| worker.ticket() == Some(first)) || busy.next().is_some() {
-        return Err("another worker is busy".into());
+    let world = world_of(alloc, ops, SKEW, &SKEW_CALLS, &SKEW_EVENTS[..9])?;
+    match late_of(world) {
+        Some((Item::Local(who, 1), 0, 2)) => Ok(who == X),
+        _ => Ok(false),
     }
+}
+
+/// It comes after the other.
+fn skew_ends(alloc: Global, ops: &OpSet) -> Result<bool, Fail>
+    requires full { IsFull ⟦<BoxedOp as Op>⟧.opcode ops.now }
+{
+    let store = world_of(alloc, ops, SKEW, &SKEW_CALLS, &SKEW_EVENTS)?.store;
+    Ok(
+        has_entries(&store, &SKEW_ENTRIES)
+            && store.versions(&Item::Local(X, 1)) == 2
+            && has_state(alloc, &store, 1, SKEW)?
+            && has_state(alloc, &store, 2, SKEW_AT_2)?
+            && has_state(alloc, &store, 3, SKEW_AT_3)?,
+    )
+}
+
+/// A prune rises to the live attempt at 2.
+fn prune_stops(alloc: Global, ops: &OpSet) -> Result<bool, Fail>
+    requires full { IsFull ⟦<BoxedOp as Op>⟧.opcode ops.now }
+{
+    let store = world_of(alloc, ops, SKEW, &SKEW_CALLS, &PRUNED_EVENTS[..10])?.store;
+    Ok(store.low() == 2 && is_pruned(alloc, &store, 1) && has_state(alloc, &store, 2, SKEW)?)
+}
+
+/// Where nothing is live, a prune rises to the clock, and one version of each item is left.
+fn prune_ends(alloc: Global, ops: &OpSet) -> Result<bool, Fail>
+    requires full { IsFull ⟦<BoxedOp as Op>⟧.opcode ops.now }
+{
+    let store = world_of(alloc, ops, SKEW, &SKEW_CALLS, &PRUNED_EVENTS)?.store;
+    Ok(
+        has_entries(&store, &SKEW_ENTRIES)
+            && store.low() == 3
+            && store.versions(&Item::Local(X, 1)) == 1
+            && store.versions(&Item::Local(Y, 1)) == 1
+            && is_pruned(alloc, &store, 2)
+            && has_state(alloc, &store, 3, SKEW_AT_3)?,
+    )
+}
+
+/// A call asks for an application before the creation at a lower timestamp commits, which is late.
+fn creation_is_late(alloc: Global, ops: &OpSet) -> Result<bool, Fail>
+    requires full { IsFull ⟦<BoxedOp as Op>⟧.opcode ops.now }
+{
+    let world = world_of(alloc, ops, EARLY, &EARLY_CALLS, &EARLY_EVENTS[..7])?;
+    Ok(matches!(late_of(world), Some((Item::App(2), 0, 2))))
+}
+
+/// The creation comes after, and the call's fault stays.
+fn creation_ends(alloc: Global, ops: &OpSet) -> Result<bool, Fail>
+    requires full { IsFull ⟦<BoxedOp as Op>⟧.opcode ops.now }
+{
+    let store = world_of(alloc, ops, EARLY, &EARLY_CALLS, &EARLY_EVENTS)?.store;
+    Ok(has_entries(&store, &EARLY_ENTRIES) && has_state(alloc, &store, 3, EARLY_AFTER)?)
+}
+
+/// Worker 0 has call 1 at timestamp 1, and no other an attempt; the clock is at 1.
+fn others_do_not_apply(alloc: Global, ops: &OpSet) -> Result<bool, Fail>
+    requires full { IsFull ⟦<BoxedOp as Op>⟧.opcode ops.now }
+{
+    let world = world_of(alloc, ops, SKEW, &SKEW_CALLS, &NOT_APPLYING)?;
+    let World { store, workers } = world;
     let mut store = store;
-    if store.entries().len() != 0 || store.begin(2).ok() != Some(second) {
-        return Err("the clock has gone on".into());
-    }
-    Ok(())
+    Ok(has_first_alone(&workers) && store.entries().len() == 0 && begins_at(&mut store, 2, 2))
 }
 
-/// All of them.
-pub fn check_all(alloc: Global, ops: &OpSet) -> Result<(), Fail>
+fn begins_at(store: &mut Store, number: u32, timestamp: u64) -> bool {
+    match store.begin(number) {
+        Ok(ticket) => ticket.number == number && ticket.timestamp == timestamp,
+        Err(_) => false,
+    }
+}
+
+/// Whether the first worker has call 1 at timestamp 1, and no other has an attempt.
+fn has_first_alone(workers: &[Worker]) -> bool {
+    let mut place = 0usize;
+    for worker in workers {
+        match worker.ticket() {
+            Some(ticket) => {
+                if place > 0 || ticket.number != 1 || ticket.timestamp != 1 {
+                    return false;
+                }
+            }
+            None => {
+                if place == 0 {
+                    return false;
+                }
+            }
+        }
+        place = 1;
+    }
+    place == 1
+}
+
+/// What is wrong first, if something is.
+pub fn first_wrong(alloc: Global, ops: &OpSet) -> Result<Option<&'static str>, Fail>
     requires full { IsFull ⟦<BoxedOp as Op>⟧.opcode ops.now }
 {
-    write_skew(alloc, ops)?;
-    pruned_skew(alloc, ops)?;
-    early_read(alloc, ops)?;
-    events_that_do_not_apply(alloc, ops)
+    if !skew_is_late(alloc, ops)? || !skew_ends(alloc, ops)? {
+        return Ok(Some("the write skew"));
+    }
+    if !prune_stops(alloc, ops)? || !prune_ends(alloc, ops)? {
+        return Ok(Some("the prunes"));
+    }
+    if !creation_is_late(alloc, ops)? || !creation_ends(alloc, ops)? {
+        return Ok(Some("the early read"));
+    }
+    if !others_do_not_apply(alloc, ops)? {
+        return Ok(Some("events that do not apply"));
+    }
+    if !blocks_replay(alloc, ops)? {
+        return Ok(Some("the blocks"));
+    }
+    Ok(None)
+}
+
+fn blocks_replay(alloc: Global, ops: &OpSet) -> Result<bool, Fail>
+    requires full { IsFull ⟦<BoxedOp as Op>⟧.opcode ops.now }
+{
+    Ok(
+        replays(alloc, ops, SKEW, &SKEW_CALLS, &SKEW_EVENTS)?
+            && replays(alloc, ops, SKEW, &SKEW_CALLS, &PRUNED_EVENTS)?
+            && replays(alloc, ops, EARLY, &EARLY_CALLS, &EARLY_EVENTS)?,
+    )
 }
