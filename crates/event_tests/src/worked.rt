@@ -178,7 +178,12 @@ fn late_of(world: World) -> Option<(Item, u64, u64)> {
 fn late_answer(answer: Result<u64, RefusedCommit>) -> Option<(Item, u64, u64)> {
     match answer {
         Ok(_timestamp) => None,
-        Err(refused) => match refused.error {
+        Err(
+            RefusedCommit {
+                error,
+                finished: _finished,
+            },
+        ) => match error {
             Failure::Fault(
                 CommitFault::Late {
                     item,
