@@ -1,0 +1,106 @@
+//! Calls and ledgers, by rows of data.
+
+ghost use Rattle.std.specs.Prelude.{IfOk};
+ghost use Rattle.avm_laws.specs.Orderly.{IsOrderly};
+
+use avm_call::Call;
+use avm_items::{Addresses, CallData, Completion};
+use avm_laws::rule_laws::every_call_keeps_order;
+use avm_ledger::{Header, Ledger, Profile, Schema};
+use std::alloc::Global;
+use std::sync::Arc;
+use std::test::Fail;
+use teal_value::{Address, ByteString, ByteStrings, Uints};
+
+pub const HEADER: Header = Header {
+    profile: Profile::Two,
+    round: 0,
+    latest_timestamp: 0,
+    min_fee: 0,
+    min_balance: 0,
+    max_life: 0,
+};
+
+/// Accounts.
+pub const X: Address = Address([1; 32]);
+
+pub const Y: Address = Address([2; 32]);
+
+pub const Z: Address = Address([3; 32]);
+
+/// A call: who makes it, on which application, with how many empty arguments, with which further account and which
+/// foreign application; where it creates or updates, both programs are this one, and a creation's schemas allow so many
+/// uints.
+#[derive(Clone, Copy)]
+pub struct Row {
+    pub sender: Address,
+    pub application: u64,
+    pub completion: Completion,
+    pub arguments: usize,
+    pub account: Address,
+    pub foreign: u64,
+    pub program: &'static str,
+    pub uints: u8,
+}
+
+fn arguments_of(alloc: Global, count: usize) -> Result<ByteStrings, Fail> {
+    let mut arguments = Vec::new(alloc);
+    for _index in 0..count {
+        arguments.push(ByteString::new(alloc))?;
+    }
+    Ok(ByteStrings::from_vec(arguments))
+}
+
+fn program_of(alloc: Global, row: &Row) -> Result<ByteString, Fail> {
+    Ok(ByteString::from_vec(hex::decode(alloc, row.program)?))
+}
+
+/// The call of a row.
+pub fn call_of(alloc: Global, row: &Row) -> Result<Call, Fail> {
+    let schema = Schema {
+        uints: row.uints,
+        bytes: 0,
+    };
+    let fields = CallData {
+        sender: row.sender,
+        fee: 0,
+        first_valid: 0,
+        last_valid: 0,
+        note: ByteString::new(alloc),
+        lease: [0; 32],
+        rekey_to: Address([0; 32]),
+        application: row.application,
+        completion: row.completion,
+        arguments: arguments_of(alloc, row.arguments)?,
+        accounts: Addresses::from_vec(vec![in alloc; row.account]?),
+        foreign_applications: Uints::from_vec(vec![in alloc; row.foreign]?),
+        approval: program_of(alloc, row)?,
+        clear: program_of(alloc, row)?,
+        global_schema: schema,
+        local_schema: schema,
+    };
+    match Call::check(alloc, fields) {
+        Ok(call) => Ok(call),
+        Err(_) => Err("these fields make a call".into()),
+    }
+}
+
+/// The calls of rows, in their order.
+pub fn calls_of(alloc: Global, rows: &[Row]) -> Result<Arc<Vec<Call>>, Fail> {
+    let mut calls = Vec::new(alloc);
+    for row in rows {
+        calls.push(call_of(alloc, row)?)?;
+    }
+    Ok(Arc::new(alloc, calls)?)
+}
+
+/// The ledger of these digits.
+pub fn ledger_of(alloc: Global, digits: &str) -> Result<Ledger, Fail>
+    ensures { IfOk result (λ ledger. IsOrderly ledger) }
+{
+    every_call_keeps_order();
+    match Ledger::read(alloc, hex::decode(alloc, digits)?.as_slice()) {
+        Ok(ledger) => Ok(ledger),
+        Err(_) => Err("these bytes are a ledger".into()),
+    }
+}

@@ -1,0 +1,18 @@
+//! Lists of events that eight workers make over a store: worked ones, and random ones, each of whose blocks is replayed by
+//! `avm_replay`, which shares no code with the store.
+#![tactic(auto)]
+
+#[cfg(test)]
+mod calls;
+#[cfg(test)]
+mod lists;
+#[cfg(test)]
+mod outcomes;
+#[cfg(test)]
+mod random;
+#[cfg(test)]
+mod random_lists;
+#[cfg(test)]
+mod tests;
+#[cfg(test)]
+mod worked;
