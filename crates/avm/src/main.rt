@@ -1,21 +1,28 @@
-//! The program `avm`: its words, standard input and standard output go to `avm_node`, which answers, with an object for
-//! each opcode.
+//! The program `avm`: its words, standard input and standard output go to `avm_node`, which runs the command, with sets of
+//! objects for the opcodes.
 #![tactic(auto)]
 
+ghost use Rattle.std.specs.Prelude.{IsTrue};
+ghost use Rattle.std.specs.List.{AllByRecursion};
+ghost use Rattle.avm_node.specs.WorkerSets.{AreSets};
 ghost use Rattle.avm_ops.specs.Objects.{IsFull};
 
 use avm_arith::ArithOp;
 use avm_flow_ops::FlowOp;
-use avm_node::answer;
+use avm_node::run;
 use avm_ops::{BoxedOp, Op, OpSet, Ops};
 use avm_state_ops::StateOp;
-use std::alloc::Global;
 use std::env;
 use std::io::{self, ErrorKind};
 use std::process::ExitCode;
+use std::sync::Wait;
+use std::thread::Threads;
 
 /// The exit status where memory was wanting before there was a command.
 const FAILED: u8 = 3;
+
+/// How many sets there are: one for each of 8 workers, and one for the program's own thread.
+const SETS: usize = 9;
 
 /// An object in a box, or the end of the program where memory is wanting.
 macro_rules! boxed {
@@ -29,34 +36,57 @@ macro_rules! boxed {
 
 fn main(rt: HostRuntime) -> ExitCode {
     let alloc = rt.alloc();
-    let mut ops: OpSet = match Ops::new(alloc) {
-        Ok(ops) => ops,
-        Err(_) => return ExitCode::from(FAILED),
-    };
-    for code in 0..256usize {
-        let code = code as u8;
-        let op: Box<dyn Op> = if let Some(op) = ArithOp::of(code) {
-            boxed!(alloc, op)
-        } else if let Some(op) = FlowOp::of(code) {
-            boxed!(alloc, op)
-        } else if let Some(op) = StateOp::of(code) {
-            boxed!(alloc, op)
-        } else {
-            continue;
+    let mut sets = Vec::new(alloc);
+    for _ in 0..SETS {
+        let mut ops: OpSet = match Ops::new(alloc) {
+            Ok(ops) => ops,
+            Err(_) => return ExitCode::from(FAILED),
         };
-        if ops.push(BoxedOp { op }).is_err() {
+        for code in 0..256usize {
+            let code = code as u8;
+            let op: Box<dyn Op> = if let Some(op) = ArithOp::of(code) {
+                boxed!(alloc, op)
+            } else if let Some(op) = FlowOp::of(code) {
+                boxed!(alloc, op)
+            } else if let Some(op) = StateOp::of(code) {
+                boxed!(alloc, op)
+            } else {
+                continue;
+            };
+            if ops.push(BoxedOp { op }).is_err() {
+                return ExitCode::from(FAILED);
+            }
+        }
+        if sets.push(ops).is_err() {
             return ExitCode::from(FAILED);
         }
     }
-    if ops.missing().is_some() {
+    if !are_sets(&sets) {
         return ExitCode::from(FAILED);
     }
-    ExitCode::from(status(&rt, &ops))
+    ExitCode::from(status(&rt, &rt, sets))
 }
 
-/// The exit status of the command that the program was called with.
-fn status(rt: &HostRuntime, ops: &OpSet) -> u8
-    requires full { IsFull ⟦<BoxedOp as Op>⟧.opcode ops.now }
+/// Whether there are as many sets as are wanted, each with an object of every opcode.
+fn are_sets(sets: &[OpSet]) -> bool
+    ensures { IsTrue result → AreSets ⟦<BoxedOp as Op>⟧.opcode sets.now }
+{
+    sets.len() == SETS && are_full(sets)
+}
+
+fn are_full(sets: &[OpSet]) -> bool
+    ensures { IsTrue result → AllByRecursion (IsFull ⟦<BoxedOp as Op>⟧.opcode) sets.now }
+{
+    match sets.split_first() {
+        None => true,
+        Some((set, sets)) => set.missing().is_none() && are_full(sets),
+    }
+}
+
+/// The exit status of the command that the program was called with. The runtime comes twice, since it is known to start
+/// threads in `main` alone.
+fn status<T: Threads + Wait + Sync>(rt: &HostRuntime, threads: &T, sets: Vec<OpSet>) -> u8
+    requires sets { AreSets ⟦<BoxedOp as Op>⟧.opcode sets.items }
 {
     let alloc = rt.alloc();
     let result = match env::args(rt) {
@@ -66,26 +96,32 @@ fn status(rt: &HostRuntime, ops: &OpSet) -> u8
         Err(_) => return FAILED,
     };
     match result {
-        Ok(words) => answer_to(rt, alloc, &words, ops),
+        Ok(words) => status_for(rt, threads, &words, sets),
         Err(_) => FAILED,
     }
 }
 
-fn answer_to(rt: &HostRuntime, alloc: Global, words: &Vec<String>, ops: &OpSet) -> u8
-    requires full { IsFull ⟦<BoxedOp as Op>⟧.opcode ops.now }
+fn status_for<T: Threads + Wait + Sync>(
+    rt: &HostRuntime,
+    threads: &T,
+    words: &Vec<String>,
+    sets: Vec<OpSet>,
+) -> u8
+    requires sets { AreSets ⟦<BoxedOp as Op>⟧.opcode sets.items }
 {
+    let alloc = rt.alloc();
     let mut texts = Vec::new(alloc);
     for word in words {
         if texts.push(word.as_str()).is_err() {
             return FAILED;
         }
     }
-    answer(
+    run(
+        threads,
         alloc,
         texts.as_slice(),
         &mut rt.stdin(),
         &mut rt.stdout(),
-        ops,
+        sets,
     )
-    .unwrap()
 }

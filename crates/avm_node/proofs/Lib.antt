@@ -2,3 +2,5 @@ pub mod CommandNames
 pub mod NumberTexts
 pub mod Replies
 pub mod DigitLines
+pub mod CallsReading
+pub mod PoolAnswers

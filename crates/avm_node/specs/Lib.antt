@@ -5,6 +5,11 @@ pub mod Lines
 pub mod Refusals
 pub mod Programs
 pub mod Outcomes
+pub mod CallLines
 pub mod BlockCommands
+pub mod ProposeInputs
+pub mod ProposeShown
+pub mod ProposeCommands
+pub mod WorkerSets
 pub mod Answers
 pub mod Shown

@@ -9,8 +9,10 @@ use Rattle.avm_ledger.specs.declared.ledger_fault.LedgerFault.TheVariants as led
 use Rattle.avm_block.specs.declared.block_fault.BlockFault.{BlockFault}
 use Rattle.avm_block.specs.declared.block_fault.BlockFault.TheVariants as block
 use Rattle.avm_replay.specs.declared.past.StateFault.TheVariants as state
+use Rattle.avm_node.specs.declared.call_line.CallLineFault.{CallLineFault}
 use Rattle.avm_node.specs.declared.refusal.Refusal.{Refusal}
 use Rattle.avm_node.specs.declared.refusal.Refusal.TheVariants as refusal
+use Rattle.avm_node.specs.CallLines.{call_line_name}
 use Rattle.avm_node.specs.Replies.{Reply, refused}
 
 abbrev pub code_name : CodeFault → List ℕ
@@ -68,12 +70,18 @@ block_name block.Digest = codes "Digest"
 abbrev pub block_text : BlockFault → List ℕ
 block_text fault = codes "refused block " ++ (block_name fault ++ codes "\n")
 
+-- the call of this number, counted from 1
+abbrev pub call_text : ℕ → CallLineFault → List ℕ
+call_text number fault = codes "refused call " ++ (decimal number ++ (codes " " ++ (call_line_name fault ++ codes "\n")))
+
 abbrev pub refusal_text : Refusal → List ℕ
 refusal_text (refusal.Hex line) = codes "refused hex " ++ (decimal line ++ codes "\n")
 refusal_text refusal.Lines = codes "refused lines\n"
 refusal_text (refusal.Check fault) = check_text fault
 refusal_text (refusal.Ledger fault) = ledger_text fault
 refusal_text (refusal.Block fault) = block_text fault
+refusal_text refusal.Header = codes "refused header\n"
+refusal_text (refusal.Call number fault) = call_text number fault
 refusal_text (refusal.State state.WrongBase) = codes "refused state WrongBase\n"
 
 abbrev pub refusal_reply : Refusal → Reply

@@ -3,6 +3,7 @@
 ghost use Rattle.std.specs.Prelude.{◌≡◌, IfOk, Ok};
 ghost use Rattle.teal_value.specs.Answer.{Gives};
 ghost use Rattle.avm_ops.specs.Objects.{IsFull};
+ghost use Rattle.avm_ledger.specs.LedgerRules.{KeepsRules};
 ghost use Rattle.avm_replay.specs.declared.verdict.Verdict.TheVariants as verdict;
 ghost use Rattle.avm_node.specs.BlockCommands.{IsReplayReply, IsVerdictReply, agrees_reply, first_block, first_ledger, ledger_and_block, ledger_reply, needed_bytes, past_ledger, state_reply, verdict_reply};
 ghost use Rattle.avm_node.specs.Replies.{refused};
@@ -139,8 +140,9 @@ fn ledger_and_block(alloc: Global, input: &[u8]) -> Result<(Ledger, Block), Fail
     Ok((ledger, block))
 }
 
-fn next_ledger(alloc: Global, lines: &mut DigitLines) -> Result<Ledger, Failure<Refusal>>
-    ensures { Gives (λ ledger. (ledger, lines.new)) result (first_ledger lines.old) }
+pub(crate) fn next_ledger(alloc: Global, lines: &mut DigitLines) -> Result<Ledger, Failure<Refusal>>
+    ensures exact { Gives (λ ledger. (ledger, lines.new)) result (first_ledger lines.old) }
+    ensures rules { IfOk result KeepsRules }
 {
     let bytes = needed_bytes(alloc, lines)?;
     match Ledger::read(alloc, bytes.as_slice()) {
@@ -162,7 +164,10 @@ fn next_block(alloc: Global, lines: &mut DigitLines) -> Result<Block, Failure<Re
 }
 
 /// The bytes of the next line, which there has to be.
-fn needed_bytes(alloc: Global, lines: &mut DigitLines) -> Result<Vec<u8>, Failure<Refusal>>
+pub(crate) fn needed_bytes(
+    alloc: Global,
+    lines: &mut DigitLines,
+) -> Result<Vec<u8>, Failure<Refusal>>
     ensures { Gives (λ bytes. (bytes.items, lines.new)) result (needed_bytes lines.old) }
 {
     match lines.next_bytes(alloc)? {

@@ -1,10 +1,10 @@
 //! The words of the command line.
 
 ghost use Rattle.std.specs.Prelude.{◌≡◌, ◌↔◌, ◌∷◌, [], Some, None, IfOk, IsTrue, codes, false, map, option_and_then};
-ghost use Rattle.clap.specs.Words.{app_of, found_of, kind_of, new_app, one_of, rows_of, rule_of, with_rule};
+ghost use Rattle.clap.specs.Words.{app_of, found_of, kind_of, new_app, rows_of, rule_of, with_rule};
 ghost use Rattle.clap.specs.declared.builder.command.Command.TheViews.{out-Command};
-ghost use Rattle.avm_node.specs.CommandLine.{at_rule, bare_line, command_in, command_line, command_named, u64_of};
-ghost use Rattle.avm_node.specs.declared.command_line.NodeCommand.TheVariants.{Asm, Check, Dis, Replay, State};
+ghost use Rattle.avm_node.specs.CommandLine.{AreOneToEight, bare_line, command_in, command_line, command_named, number_in, number_rule, worker_count, workers_of};
+ghost use Rattle.avm_node.specs.declared.command_line.NodeCommand.TheVariants.{Asm, Check, Dis, Propose, Replay, State};
 
 use clap::error::ErrorKind;
 use clap::{Arg, ArgAction, ArgMatches, Command, Error};
@@ -23,6 +23,8 @@ pub enum NodeCommand {
     Replay,
     /// Gives the ledger after the calls of a block with timestamps up to this one.
     State(u64),
+    /// Makes a block of calls, by this many workers.
+    Propose(u8),
 }
 
 /// The command that the words after the program's name are, or none where they are to be answered with the usage line.
@@ -30,7 +32,8 @@ pub fn command_in<'a>(
     alloc: Global,
     words: &'a [&'a str],
 ) -> Result<Option<NodeCommand>, AllocError>
-    ensures { IfOk result (λ command. command ≡ command_in (map (λ word. word.now) words.now)) }
+    ensures command { IfOk result (λ command. command ≡ command_in (map (λ word. word.now) words.now)) }
+    ensures workers { IfOk result (λ command. AreOneToEight (workers_of command)) }
 {
     match command_line(alloc)?.try_get_matches_from(words) {
         Ok(matches) => match matches.subcommand() {
@@ -50,23 +53,37 @@ fn is_out_of_memory(error: &Error) -> bool
 
 /// The command of a name, with its options, if there is one.
 fn command_named(name: &str, options: &ArgMatches<'_>) -> Option<NodeCommand>
-    ensures { result ≡ command_named name.now (rows_of (found_of options.now)) }
+    ensures command { result ≡ command_named name.now (rows_of (found_of options.now)) }
+    ensures workers { AreOneToEight (workers_of result) }
 {
     match name {
         "asm" => Some(NodeCommand::Asm),
         "dis" => Some(NodeCommand::Dis),
         "check" => Some(NodeCommand::Check),
         "replay" => Some(NodeCommand::Replay),
-        "state" => Some(NodeCommand::State(timestamp_in(options)?)),
+        "state" => Some(NodeCommand::State(number_in("at", options)?)),
+        "propose" => Some(NodeCommand::Propose(worker_count(number_in("workers", options)?)?)),
         _ => None,
     }
 }
 
-/// The timestamp that the options of `state` have.
-fn timestamp_in(options: &ArgMatches<'_>) -> Option<u64>
-    ensures { result ≡ option_and_then u64_of (one_of (codes "at") (rows_of (found_of options.now))) }
+/// The number that the option of this name has.
+fn number_in(name: &str, options: &ArgMatches<'_>) -> Option<u64>
+    ensures { result ≡ number_in name.now (rows_of (found_of options.now)) }
 {
-    options.get_one::<u64>("at")
+    options.get_one::<u64>(name)
+}
+
+/// How many workers a number asks for: one to eight.
+fn worker_count(number: u64) -> Option<u8>
+    ensures count { result ≡ worker_count number }
+    ensures range { AreOneToEight result }
+{
+    if 0 < number && number < 9 {
+        Some(number as u8)
+    } else {
+        None
+    }
 }
 
 /// The commands and their options.
@@ -78,12 +95,14 @@ fn command_line<'a>(alloc: Global) -> Result<Command<'a>, AllocError>
     let check = Command::new(alloc, "check");
     let replay = Command::new(alloc, "replay");
     let state = state_line(alloc)?;
+    let propose = propose_line(alloc)?;
     bare_line(alloc)
         .subcommand(asm)?
         .subcommand(dis)?
         .subcommand(check)?
         .subcommand(replay)?
-        .subcommand(state)
+        .subcommand(state)?
+        .subcommand(propose)
 }
 
 /// The program without its commands.
@@ -96,26 +115,36 @@ fn bare_line<'a>(alloc: Global) -> Command<'a>
 
 /// The command `state` and its option.
 fn state_line<'a>(alloc: Global) -> Result<Command<'a>, AllocError>
-    ensures app { IfOk result (λ command. app_of command ≡ with_rule (new_app (codes "state")) at_rule) }
+    ensures app { IfOk result (λ command. app_of command ≡ with_rule (new_app (codes "state")) (number_rule (codes "at"))) }
     ensures local { IfOk result (λ command. (out-Command command).has_globals ≡ false) }
 {
-    let at = at_option(alloc);
+    let at = number_option(alloc, "at");
     Command::new(alloc, "state").arg(at)
 }
 
-fn at_option<'a>(alloc: Global) -> Arg<'a>
-    ensures rule { rule_of result ≡ at_rule }
+/// The command `propose` and its option.
+fn propose_line<'a>(alloc: Global) -> Result<Command<'a>, AllocError>
+    ensures app { IfOk result (λ command. app_of command ≡ with_rule (new_app (codes "propose")) (number_rule (codes "workers"))) }
+    ensures local { IfOk result (λ command. (out-Command command).has_globals ≡ false) }
+{
+    let workers = number_option(alloc, "workers");
+    Command::new(alloc, "propose").arg(workers)
+}
+
+/// An option with a number below 2^64.
+fn number_option<'a>(alloc: Global, name: &'a str) -> Arg<'a>
+    ensures rule { rule_of result ≡ number_rule name.now }
     ensures local { result.global ≡ false }
 {
-    Arg::new(alloc, "at")
-        .long("at")
+    Arg::new(alloc, name)
+        .long(name)
         .action(ArgAction::Set)
         .value_parser(clap::value_parser!(u64))
         .required(true)
 }
 
 /// The words of the commands, computed by their definition: there are no abbreviations, and neither a request for help nor
-/// a word too many is a command. A timestamp is a number below 2^64.
+/// a word too many is a command. A timestamp is a number below 2^64, and there are one to eight workers.
 #[tactic(auto, unfolding(clap::proofs::OnLiterals::clap_on_literals, crate::specs::CommandLine::command_among))]
 pub fn words_of_commands()
     ensures asm { command_in (codes "asm" ∷ []) ≡ Some Asm }
@@ -129,6 +158,12 @@ pub fn words_of_commands()
     ensures other_timestamp { command_in (codes "state" ∷ codes "--at" ∷ codes "x" ∷ []) ≡ None }
     ensures two_timestamps { command_in (codes "state" ∷ codes "--at=1" ∷ codes "--at=2" ∷ []) ≡ None }
     ensures option_of_another { command_in (codes "replay" ∷ codes "--at=1" ∷ []) ≡ None }
+    ensures propose { command_in (codes "propose" ∷ codes "--workers" ∷ codes "2" ∷ []) ≡ Some (Propose 2) }
+    ensures propose_in_one { command_in (codes "propose" ∷ codes "--workers=+08" ∷ []) ≡ Some (Propose 8) }
+    ensures no_count { command_in (codes "propose" ∷ []) ≡ None }
+    ensures no_workers { command_in (codes "propose" ∷ codes "--workers=0" ∷ []) ≡ None }
+    ensures nine_workers { command_in (codes "propose" ∷ codes "--workers=9" ∷ []) ≡ None }
+    ensures two_counts { command_in (codes "propose" ∷ codes "--workers=1" ∷ codes "--workers=1" ∷ []) ≡ None }
     ensures no_word { command_in [] ≡ None }
     ensures abbreviation { command_in (codes "as" ∷ []) ≡ None }
     ensures upper_case { command_in (codes "ASM" ∷ []) ≡ None }

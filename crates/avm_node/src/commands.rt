@@ -1,9 +1,10 @@
 //! The commands of the program.
 
-ghost use Rattle.std.specs.Prelude.{◌≡◌, IfOk, IsSomeAnd, None, map};
+ghost use Rattle.std.specs.Prelude.{◌≡◌, IfOk, IfSome, IsSome, None, Some, map};
 ghost use Rattle.avm_node.specs.Answers.{Answers, IsCommandReply, IsReply};
 ghost use Rattle.avm_ops.specs.Objects.{IsFull};
-ghost use Rattle.avm_node.specs.CommandLine.{command_in};
+ghost use Rattle.avm_node.specs.CommandLine.{command_in, workers_of};
+ghost use Rattle.avm_node.specs.Replies.{failed};
 ghost use Rattle.avm_node.specs.Shown.{shown};
 
 use crate::asm::{asm_reply, input_refusal};
@@ -18,7 +19,8 @@ use std::io::{self, Read, Write};
 
 const USAGE_TEXT: &str = "usage: avm asm|dis|check|propose|replay|debug|state\n";
 
-/// Runs the command that the words after the program's name are, and gives the exit status.
+/// Runs the command that the words after the program's name are, and gives the exit status; or nothing, where it is
+/// `propose`, which wants threads ([`run`](crate::run)).
 ///
 /// A failed or interrupted read and want of memory give status 3, with nothing written; so does a failed write, before
 /// which some of the answer may have been written. Words that are no command read nothing. The set has an object of every
@@ -31,18 +33,50 @@ pub fn answer<'a, R: Read, W: Write>(
     ops: &OpSet,
 ) -> Option<u8>
     requires full { IsFull ⟦<BoxedOp as Op>⟧.opcode ops.now }
-    ensures answers { IsSomeAnd result (Answers (command_in (map (λ word. word.now) words.now)) (R.remaining reader.old) (W.contents writer.old) (W.contents writer.new)) }
+    ensures answers { IfSome result (Answers (command_in (map (λ word. word.now) words.now)) (R.remaining reader.old) (W.contents writer.old) (W.contents writer.new)) }
+    ensures other { IfSome result (λ status. IsSome (workers_of (command_in (map (λ word. word.now) words.now))) → status ≡ failed) }
+    ensures propose { result ≡ None → IsSome (workers_of (command_in (map (λ word. word.now) words.now))) × (reader.new ≡ reader.old) × (writer.new ≡ writer.old) }
     ensures reads_nothing { command_in (map (λ word. word.now) words.now) ≡ None → reader.new ≡ reader.old }
 {
-    let status = match command_in(alloc, words) {
-        Ok(None) => write_reply(writer, USAGE_TEXT, USAGE),
-        Ok(Some(command)) => match reply_of(alloc, command, reader, ops) {
+    match command_in(alloc, words) {
+        Ok(command) => match workers_of(command) {
+            Some(_workers) => None,
+            None => Some(answer_to(alloc, command, reader, writer, ops)),
+        },
+        Err(_) => Some(FAILED),
+    }
+}
+
+/// How many workers words of `propose` ask for; of other words nothing.
+pub(crate) fn workers_of(command: Option<NodeCommand>) -> Option<u8>
+    ensures { result ≡ workers_of command }
+{
+    match command {
+        Some(NodeCommand::Propose(workers)) => Some(workers),
+        _ => None,
+    }
+}
+
+/// Answers words that are not `propose`.
+pub(crate) fn answer_to<R: Read, W: Write>(
+    alloc: Global,
+    command: Option<NodeCommand>,
+    reader: &mut R,
+    writer: &mut W,
+    ops: &OpSet,
+) -> u8
+    requires full { IsFull ⟦<BoxedOp as Op>⟧.opcode ops.now }
+    requires other { workers_of command ≡ None }
+    ensures answers { Answers command (R.remaining reader.old) (W.contents writer.old) (W.contents writer.new) result }
+    ensures reads_nothing { command ≡ None → reader.new ≡ reader.old }
+{
+    match command {
+        None => write_reply(writer, USAGE_TEXT, USAGE),
+        Some(command) => match reply_of(alloc, command, reader, ops) {
             Ok(reply) => write_reply(writer, reply.text.as_str(), reply.status),
             Err(_) => FAILED,
         },
-        Err(_) => FAILED,
-    };
-    Some(status)
+    }
 }
 
 /// What a command answers to its whole input.
@@ -53,6 +87,7 @@ fn reply_of<R: Read>(
     ops: &OpSet,
 ) -> io::Result<Reply>
     requires full { IsFull ⟦<BoxedOp as Op>⟧.opcode ops.now }
+    requires other { workers_of (Some command) ≡ None }
     ensures { IfOk result (λ reply. IsReply command (R.remaining reader.old) (shown reply)) }
 {
     let input = read_input(alloc, reader)?;
@@ -70,6 +105,7 @@ fn command_reply(
     ops: &OpSet,
 ) -> Result<Reply, AllocError>
     requires full { IsFull ⟦<BoxedOp as Op>⟧.opcode ops.now }
+    requires other { workers_of (Some command) ≡ None }
     ensures { IfOk result (λ reply. IsCommandReply command input.now (shown reply)) }
 {
     match command {
@@ -78,5 +114,6 @@ fn command_reply(
         NodeCommand::Check => check_reply(alloc, input),
         NodeCommand::Replay => replay_reply(alloc, input, ops),
         NodeCommand::State(timestamp) => state_reply(alloc, timestamp, input, ops),
+        NodeCommand::Propose(_workers) => unreachable!(),
     }
 }

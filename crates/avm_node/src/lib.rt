@@ -1,11 +1,13 @@
 //! What the program `avm` answers: a command's text and exit status, from the words of its command line and its input.
 //!
 //! `specs/Answers.antt` says what each command answers, and `specs/CommandLine.antt` which words are which command. Inputs
-//! of lines of digits are read as `specs/DigitLines.antt` says. `specs/BlockCommands.antt` has the commands that replay blocks.
+//! of lines of digits are read as `specs/DigitLines.antt` says. `specs/BlockCommands.antt` has the commands that replay blocks,
+//! `specs/ProposeInputs.antt` and `specs/ProposeCommands.antt` the one that makes them, by workers in threads.
 #![tactic(auto)]
 
 mod asm;
 mod block_commands;
+mod call_line;
 mod command_line;
 mod commands;
 mod digit_lines;
@@ -13,7 +15,11 @@ mod input;
 mod outcomes;
 mod output;
 mod programs;
+mod propose_command;
+mod propose_input;
 mod refusal;
+mod running;
 
 pub use command_line::{NodeCommand, words_of_commands};
 pub use commands::answer;
+pub use running::run;

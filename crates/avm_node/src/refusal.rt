@@ -1,9 +1,10 @@
 //! Why an input of lines of digits is refused, and what is answered to it.
 
 ghost use Rattle.std.specs.Prelude.{◌≡◌, IfOk, string_bytes};
-ghost use Rattle.avm_node.specs.Refusals.{block_text, check_name, check_place, check_text, code_name, ledger_text, refusal_reply};
+ghost use Rattle.avm_node.specs.Refusals.{block_text, call_text, check_name, check_place, check_text, code_name, ledger_text, refusal_reply};
 ghost use Rattle.avm_node.specs.Shown.{shown};
 
+use crate::call_line::{CallLineFault, call_line_name};
 use crate::output::{REFUSED, Reply};
 use avm_block::BlockFault;
 use avm_ledger::LedgerFault;
@@ -27,6 +28,10 @@ pub enum Refusal {
     Block(BlockFault),
     /// There is no ledger of the past.
     State(StateFault),
+    /// The header has not 40 bytes.
+    Header,
+    /// The call of this number, counted from 1, has this fault.
+    Call(usize, CallLineFault),
 }
 
 /// What is answered to a refused input.
@@ -43,6 +48,8 @@ pub fn refusal_reply(alloc: Global, refusal: Refusal) -> Result<Reply, AllocErro
             alloc,
             "refused state WrongBase\n",
         )?,
+        Refusal::Header => String::from_str(alloc, "refused header\n")?,
+        Refusal::Call(number, fault) => call_text(alloc, number, fault)?,
     };
     Ok(Reply {
         text,
@@ -58,6 +65,13 @@ fn check_text(alloc: Global, fault: CheckFault) -> Result<String, AllocError>
         Some(place) => format!(in alloc; "refused check {name} {place}\n"),
         None => format!(in alloc; "refused check {name}\n"),
     }
+}
+
+fn call_text(alloc: Global, number: usize, fault: CallLineFault) -> Result<String, AllocError>
+    ensures { IfOk result (λ text. string_bytes text ≡ call_text number fault) }
+{
+    let name = call_line_name(fault);
+    format!(in alloc; "refused call {number} {name}\n")
 }
 
 fn ledger_text(alloc: Global, fault: LedgerFault) -> Result<String, AllocError>

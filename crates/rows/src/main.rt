@@ -78,7 +78,10 @@ fn all_rows(rt: &HostRuntime, ops: &OpSet) -> io::Result<()>
         if head == "$" {
             println!(rt; "{line}")?;
             let (status, written) = answered(alloc, ops, rest, row)?;
-            println!(rt; "{written}= {status}")?;
+            match status {
+                Some(status) => println!(rt; "{written}= {status}")?,
+                None => println!(rt; "{written}= none")?,
+            }
             row = Row::new(alloc);
         } else if let Some(text) = ledgers::reply(alloc, ops, &mut ledger, head, rest)? {
             println!(rt; "{line}\n= {text}")?;
@@ -89,14 +92,14 @@ fn all_rows(rt: &HostRuntime, ops: &OpSet) -> io::Result<()>
     Ok(())
 }
 
-/// The status and the text of a command.
-fn answered(alloc: Global, ops: &OpSet, words: &str, row: Row) -> io::Result<(u8, String)>
+/// The status and the text of a command, or no status where it is one that wants threads.
+fn answered(alloc: Global, ops: &OpSet, words: &str, row: Row) -> io::Result<(Option<u8>, String)>
     requires full { IsFull ⟦<BoxedOp as Op>⟧.opcode ops.now }
 {
     let words: Vec<&str> = words.split_whitespace().collect(alloc)?;
     let mut input = Input::new(row.bytes.as_slice(), row.failure);
     let mut output = Output::new(alloc, row.room);
-    let status = answer(alloc, words.as_slice(), &mut input, &mut output, ops).unwrap();
+    let status = answer(alloc, words.as_slice(), &mut input, &mut output, ops);
     match String::from_utf8(output.taken) {
         Ok(text) => Ok((status, text)),
         Err(_) => Err(io::Error::from(ErrorKind::InvalidData)),

@@ -1,0 +1,89 @@
+//! Lines that are calls.
+
+ghost use Rattle.std.specs.Prelude.{◌≡◌};
+ghost use Rattle.teal_value.specs.Answer.{Gives};
+ghost use Rattle.avm_items.specs.CallReader.{call_at};
+ghost use Rattle.avm_call.specs.CallRules.{call_fault};
+ghost use Rattle.avm_node.specs.CallLines.{call_line_name, checked_call, data_name, on_bytes, rule_name, unless_broken};
+
+use avm_call::{Call, CallFault};
+use avm_call_codec::CallCodec;
+use avm_items::{CallData, CallDataFault};
+use std::alloc::Global;
+use teal_value::Failure;
+
+/// Why the bytes of a line are no call.
+#[derive(Clone, Copy, Debug, PartialEq, Eq)]
+pub enum CallLineFault {
+    /// They spell no call.
+    Bytes(CallDataFault),
+    /// They spell a call that breaks this rule.
+    Rule(CallFault),
+}
+
+/// The call that the bytes are. The rules are tested once all of it is read.
+pub fn checked_call(alloc: Global, bytes: &[u8]) -> Result<Call, Failure<CallLineFault>>
+    ensures { Gives (λ call. call) result (checked_call bytes.now) }
+{
+    let fields = call_fields(alloc, bytes)?;
+    call_of_fields(alloc, fields)
+}
+
+fn call_fields(alloc: Global, bytes: &[u8]) -> Result<CallData, Failure<CallLineFault>>
+    ensures { Gives (λ fields. fields) result (on_bytes (call_at bytes.now)) }
+{
+    match CallData::read(alloc, bytes) {
+        Ok(fields) => Ok(fields),
+        Err(Failure::Fault(fault)) => Err(Failure::Fault(CallLineFault::Bytes(fault))),
+        Err(Failure::Memory) => Err(Failure::Memory),
+    }
+}
+
+fn call_of_fields(alloc: Global, fields: CallData) -> Result<Call, Failure<CallLineFault>>
+    ensures { Gives (λ call. call) result (unless_broken fields (call_fault fields)) }
+{
+    match Call::check(alloc, fields) {
+        Ok(call) => Ok(call),
+        Err((error, _fields)) => match error {
+            Failure::Fault(fault) => Err(Failure::Fault(CallLineFault::Rule(fault))),
+            Failure::Memory => Err(Failure::Memory),
+        },
+    }
+}
+
+/// The name of a fault.
+pub fn call_line_name(fault: CallLineFault) -> &'static str
+    ensures { result.now ≡ call_line_name fault }
+{
+    match fault {
+        CallLineFault::Bytes(fault) => data_name(fault),
+        CallLineFault::Rule(fault) => rule_name(fault),
+    }
+}
+
+fn data_name(fault: CallDataFault) -> &'static str
+    ensures { result.now ≡ data_name fault }
+{
+    match fault {
+        CallDataFault::Field => "Field",
+        CallDataFault::Truncated => "Truncated",
+        CallDataFault::Rest => "Rest",
+    }
+}
+
+fn rule_name(fault: CallFault) -> &'static str
+    ensures { result.now ≡ rule_name fault }
+{
+    match fault {
+        CallFault::Accounts => "Accounts",
+        CallFault::Args => "Args",
+        CallFault::ArgBytes => "ArgBytes",
+        CallFault::Foreign => "Foreign",
+        CallFault::Note => "Note",
+        CallFault::ProgramsMissing => "ProgramsMissing",
+        CallFault::ProgramsGiven => "ProgramsGiven",
+        CallFault::SchemaSize => "SchemaSize",
+        CallFault::ClearOnCreate => "ClearOnCreate",
+        CallFault::Program(_fault) => "Program",
+    }
+}

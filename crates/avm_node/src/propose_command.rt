@@ -1,0 +1,111 @@
+//! The command `propose`, whose input is lines of digits: a ledger, a header, and the calls of which a block is made.
+
+ghost use Rattle.std.specs.Prelude.{◌≡◌, ◌++◌, IfOk, OnOk, string_bytes};
+ghost use Rattle.std.specs.List.{flat_map};
+ghost use Rattle.avm_ledger.specs.declared.header.Profile.TheVariants.{Three};
+ghost use Rattle.avm_laws.specs.Orderly.{IsOrderly};
+ghost use Rattle.avm_ops.specs.Objects.{IsFull};
+ghost use Rattle.avm_node.specs.ProposeCommands.{IsPoolReply, IsProposeReply, left_line, pool_name, pool_reply, proposal_reply};
+ghost use Rattle.avm_node.specs.ProposeShown.{seen};
+ghost use Rattle.avm_node.specs.Shown.{shown};
+ghost use Rattle.avm_node.specs.WorkerSets.{AreWorkerSets};
+
+use crate::output::{DONE, REFUSED, Reply};
+use crate::propose_input::{ProposeInput, propose_input};
+use crate::refusal::refusal_reply;
+use avm_block::encode;
+use avm_ops::{BoxedOp, Op, OpSet};
+use avm_pool::{OpenGate, PoolFault, Proposal, propose};
+use std::alloc::{AllocError, Global};
+use std::sync::Wait;
+use std::thread::Threads;
+use teal_value::Failure;
+
+/// What `propose` answers to its input, by a worker of each set.
+pub fn propose_reply<R: Threads + Wait + Sync>(
+    rt: &R,
+    alloc: Global,
+    input: &[u8],
+    sets: Vec<OpSet>,
+    own: &OpSet,
+) -> Result<Reply, AllocError>
+    requires sets { AreWorkerSets ⟦<BoxedOp as Op>⟧.opcode sets.items own.now }
+    ensures { IfOk result (λ reply. IsProposeReply input.now (shown reply)) }
+{
+    match propose_input(alloc, input) {
+        Ok(read) => pool_answer(rt, alloc, read, sets, own),
+        Err(Failure::Fault(refusal)) => refusal_reply(alloc, refusal),
+        Err(Failure::Memory) => Err(AllocError),
+    }
+}
+
+/// The block that the workers make of what was read, or why there is none.
+fn pool_answer<R: Threads + Wait + Sync>(
+    rt: &R,
+    alloc: Global,
+    read: ProposeInput,
+    sets: Vec<OpSet>,
+    own: &OpSet,
+) -> Result<Reply, AllocError>
+    requires orderly { IsOrderly read.base }
+    requires profile { read.header.profile ≡ Three }
+    requires sets { AreWorkerSets ⟦<BoxedOp as Op>⟧.opcode sets.items own.now }
+    ensures { IfOk result (λ reply. IsPoolReply (seen read) (shown reply)) }
+{
+    let ProposeInput {
+        base,
+        header,
+        calls,
+    } = read;
+    match propose(rt, alloc, &base, &header, calls, sets, own, &OpenGate) {
+        Ok(proposal) => proposal_reply(alloc, &proposal),
+        Err(Failure::Fault(fault)) => pool_reply(alloc, fault),
+        Err(Failure::Memory) => Err(AllocError),
+    }
+}
+
+/// The text of a block, and of the calls that it leaves.
+fn proposal_reply(alloc: Global, proposal: &Proposal) -> Result<Reply, AllocError>
+    ensures { IfOk result (λ reply. shown reply ≡ proposal_reply proposal.now) }
+{
+    let bytes = encode(alloc, &proposal.block)?;
+    let mut text = hex::encode(alloc, bytes.as_slice())?;
+    text.push('\n')?;
+    add_left(alloc, &mut text, proposal.left.as_slice())?;
+    Ok(Reply { text, status: DONE })
+}
+
+/// Adds a line for each call that is left.
+fn add_left(alloc: Global, text: &mut String, left: &[u32]) -> Result<(), AllocError>
+    ensures { OnOk result (string_bytes text.new ≡ string_bytes text.old ++ flat_map left_line left.now) }
+{
+    for number in left {
+        let line = format!(in alloc; "left {number}\n")?;
+        text.push_str(line.as_str())?;
+    }
+    Ok(())
+}
+
+/// Why there is no block.
+fn pool_reply(alloc: Global, fault: PoolFault) -> Result<Reply, AllocError>
+    ensures { IfOk result (λ reply. shown reply ≡ pool_reply fault) }
+{
+    let name = pool_name(fault);
+    let text = format!(in alloc; "refused pool {name}\n")?;
+    Ok(Reply {
+        text,
+        status: REFUSED,
+    })
+}
+
+fn pool_name(fault: PoolFault) -> &'static str
+    ensures { result.now ≡ pool_name fault }
+{
+    match fault {
+        PoolFault::Workers => "Workers",
+        PoolFault::OpMissing(_code) => "OpMissing",
+        PoolFault::Profile { number: _number } => "Profile",
+        PoolFault::Spawn => "Spawn",
+        PoolFault::ClockEnd => "ClockEnd",
+    }
+}

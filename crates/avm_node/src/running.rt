@@ -1,0 +1,73 @@
+//! Running the program's commands, those among them that start threads.
+
+ghost use Rattle.std.specs.Prelude.{◌≡◌, IfOk, None, map};
+ghost use Rattle.avm_node.specs.Answers.{Answers, IsReply};
+ghost use Rattle.avm_node.specs.CommandLine.{command_in};
+ghost use Rattle.avm_node.specs.declared.command_line.NodeCommand.TheVariants.{Propose};
+ghost use Rattle.avm_node.specs.Shown.{shown};
+ghost use Rattle.avm_node.specs.WorkerSets.{AreSets, AreWorkerSets};
+
+use crate::asm::input_refusal;
+use crate::command_line::command_in;
+use crate::commands::{answer_to, workers_of};
+use crate::input::{INPUT_LIMIT, read_input};
+use crate::output::{FAILED, Reply, write_reply};
+use crate::propose_command::propose_reply;
+use avm_ops::{BoxedOp, Op, OpSet};
+use std::alloc::Global;
+use std::io::{self, Read, Write};
+use std::sync::Wait;
+use std::thread::Threads;
+
+/// Runs the command that the words after the program's name are, and gives the exit status, as [`answer`](crate::answer) does
+/// but for `propose`, whose calls run in as many threads as it has workers.
+///
+/// There are nine sets with an object of every opcode: one for each worker, and the last for the thread that calls.
+pub fn run<'a, T: Threads + Wait + Sync, R: Read, W: Write>(
+    rt: &T,
+    alloc: Global,
+    words: &'a [&'a str],
+    reader: &mut R,
+    writer: &mut W,
+    mut sets: Vec<OpSet>,
+) -> u8
+    requires sets { AreSets ⟦<BoxedOp as Op>⟧.opcode sets.items }
+    ensures answers { Answers (command_in (map (λ word. word.now) words.now)) (R.remaining reader.old) (W.contents writer.old) (W.contents writer.new) result }
+    ensures reads_nothing { command_in (map (λ word. word.now) words.now) ≡ None → reader.new ≡ reader.old }
+{
+    let Some(own) = sets.pop() else {
+        unreachable!()
+    };
+    match command_in(alloc, words) {
+        Ok(command) => match workers_of(command) {
+            Some(workers) => {
+                sets.truncate(usize::from(workers));
+                match proposed(rt, alloc, workers, reader, sets, &own) {
+                    Ok(reply) => write_reply(writer, reply.text.as_str(), reply.status),
+                    Err(_) => FAILED,
+                }
+            }
+            None => answer_to(alloc, command, reader, writer, &own),
+        },
+        Err(_) => FAILED,
+    }
+}
+
+/// What `propose` answers to its whole input.
+fn proposed<T: Threads + Wait + Sync, R: Read>(
+    rt: &T,
+    alloc: Global,
+    workers: u8,
+    reader: &mut R,
+    sets: Vec<OpSet>,
+    own: &OpSet,
+) -> io::Result<Reply>
+    requires sets { AreWorkerSets ⟦<BoxedOp as Op>⟧.opcode sets.items own.now }
+    ensures { IfOk result (λ reply. IsReply (Propose workers) (R.remaining reader.old) (shown reply)) }
+{
+    let input = read_input(alloc, reader)?;
+    if input.len() > INPUT_LIMIT {
+        return Ok(input_refusal(alloc)?);
+    }
+    Ok(propose_reply(rt, alloc, input.as_slice(), sets, own)?)
+}
