@@ -2,3 +2,4 @@ pub mod CommandNames
 pub mod NumberTexts
 pub mod Replies
 pub mod DigitLines
+pub mod StepsMade

@@ -8,11 +8,11 @@ use Rattle.clap.specs.declared.builder.action.ArgAction.TheVariants.{Set}
 use Rattle.clap.specs.declared.builder.value_parser.ValueParser.TheVariants as parser
 use Rattle.clap.specs.Words.{App, Kinds, Row, Rule, Text, fault_of, new_app, new_rule, one_of, subcommand_of, with_rule, with_subcommand}
 use Rattle.avm_node.specs.declared.command_line.NodeCommand.{NodeCommand}
-use Rattle.avm_node.specs.declared.command_line.NodeCommand.TheVariants.{Asm, Check, Dis, Replay, State}
+use Rattle.avm_node.specs.declared.command_line.NodeCommand.TheVariants.{Asm, Check, Debug, Dis, Replay, State}
 
--- the option `--at T`, which has to be given
-abbrev pub at_rule : Rule
-at_rule = record (new_rule (codes "at")) { long = Some (codes "at"); action = Some Set; parser = Some (parser.Unsigned 0 18446744073709551615); required = true }
+-- an option with a number below 2^64, as `--at T`, which has to be given
+abbrev pub number_rule : Text → Rule
+number_rule name = record (new_rule name) { long = Some name; action = Some Set; parser = Some (parser.Unsigned 0 18446744073709551615); required = true }
 
 -- the program without its commands; no word is its name
 abbrev pub bare_line : App
@@ -25,7 +25,8 @@ command_line =
     let with_dis = with_subcommand with_asm (new_app (codes "dis")).top in
     let with_check = with_subcommand with_dis (new_app (codes "check")).top in
     let with_replay = with_subcommand with_check (new_app (codes "replay")).top in
-    with_subcommand with_replay (with_rule (new_app (codes "state")) at_rule).top
+    let with_debug = with_subcommand with_replay (with_rule (with_rule (new_app (codes "debug")) (number_rule (codes "entry"))) (number_rule (codes "steps"))).top in
+    with_subcommand with_debug (with_rule (new_app (codes "state")) (number_rule (codes "at"))).top
 
 abbrev pub is_digit : ℕ → Bool
 is_digit c = nat_lt (digit_value c) 10
@@ -36,6 +37,10 @@ u64_of text =
     let digits = without_leading_plus text in
     if nat_lt 0 (length digits) && (list_all is_digit digits && nat_lt (digits_value 10 digits) (2 ^ 64)) then Some (digits_value 10 digits) else None
 
+-- the number that an option of this name has
+abbrev pub number_in : Text → List Row → Option ℕ
+number_in name options = option_and_then u64_of (one_of name options)
+
 -- the command of a name, with its options
 abbrev pub command_named : Text → List Row → Option NodeCommand
 command_named name options =
@@ -43,7 +48,8 @@ command_named name options =
     else if bytes_eq name (codes "dis") then Some Dis
     else if bytes_eq name (codes "check") then Some Check
     else if bytes_eq name (codes "replay") then Some Replay
-    else if bytes_eq name (codes "state") then option_map State (option_and_then u64_of (one_of (codes "at") options))
+    else if bytes_eq name (codes "debug") then option_and_then (λ entry. option_map (Debug entry) (number_in (codes "steps") options)) (number_in (codes "entry") options)
+    else if bytes_eq name (codes "state") then option_map State (number_in (codes "at") options)
     else None
 
 -- nothing, where there is a fault

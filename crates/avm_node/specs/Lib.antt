@@ -5,6 +5,9 @@ pub mod Lines
 pub mod Refusals
 pub mod Programs
 pub mod Outcomes
+pub mod ViewTexts
 pub mod BlockCommands
+pub mod DebugCommands
+pub mod DebugRuns
 pub mod Answers
 pub mod Shown

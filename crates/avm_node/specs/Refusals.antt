@@ -9,6 +9,8 @@ use Rattle.avm_ledger.specs.declared.ledger_fault.LedgerFault.TheVariants as led
 use Rattle.avm_block.specs.declared.block_fault.BlockFault.{BlockFault}
 use Rattle.avm_block.specs.declared.block_fault.BlockFault.TheVariants as block
 use Rattle.avm_replay.specs.declared.past.StateFault.TheVariants as state
+use Rattle.avm_debug.specs.declared.faults.OpenFault.{OpenFault}
+use Rattle.avm_debug.specs.declared.faults.OpenFault.TheVariants as opening
 use Rattle.avm_node.specs.declared.refusal.Refusal.{Refusal}
 use Rattle.avm_node.specs.declared.refusal.Refusal.TheVariants as refusal
 use Rattle.avm_node.specs.Replies.{Reply, refused}
@@ -68,6 +70,14 @@ block_name block.Digest = codes "Digest"
 abbrev pub block_text : BlockFault → List ℕ
 block_text fault = codes "refused block " ++ (block_name fault ++ codes "\n")
 
+abbrev pub opening_name : OpenFault → List ℕ
+opening_name opening.NoEntry = codes "NoEntry"
+opening_name opening.WrongBase = codes "WrongBase"
+opening_name opening.NoProgram = codes "NoProgram"
+
+abbrev pub opening_text : OpenFault → List ℕ
+opening_text fault = codes "refused debug " ++ (opening_name fault ++ codes "\n")
+
 abbrev pub refusal_text : Refusal → List ℕ
 refusal_text (refusal.Hex line) = codes "refused hex " ++ (decimal line ++ codes "\n")
 refusal_text refusal.Lines = codes "refused lines\n"
@@ -75,6 +85,8 @@ refusal_text (refusal.Check fault) = check_text fault
 refusal_text (refusal.Ledger fault) = ledger_text fault
 refusal_text (refusal.Block fault) = block_text fault
 refusal_text (refusal.State state.WrongBase) = codes "refused state WrongBase\n"
+refusal_text (refusal.Opening fault) = opening_text fault
+refusal_text refusal.Ended = codes "refused debug Ended\n"
 
 abbrev pub refusal_reply : Refusal → Reply
 refusal_reply why = record { text = refusal_text why; status = refused }

@@ -1,11 +1,12 @@
 //! Why an input of lines of digits is refused, and what is answered to it.
 
 ghost use Rattle.std.specs.Prelude.{◌≡◌, IfOk, string_bytes};
-ghost use Rattle.avm_node.specs.Refusals.{block_text, check_name, check_place, check_text, code_name, ledger_text, refusal_reply};
+ghost use Rattle.avm_node.specs.Refusals.{block_text, check_name, check_place, check_text, code_name, ledger_text, opening_text, refusal_reply};
 ghost use Rattle.avm_node.specs.Shown.{shown};
 
 use crate::output::{REFUSED, Reply};
 use avm_block::BlockFault;
+use avm_debug::OpenFault;
 use avm_ledger::LedgerFault;
 use avm_replay::StateFault;
 use std::alloc::{AllocError, Global};
@@ -27,6 +28,10 @@ pub enum Refusal {
     Block(BlockFault),
     /// There is no ledger of the past.
     State(StateFault),
+    /// The call of an entry is not opened in a debugger.
+    Opening(OpenFault),
+    /// The program of a call ends before so many steps.
+    Ended,
 }
 
 /// What is answered to a refused input.
@@ -43,6 +48,8 @@ pub fn refusal_reply(alloc: Global, refusal: Refusal) -> Result<Reply, AllocErro
             alloc,
             "refused state WrongBase\n",
         )?,
+        Refusal::Opening(fault) => opening_text(alloc, fault)?,
+        Refusal::Ended => String::from_str(alloc, "refused debug Ended\n")?,
     };
     Ok(Reply {
         text,
@@ -84,6 +91,17 @@ fn block_text(alloc: Global, fault: BlockFault) -> Result<String, AllocError>
         BlockFault::Digest => "Digest",
     };
     format!(in alloc; "refused block {name}\n")
+}
+
+fn opening_text(alloc: Global, fault: OpenFault) -> Result<String, AllocError>
+    ensures { IfOk result (λ text. string_bytes text ≡ opening_text fault) }
+{
+    let name = match fault {
+        OpenFault::NoEntry => "NoEntry",
+        OpenFault::WrongBase => "WrongBase",
+        OpenFault::NoProgram => "NoProgram",
+    };
+    format!(in alloc; "refused debug {name}\n")
 }
 
 fn check_name(fault: CheckFault) -> &'static str
