@@ -1,5 +1,5 @@
 -- Steps of a call's program, as a debugger makes them.
-use Rattle.std.proofs.Common.{◌≡◌, ◌<◌, ◌+◌, ◌⊎◌, ℕ, Bool, true, false, cond, length, eqb, Option, Some, None, Result, Ok, Err, inl, inr, ap, subst, sym, ◌∙◌, refl, arith}
+use Rattle.std.proofs.Common.{◌≡◌, ◌<◌, ◌+◌, ℕ, Bool, true, false, cond, length, eqb, Option, Some, None, Result, Ok, Err, inl, inr, ap, subst, sym, ◌∙◌, refl, arith}
 use Rattle.std.specs.Prelude.{option_map}
 use Rattle.std.proofs.lemmas.Bool.{cases_lt}
 use Rattle.teal_value.specs.declared.failure.Failure.TheVariants as failure
