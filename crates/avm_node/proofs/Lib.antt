@@ -3,3 +3,4 @@ pub mod NumberTexts
 pub mod Replies
 pub mod DigitLines
 pub mod StepsMade
+pub mod OneFinding

@@ -60,6 +60,9 @@ Finds input number steps (Err (refusal.Opening fault)) = IsOpenRefusal input.0 i
 Finds input number steps (Err refusal.Ended) = IsEnded input.0 input.1 number steps
 Finds input number steps (Err _) = ⊥
 
+abbrev pub OneFinding : Type 0
+OneFinding = (input : Ledger × Block) (number steps : ℕ) (r s : Result View Refusal) → Finds input number steps r → Finds input number steps s → r ≡ s
+
 -- ---- the answer
 
 abbrev pub view_reply : Result View Refusal → Reply

@@ -3,7 +3,7 @@
 ghost use Rattle.std.specs.Prelude.{ℕ, IfErr, IfOk, Ok};
 ghost use Rattle.avm_ops.specs.Objects.{IsFull};
 ghost use Rattle.avm_debug.specs.Opening.{IsOpened};
-ghost use Rattle.avm_node.specs.DebugCommands.{IsDebugReply, IsFoundReply};
+ghost use Rattle.avm_node.specs.DebugCommands.{IsDebugReply, IsFoundReply, OneFinding};
 ghost use Rattle.avm_node.specs.DebugRuns.{HasCome, IsRefused, ShowsReply};
 ghost use Rattle.avm_node.specs.Shown.{shown};
 
@@ -109,3 +109,9 @@ fn view_reply(alloc: Global, debugger: &Debugger) -> Result<Reply, AllocError>
         Err(_) => Err(AllocError),
     }
 }
+
+/// In an entry one thing is found after so many steps: a view, or one refusal. So each is found exactly where its definition
+/// says.
+pub fn one_finding()
+    ensures { OneFinding }
+{}

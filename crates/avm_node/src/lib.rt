@@ -20,3 +20,4 @@ mod view_text;
 
 pub use command_line::{NodeCommand, words_of_commands};
 pub use commands::answer;
+pub use debug_command::one_finding;
