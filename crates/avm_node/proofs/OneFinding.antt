@@ -95,12 +95,7 @@ module _ (base : Ledger) (b : Block) (number steps : ℕ) where
   by_finding P (Err (refusal.Opening opening.WrongBase)) f view no_entry wrong no_program ended = wrong f
   by_finding P (Err (refusal.Opening opening.NoProgram)) f view no_entry wrong no_program ended = no_program f
   by_finding P (Err refusal.Ended) f view no_entry wrong no_program ended = ended f
-  by_finding P (Err (refusal.Hex line)) f view no_entry wrong no_program ended = absurd f
-  by_finding P (Err refusal.Lines) f view no_entry wrong no_program ended = absurd f
-  by_finding P (Err (refusal.Check fault)) f view no_entry wrong no_program ended = absurd f
-  by_finding P (Err (refusal.Ledger fault)) f view no_entry wrong no_program ended = absurd f
-  by_finding P (Err (refusal.Block fault)) f view no_entry wrong no_program ended = absurd f
-  by_finding P (Err (refusal.State fault)) f view no_entry wrong no_program ended = absurd f
+  by_finding P (Err _) f view no_entry wrong no_program ended = absurd f
 
   found_alike : (r s : Result View Refusal) → Finds (base, b) number steps r → Finds (base, b) number steps s → r ≡ s
   found_alike r s f g =
