@@ -8,11 +8,12 @@ use Rattle.teal_source.specs.declared.fault.AsmFaultKind.{AsmFaultKind}
 use Rattle.teal_source.specs.declared.fault.AsmFaultKind.TheVariants as kind
 use Rattle.teal_asm.specs.Program.{assembled}
 use Rattle.avm_node.specs.declared.command_line.NodeCommand.{NodeCommand}
-use Rattle.avm_node.specs.declared.command_line.NodeCommand.TheVariants.{Asm, Check, Dis, Propose, Replay, State}
+use Rattle.avm_node.specs.declared.command_line.NodeCommand.TheVariants.{Asm, Check, Debug, Dis, Propose, Replay, State}
 use Rattle.avm_node.specs.Replies.{Reply, done, failed, input_refusal, refused, usage_reply}
 use Rattle.avm_node.specs.Programs.{check_reply, dis_reply}
 use Rattle.avm_node.specs.BlockCommands.{IsReplayReply, state_reply}
 use Rattle.avm_node.specs.ProposeCommands.{IsProposeReply}
+use Rattle.avm_node.specs.DebugCommands.{IsDebugReply}
 
 -- how many bytes an input has at most
 abbrev pub input_limit : ℕ
@@ -51,6 +52,7 @@ IsCommandReply Asm input reply = reply ≡ asm_reply input
 IsCommandReply Dis input reply = reply ≡ dis_reply input
 IsCommandReply Check input reply = reply ≡ check_reply input
 IsCommandReply Replay input reply = IsReplayReply input reply
+IsCommandReply (Debug entry steps) input reply = IsDebugReply entry steps input reply
 IsCommandReply (State timestamp) input reply = reply ≡ state_reply timestamp input
 IsCommandReply (Propose workers) input reply = IsProposeReply input reply
 

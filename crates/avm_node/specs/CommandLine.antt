@@ -8,7 +8,7 @@ use Rattle.clap.specs.declared.builder.action.ArgAction.TheVariants.{Set}
 use Rattle.clap.specs.declared.builder.value_parser.ValueParser.TheVariants as parser
 use Rattle.clap.specs.Words.{App, Kinds, Row, Rule, Text, fault_of, new_app, new_rule, one_of, subcommand_of, with_rule, with_subcommand}
 use Rattle.avm_node.specs.declared.command_line.NodeCommand.{NodeCommand}
-use Rattle.avm_node.specs.declared.command_line.NodeCommand.TheVariants.{Asm, Check, Dis, Propose, Replay, State}
+use Rattle.avm_node.specs.declared.command_line.NodeCommand.TheVariants.{Asm, Check, Debug, Dis, Propose, Replay, State}
 
 -- an option with a number below 2^64, as `--at T`, which has to be given
 abbrev pub number_rule : Text → Rule
@@ -25,7 +25,8 @@ command_line =
     let with_dis = with_subcommand with_asm (new_app (codes "dis")).top in
     let with_check = with_subcommand with_dis (new_app (codes "check")).top in
     let with_replay = with_subcommand with_check (new_app (codes "replay")).top in
-    let with_state = with_subcommand with_replay (with_rule (new_app (codes "state")) (number_rule (codes "at"))).top in
+    let with_debug = with_subcommand with_replay (with_rule (with_rule (new_app (codes "debug")) (number_rule (codes "entry"))) (number_rule (codes "steps"))).top in
+    let with_state = with_subcommand with_debug (with_rule (new_app (codes "state")) (number_rule (codes "at"))).top in
     with_subcommand with_state (with_rule (new_app (codes "propose")) (number_rule (codes "workers"))).top
 
 abbrev pub is_digit : ℕ → Bool
@@ -52,6 +53,7 @@ command_named name options =
     else if bytes_eq name (codes "dis") then Some Dis
     else if bytes_eq name (codes "check") then Some Check
     else if bytes_eq name (codes "replay") then Some Replay
+    else if bytes_eq name (codes "debug") then option_and_then (λ entry. option_map (Debug entry) (number_in (codes "steps") options)) (number_in (codes "entry") options)
     else if bytes_eq name (codes "state") then option_map State (number_in (codes "at") options)
     else if bytes_eq name (codes "propose") then option_map Propose (option_and_then worker_count (number_in (codes "workers") options))
     else None

@@ -6,7 +6,10 @@ pub mod Refusals
 pub mod Programs
 pub mod Outcomes
 pub mod CallLines
+pub mod ViewTexts
 pub mod BlockCommands
+pub mod DebugCommands
+pub mod DebugRuns
 pub mod ProposeInputs
 pub mod ProposeShown
 pub mod ProposeCommands

@@ -10,6 +10,8 @@ use Rattle.avm_block.specs.declared.block_fault.BlockFault.{BlockFault}
 use Rattle.avm_block.specs.declared.block_fault.BlockFault.TheVariants as block
 use Rattle.avm_replay.specs.declared.past.StateFault.TheVariants as state
 use Rattle.avm_node.specs.declared.call_line.CallLineFault.{CallLineFault}
+use Rattle.avm_debug.specs.declared.faults.OpenFault.{OpenFault}
+use Rattle.avm_debug.specs.declared.faults.OpenFault.TheVariants as opening
 use Rattle.avm_node.specs.declared.refusal.Refusal.{Refusal}
 use Rattle.avm_node.specs.declared.refusal.Refusal.TheVariants as refusal
 use Rattle.avm_node.specs.CallLines.{call_line_name}
@@ -74,6 +76,14 @@ block_text fault = codes "refused block " ++ (block_name fault ++ codes "\n")
 abbrev pub call_text : ℕ → CallLineFault → List ℕ
 call_text number fault = codes "refused call " ++ (decimal number ++ (codes " " ++ (call_line_name fault ++ codes "\n")))
 
+abbrev pub opening_name : OpenFault → List ℕ
+opening_name opening.NoEntry = codes "NoEntry"
+opening_name opening.WrongBase = codes "WrongBase"
+opening_name opening.NoProgram = codes "NoProgram"
+
+abbrev pub opening_text : OpenFault → List ℕ
+opening_text fault = codes "refused debug " ++ (opening_name fault ++ codes "\n")
+
 abbrev pub refusal_text : Refusal → List ℕ
 refusal_text (refusal.Hex line) = codes "refused hex " ++ (decimal line ++ codes "\n")
 refusal_text refusal.Lines = codes "refused lines\n"
@@ -83,6 +93,8 @@ refusal_text (refusal.Block fault) = block_text fault
 refusal_text refusal.Header = codes "refused header\n"
 refusal_text (refusal.Call number fault) = call_text number fault
 refusal_text (refusal.State state.WrongBase) = codes "refused state WrongBase\n"
+refusal_text (refusal.Opening fault) = opening_text fault
+refusal_text refusal.Ended = codes "refused debug Ended\n"
 
 abbrev pub refusal_reply : Refusal → Reply
 refusal_reply why = record { text = refusal_text why; status = refused }

@@ -130,7 +130,7 @@ fn past_ledger(
 }
 
 /// The ledger and the block of the only two lines.
-fn ledger_and_block(alloc: Global, input: &[u8]) -> Result<(Ledger, Block), Failure<Refusal>>
+pub fn ledger_and_block(alloc: Global, input: &[u8]) -> Result<(Ledger, Block), Failure<Refusal>>
     ensures { Gives (λ both. both) result (ledger_and_block (digit_lines input.now)) }
 {
     let mut lines = DigitLines::new(input);

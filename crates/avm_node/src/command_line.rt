@@ -4,7 +4,7 @@ ghost use Rattle.std.specs.Prelude.{◌≡◌, ◌↔◌, ◌∷◌, [], Some, N
 ghost use Rattle.clap.specs.Words.{app_of, found_of, kind_of, new_app, rows_of, rule_of, with_rule};
 ghost use Rattle.clap.specs.declared.builder.command.Command.TheViews.{out-Command};
 ghost use Rattle.avm_node.specs.CommandLine.{AreOneToEight, bare_line, command_in, command_line, command_named, number_in, number_rule, worker_count, workers_of};
-ghost use Rattle.avm_node.specs.declared.command_line.NodeCommand.TheVariants.{Asm, Check, Dis, Propose, Replay, State};
+ghost use Rattle.avm_node.specs.declared.command_line.NodeCommand.TheVariants.{Asm, Check, Debug, Dis, Propose, Replay, State};
 
 use clap::error::ErrorKind;
 use clap::{Arg, ArgAction, ArgMatches, Command, Error};
@@ -21,6 +21,13 @@ pub enum NodeCommand {
     Check,
     /// Replays a block over the ledger before it.
     Replay,
+    /// Steps through the call of an entry of a block, over the ledger that it met.
+    Debug {
+        /// The entry's number, counted from 1.
+        entry: u64,
+        /// How many steps are made.
+        steps: u64,
+    },
     /// Gives the ledger after the calls of a block with timestamps up to this one.
     State(u64),
     /// Makes a block of calls, by this many workers.
@@ -61,6 +68,10 @@ fn command_named(name: &str, options: &ArgMatches<'_>) -> Option<NodeCommand>
         "dis" => Some(NodeCommand::Dis),
         "check" => Some(NodeCommand::Check),
         "replay" => Some(NodeCommand::Replay),
+        "debug" => Some(NodeCommand::Debug {
+            entry: number_in("entry", options)?,
+            steps: number_in("steps", options)?,
+        }),
         "state" => Some(NodeCommand::State(number_in("at", options)?)),
         "propose" => Some(NodeCommand::Propose(worker_count(number_in("workers", options)?)?)),
         _ => None,
@@ -94,6 +105,7 @@ fn command_line<'a>(alloc: Global) -> Result<Command<'a>, AllocError>
     let dis = Command::new(alloc, "dis");
     let check = Command::new(alloc, "check");
     let replay = Command::new(alloc, "replay");
+    let debug = debug_line(alloc)?;
     let state = state_line(alloc)?;
     let propose = propose_line(alloc)?;
     bare_line(alloc)
@@ -101,6 +113,7 @@ fn command_line<'a>(alloc: Global) -> Result<Command<'a>, AllocError>
         .subcommand(dis)?
         .subcommand(check)?
         .subcommand(replay)?
+        .subcommand(debug)?
         .subcommand(state)?
         .subcommand(propose)
 }
@@ -131,6 +144,16 @@ fn propose_line<'a>(alloc: Global) -> Result<Command<'a>, AllocError>
     Command::new(alloc, "propose").arg(workers)
 }
 
+/// The command `debug` and its options.
+fn debug_line<'a>(alloc: Global) -> Result<Command<'a>, AllocError>
+    ensures app { IfOk result (λ command. app_of command ≡ with_rule (with_rule (new_app (codes "debug")) (number_rule (codes "entry"))) (number_rule (codes "steps"))) }
+    ensures local { IfOk result (λ command. (out-Command command).has_globals ≡ false) }
+{
+    let entry = number_option(alloc, "entry");
+    let steps = number_option(alloc, "steps");
+    Command::new(alloc, "debug").arg(entry)?.arg(steps)
+}
+
 /// An option with a number below 2^64.
 fn number_option<'a>(alloc: Global, name: &'a str) -> Arg<'a>
     ensures rule { rule_of result ≡ number_rule name.now }
@@ -151,6 +174,10 @@ pub fn words_of_commands()
     ensures dis { command_in (codes "dis" ∷ []) ≡ Some Dis }
     ensures check { command_in (codes "check" ∷ []) ≡ Some Check }
     ensures replay { command_in (codes "replay" ∷ []) ≡ Some Replay }
+    ensures debug { command_in (codes "debug" ∷ codes "--entry" ∷ codes "1" ∷ codes "--steps" ∷ codes "0" ∷ []) ≡ Some (Debug 1 0) }
+    ensures debug_steps_first { command_in (codes "debug" ∷ codes "--steps=18446744073709551615" ∷ codes "--entry=2" ∷ []) ≡ Some (Debug 2 18446744073709551615) }
+    ensures debug_no_steps { command_in (codes "debug" ∷ codes "--entry" ∷ codes "1" ∷ []) ≡ None }
+    ensures debug_no_entry { command_in (codes "debug" ∷ codes "--steps" ∷ codes "1" ∷ []) ≡ None }
     ensures state { command_in (codes "state" ∷ codes "--at" ∷ codes "2" ∷ []) ≡ Some (State 2) }
     ensures state_in_one { command_in (codes "state" ∷ codes "--at=18446744073709551615" ∷ []) ≡ Some (State 18446744073709551615) }
     ensures no_timestamp { command_in (codes "state" ∷ []) ≡ None }

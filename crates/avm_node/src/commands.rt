@@ -10,6 +10,7 @@ ghost use Rattle.avm_node.specs.Shown.{shown};
 use crate::asm::{asm_reply, input_refusal};
 use crate::block_commands::{replay_reply, state_reply};
 use crate::command_line::{NodeCommand, command_in};
+use crate::debug_command::debug_reply;
 use crate::input::{INPUT_LIMIT, read_input};
 use crate::output::{FAILED, Reply, USAGE, write_reply};
 use crate::programs::{check_reply, dis_reply};
@@ -113,6 +114,7 @@ fn command_reply(
         NodeCommand::Dis => dis_reply(alloc, input),
         NodeCommand::Check => check_reply(alloc, input),
         NodeCommand::Replay => replay_reply(alloc, input, ops),
+        NodeCommand::Debug { entry, steps } => debug_reply(alloc, entry, steps, input, ops),
         NodeCommand::State(timestamp) => state_reply(alloc, timestamp, input, ops),
         NodeCommand::Propose(_workers) => unreachable!(),
     }

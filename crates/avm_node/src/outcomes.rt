@@ -54,7 +54,8 @@ fn why_name(why: Why) -> &'static str
     }
 }
 
-fn fault_name(fault: Fault) -> &'static str
+/// The name of a fault.
+pub fn fault_name(fault: Fault) -> &'static str
     ensures { result.now ≡ fault_name fault }
 {
     match fault {

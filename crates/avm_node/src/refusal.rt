@@ -1,12 +1,13 @@
 //! Why an input of lines of digits is refused, and what is answered to it.
 
 ghost use Rattle.std.specs.Prelude.{◌≡◌, IfOk, string_bytes};
-ghost use Rattle.avm_node.specs.Refusals.{block_text, call_text, check_name, check_place, check_text, code_name, ledger_text, refusal_reply};
+ghost use Rattle.avm_node.specs.Refusals.{block_text, call_text, check_name, check_place, check_text, code_name, ledger_text, opening_text, refusal_reply};
 ghost use Rattle.avm_node.specs.Shown.{shown};
 
 use crate::call_line::{CallLineFault, call_line_name};
 use crate::output::{REFUSED, Reply};
 use avm_block::BlockFault;
+use avm_debug::OpenFault;
 use avm_ledger::LedgerFault;
 use avm_replay::StateFault;
 use std::alloc::{AllocError, Global};
@@ -32,6 +33,10 @@ pub enum Refusal {
     Header,
     /// The call of this number, counted from 1, has this fault.
     Call(usize, CallLineFault),
+    /// The call of an entry is not opened in a debugger.
+    Opening(OpenFault),
+    /// The program of a call ends before so many steps.
+    Ended,
 }
 
 /// What is answered to a refused input.
@@ -50,6 +55,8 @@ pub fn refusal_reply(alloc: Global, refusal: Refusal) -> Result<Reply, AllocErro
         )?,
         Refusal::Header => String::from_str(alloc, "refused header\n")?,
         Refusal::Call(number, fault) => call_text(alloc, number, fault)?,
+        Refusal::Opening(fault) => opening_text(alloc, fault)?,
+        Refusal::Ended => String::from_str(alloc, "refused debug Ended\n")?,
     };
     Ok(Reply {
         text,
@@ -98,6 +105,17 @@ fn block_text(alloc: Global, fault: BlockFault) -> Result<String, AllocError>
         BlockFault::Digest => "Digest",
     };
     format!(in alloc; "refused block {name}\n")
+}
+
+fn opening_text(alloc: Global, fault: OpenFault) -> Result<String, AllocError>
+    ensures { IfOk result (λ text. string_bytes text ≡ opening_text fault) }
+{
+    let name = match fault {
+        OpenFault::NoEntry => "NoEntry",
+        OpenFault::WrongBase => "WrongBase",
+        OpenFault::NoProgram => "NoProgram",
+    };
+    format!(in alloc; "refused debug {name}\n")
 }
 
 fn check_name(fault: CheckFault) -> &'static str

@@ -1,0 +1,49 @@
+-- A debugger on its way through the program of an entry's call.
+use Rattle.std.specs.Prelude.{◌≡◌, ℕ, Option, Some, None, Ok, Err}
+use Rattle.teal_value.specs.declared.failure.Failure.{Failure}
+use Rattle.teal_value.specs.declared.failure.Failure.TheVariants as failure
+use Rattle.teal_value.specs.declared.fault.Fault.{Fault}
+use Rattle.avm_ledger.specs.declared.header.Header.{Header}
+use Rattle.avm_ledger.specs.Ledgers.{Ledger}
+use Rattle.avm_ledger.specs.Spellings.{ledger_digest}
+use Rattle.avm_items.specs.declared.call_data.CallData.{CallData}
+use Rattle.avm_call.specs.Views.{View}
+use Rattle.avm_block.specs.declared.entry.Entry.{Entry}
+use Rattle.avm_block.specs.Blocks.{Block}
+use Rattle.avm_debug.specs.Debugging.{Debugged, debug_view, steps_shown}
+use Rattle.avm_debug.specs.Opening.{HasProgram, entry_at, ledger_before}
+use Rattle.avm_node.specs.declared.refusal.Refusal.{Refusal}
+use Rattle.avm_node.specs.DebugCommands.{CanGo, Finds, HasNext, view_reply}
+use Rattle.avm_node.specs.Replies.{Reply}
+
+-- where the last step has faulted, no instruction comes next
+abbrev pub IsOver : Ledger → CallData → Header → ℕ → Option Fault → Type 0
+IsOver l call header made None = Unit {0}
+IsOver l call header made (Some f) = HasNext l call header made → ⊥
+
+-- So many steps were made, the last of which may have faulted.
+pub record HasMade (l : Ledger) (call : CallData) (header : Header) (made : ℕ) (now : Option Debugged) : Type 0 where
+  pub steps : ℕ
+  pub fault : Option Fault
+  pub is : now ≡ Some (record { ledger = l; call = call; header = header; steps = steps; fault = fault })
+  pub counted : steps_shown steps fault ≡ made
+  pub can_go : CanGo l call header made
+  pub over : IsOver l call header made fault
+
+-- So many steps of the program of an entry's call were made.
+pub record HasCome (base : Ledger) (b : Block) (number steps : ℕ) (now : Option Debugged) : Type 0 where
+  pub entry : Entry
+  pub there : entry_at b.entries number ≡ Some entry
+  pub same_base : b.base ≡ ledger_digest base
+  pub program : HasProgram (ledger_before base b entry) entry.call
+  pub made : HasMade (ledger_before base b entry) entry.call b.header steps now
+
+-- a refusal is what is found
+abbrev pub IsRefused : Ledger → Block → ℕ → ℕ → Failure Refusal → Type 0
+IsRefused base b number steps failure.Memory = Unit {0}
+IsRefused base b number steps (failure.Fault why) = Finds (base, b) number steps (Err why)
+
+-- the answer with what a debugger shows
+abbrev pub ShowsReply : Option Debugged → Reply → Type 0
+ShowsReply None reply = ⊥
+ShowsReply (Some d) reply = (v : View) × (debug_view d ≡ Some v) × (reply ≡ view_reply (Ok v))
