@@ -1,4 +1,3 @@
-use Rattle.std.proofs.Common.{◌∙◌, refl}
 use Rattle.avm_node.proofs.CommandNames.{if_ok, with_shape}
 use Rattle.avm_node.proofs.command_line.command_line.Goals as goal
 
