@@ -1,7 +1,5 @@
 -- What is answered to calls of which a block is made.
-use Rattle.std.proofs.Common.{◌≡◌, ◌∙◌, true, zero, suc, ℕ, ◌+◌, ◌<◌, ◌≤◌, ◌++◌, List, [], ◌∷◌, length, length-append, take, Option, Some, None, refl, sym, ap, min, ◌⊎◌, inl, inr, arith}
-use Rattle.std.specs.List.{AllByRecursion}
-use Rattle.std.proofs.lemmas.List.{length-take}
+use Rattle.std.proofs.Common.{◌≡◌, ◌∙◌, true, ℕ, ◌+◌, ◌<◌, List, [], ◌∷◌, length, Some, None, refl, sym, ap, inl, inr}
 use Rattle.std.proofs.lemmas.Bool.{cases_lt}
 use Rattle.teal_value.specs.declared.failure.Failure.TheVariants as failure
 use Rattle.teal_table.specs.declared.opcode.Opcode.{Opcode}
@@ -17,7 +15,7 @@ use Rattle.avm_pool.specs.declared.pool_fault.PoolFault.{PoolFault}
 use Rattle.avm_pool.specs.declared.pool_fault.PoolFault.TheVariants as fault
 use Rattle.avm_pool.specs.Refusals.{AreFull, HasWorkers, IsFirstMissing, IsRefusal}
 use Rattle.avm_node.specs.ProposeCommands.{IsPoolFault, most_calls}
-use Rattle.avm_node.specs.WorkerSets.{AreSets, AreWorkerSets}
+use Rattle.avm_node.specs.WorkerSets.{AreWorkerSets}
 
 within_three : (needed : Profile) → is_within needed profile.Three ≡ true
 within_three profile.Two = refl
@@ -55,26 +53,3 @@ module _ {O : Type 0} (opcode : O → Opcode) where
       absurd cc
   pool_faults sets own header calls are three fault.Spawn h = h.workers.calls_few
   pool_faults sets own header calls are three fault.ClockEnd h = h.workers.calls_few
-
-  last_is_full : (sets : List (Slots O)) (own : Slots O) → AllByRecursion (IsFull opcode) (sets ++ own ∷ []) → IsFull opcode own
-  last_is_full [] own all = all.0
-  last_is_full (set ∷ sets) own all = last_is_full sets own all.1
-
-  first_are_full : (n : ℕ) (sets : List (Slots O)) (own : Slots O) → AllByRecursion (IsFull opcode) (sets ++ own ∷ []) → AreFull opcode (take n sets) own
-  first_are_full zero sets own all = last_is_full sets own all
-  first_are_full (suc n) [] own all = all.0
-  first_are_full (suc n) (set ∷ sets) own all = (all.0, first_are_full n sets own all.1)
-
-  pub own_is_full : (all sets : List (Slots O)) (own : Slots O) → AreSets opcode all → all ≡ sets ++ own ∷ [] → IsFull opcode own
-  own_is_full all sets own are e = last_is_full sets own (rw e at are.full)
-
-  -- of nine sets the first for the workers, and the last
-  pub worker_sets : (n : ℕ) (all sets given : List (Slots O)) (own : Slots O) → AreSets opcode all → all ≡ sets ++ own ∷ [] → given ≡ take n sets → (0 < n) × (n ≤ 8) → AreWorkerSets opcode given own
-  worker_sets n all sets given own are e taken range =
-      let count : length sets ≡ 8 = omega (arith, are.count, ap length e, length-append sets (own ∷ [])) in
-      let some : length given ≡ min n 8 = ap length taken ∙ length-take n sets ∙ ap (min n) count in
-      record {
-        some = omega (arith, some, range.0);
-        few = omega (arith, some);
-        full = rw taken (first_are_full n sets own (rw e at are.full));
-      }

@@ -1,5 +1,5 @@
 -- The sets of objects that the program makes, and those that workers are given.
-use Rattle.std.specs.Prelude.{◌≡◌, ℕ, ◌<◌, ◌≤◌, List, length}
+use Rattle.std.specs.Prelude.{◌≡◌, ◌<◌, ◌≤◌, List, length}
 use Rattle.std.specs.List.{AllByRecursion}
 use Rattle.teal_table.specs.declared.opcode.Opcode.{Opcode}
 use Rattle.avm_ops.specs.Objects.{IsFull, Slots}

@@ -52,6 +52,16 @@ pub fn command_in<'a>(
     }
 }
 
+/// How many workers words of `propose` ask for; of other words nothing.
+pub fn workers_of(command: Option<NodeCommand>) -> Option<u8>
+    ensures { result ≡ workers_of command }
+{
+    match command {
+        Some(NodeCommand::Propose(workers)) => Some(workers),
+        _ => None,
+    }
+}
+
 fn is_out_of_memory(error: &Error) -> bool
     ensures { IsTrue result ↔ (kind_of error.now ≡ ErrorKind.OutOfMemory) }
 {

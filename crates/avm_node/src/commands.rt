@@ -9,7 +9,7 @@ ghost use Rattle.avm_node.specs.Shown.{shown};
 
 use crate::asm::{asm_reply, input_refusal};
 use crate::block_commands::{replay_reply, state_reply};
-use crate::command_line::{NodeCommand, command_in};
+use crate::command_line::{NodeCommand, command_in, workers_of};
 use crate::debug_command::debug_reply;
 use crate::input::{INPUT_LIMIT, read_input};
 use crate::output::{FAILED, Reply, USAGE, write_reply};
@@ -45,16 +45,6 @@ pub fn answer<'a, R: Read, W: Write>(
             None => Some(answer_to(alloc, command, reader, writer, ops)),
         },
         Err(_) => Some(FAILED),
-    }
-}
-
-/// How many workers words of `propose` ask for; of other words nothing.
-pub(crate) fn workers_of(command: Option<NodeCommand>) -> Option<u8>
-    ensures { result ≡ workers_of command }
-{
-    match command {
-        Some(NodeCommand::Propose(workers)) => Some(workers),
-        _ => None,
     }
 }
 

@@ -29,7 +29,7 @@ pub enum Refusal {
     Block(BlockFault),
     /// There is no ledger of the past.
     State(StateFault),
-    /// The header has not 40 bytes.
+    /// The line for the header has more or fewer than its 40 bytes.
     Header,
     /// The call of this number, counted from 1, has this fault.
     Call(usize, CallLineFault),

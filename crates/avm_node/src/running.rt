@@ -8,8 +8,8 @@ ghost use Rattle.avm_node.specs.Shown.{shown};
 ghost use Rattle.avm_node.specs.WorkerSets.{AreSets, AreWorkerSets};
 
 use crate::asm::input_refusal;
-use crate::command_line::command_in;
-use crate::commands::{answer_to, workers_of};
+use crate::command_line::{command_in, workers_of};
+use crate::commands::answer_to;
 use crate::input::{INPUT_LIMIT, read_input};
 use crate::output::{FAILED, Reply, write_reply};
 use crate::propose_command::propose_reply;
