@@ -112,20 +112,19 @@ fn command_line<'a>(alloc: Global) -> Result<Command<'a>, AllocError>
     ensures { IfOk result (λ command. app_of command ≡ command_line) }
 {
     let asm = Command::new(alloc, "asm");
+    let with_asm = bare_line(alloc).subcommand(asm)?;
     let dis = Command::new(alloc, "dis");
+    let with_dis = with_asm.subcommand(dis)?;
     let check = Command::new(alloc, "check");
+    let with_check = with_dis.subcommand(check)?;
     let replay = Command::new(alloc, "replay");
+    let with_replay = with_check.subcommand(replay)?;
     let debug = debug_line(alloc)?;
+    let with_debug = with_replay.subcommand(debug)?;
     let state = state_line(alloc)?;
+    let with_state = with_debug.subcommand(state)?;
     let propose = propose_line(alloc)?;
-    bare_line(alloc)
-        .subcommand(asm)?
-        .subcommand(dis)?
-        .subcommand(check)?
-        .subcommand(replay)?
-        .subcommand(debug)?
-        .subcommand(state)?
-        .subcommand(propose)
+    with_state.subcommand(propose)
 }
 
 /// The program without its commands.
