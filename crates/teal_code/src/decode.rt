@@ -62,7 +62,7 @@ fn instr_of(alloc: Global, version: Version, bytes: &[u8]) -> Result<(Instr, &[u
     let (code, rest) = byte_of(bytes)?;
     match opcode_in(version, code) {
         Some(opcode) => {
-            let (immediates, rest) = immediates_of(alloc, opcode.row().immediates, rest)?;
+            let (immediates, rest) = immediates_of(alloc, opcode.immediates(), rest)?;
             Ok((Instr { opcode, immediates }, rest))
         }
         None => Err(Failure::Fault(CodeFault::UnknownOp)),

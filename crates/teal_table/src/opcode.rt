@@ -1,7 +1,9 @@
 //! The opcodes of versions 2 and 3.
 
 ghost use Rattle.std.specs.Prelude.{◌≡◌, Some, IfSome};
-ghost use Rattle.teal_table.specs.Table.{opcode_at, code_of};
+ghost use Rattle.teal_table.specs.Table.{opcode_at, code_of, row_of};
+
+use crate::shape::{Shape, Version};
 
 /// An instruction of the opcode table (AVM specification, version 2 and 3 opcodes, application mode), in the order of
 /// the codes. What an opcode means is in its [`Row`], and what it does in the crates above.
@@ -93,11 +95,149 @@ impl Opcode {
         opcode_of(code)
     }
 
-    /// Its byte in a program.
+    /// Its byte in a program. It stands here beside its row: a row is several words to write, and an instruction needs
+    /// the byte alone.
+    #[tactic(auto, unfolding(crate::specs::Table::row_of))]
     pub fn code(self) -> u8
         ensures { result ≡ code_of self }
     {
-        self.row().code
+        match self {
+            Opcode::Err => 0x00,
+            Opcode::Sha256 => 0x01,
+            Opcode::Sha512_256 => 0x03,
+            Opcode::Add => 0x08,
+            Opcode::Subtract => 0x09,
+            Opcode::Divide => 0x0a,
+            Opcode::Multiply => 0x0b,
+            Opcode::Less => 0x0c,
+            Opcode::Greater => 0x0d,
+            Opcode::LessOrEqual => 0x0e,
+            Opcode::GreaterOrEqual => 0x0f,
+            Opcode::And => 0x10,
+            Opcode::Or => 0x11,
+            Opcode::Equal => 0x12,
+            Opcode::NotEqual => 0x13,
+            Opcode::Not => 0x14,
+            Opcode::Len => 0x15,
+            Opcode::Itob => 0x16,
+            Opcode::Btoi => 0x17,
+            Opcode::Remainder => 0x18,
+            Opcode::BitOr => 0x19,
+            Opcode::BitAnd => 0x1a,
+            Opcode::BitXor => 0x1b,
+            Opcode::BitNot => 0x1c,
+            Opcode::Mulw => 0x1d,
+            Opcode::Addw => 0x1e,
+            Opcode::Intcblock => 0x20,
+            Opcode::Intc => 0x21,
+            Opcode::Intc0 => 0x22,
+            Opcode::Intc1 => 0x23,
+            Opcode::Intc2 => 0x24,
+            Opcode::Intc3 => 0x25,
+            Opcode::Bytecblock => 0x26,
+            Opcode::Bytec => 0x27,
+            Opcode::Bytec0 => 0x28,
+            Opcode::Bytec1 => 0x29,
+            Opcode::Bytec2 => 0x2a,
+            Opcode::Bytec3 => 0x2b,
+            Opcode::Txn => 0x31,
+            Opcode::Global => 0x32,
+            Opcode::Gtxn => 0x33,
+            Opcode::Load => 0x34,
+            Opcode::Store => 0x35,
+            Opcode::Txna => 0x36,
+            Opcode::Gtxna => 0x37,
+            Opcode::Gtxns => 0x38,
+            Opcode::Gtxnsa => 0x39,
+            Opcode::Bnz => 0x40,
+            Opcode::Bz => 0x41,
+            Opcode::B => 0x42,
+            Opcode::Return => 0x43,
+            Opcode::Assert => 0x44,
+            Opcode::Pop => 0x48,
+            Opcode::Dup => 0x49,
+            Opcode::Dup2 => 0x4a,
+            Opcode::Dig => 0x4b,
+            Opcode::Swap => 0x4c,
+            Opcode::Select => 0x4d,
+            Opcode::Concat => 0x50,
+            Opcode::Substring => 0x51,
+            Opcode::Substring3 => 0x52,
+            Opcode::Getbit => 0x53,
+            Opcode::Setbit => 0x54,
+            Opcode::Getbyte => 0x55,
+            Opcode::Setbyte => 0x56,
+            Opcode::AppOptedIn => 0x61,
+            Opcode::AppLocalGet => 0x62,
+            Opcode::AppLocalGetEx => 0x63,
+            Opcode::AppGlobalGet => 0x64,
+            Opcode::AppGlobalGetEx => 0x65,
+            Opcode::AppLocalPut => 0x66,
+            Opcode::AppGlobalPut => 0x67,
+            Opcode::AppLocalDel => 0x68,
+            Opcode::AppGlobalDel => 0x69,
+            Opcode::Pushbytes => 0x80,
+            Opcode::Pushint => 0x81,
+        }
+    }
+
+    /// What stands behind its byte, as its row says.
+    #[tactic(auto, unfolding(crate::specs::Table::row_of))]
+    pub fn immediates(self) -> Shape
+        ensures { result ≡ (row_of self).immediates }
+    {
+        match self {
+            Opcode::Intcblock => Shape::UintBlock,
+            Opcode::Intc | Opcode::Bytec | Opcode::Load | Opcode::Store | Opcode::Dig =>
+                Shape::Index,
+            Opcode::Bytecblock => Shape::ByteBlock,
+            Opcode::Txn => Shape::TxnField,
+            Opcode::Global => Shape::GlobalField,
+            Opcode::Gtxn => Shape::GroupField,
+            Opcode::Txna => Shape::ArrayField,
+            Opcode::Gtxna => Shape::GroupArrayField,
+            Opcode::Gtxns => Shape::StackField,
+            Opcode::Gtxnsa => Shape::StackArrayField,
+            Opcode::Bnz | Opcode::Bz | Opcode::B => Shape::Offset,
+            Opcode::Substring => Shape::Bounds,
+            Opcode::Pushbytes => Shape::Bytes,
+            Opcode::Pushint => Shape::Uint,
+            _ => Shape::Nothing,
+        }
+    }
+
+    /// What it adds to a program's cost, as its row says.
+    #[tactic(auto, unfolding(crate::specs::Table::row_of))]
+    pub fn cost(self) -> u8
+        ensures { result ≡ (row_of self).cost }
+    {
+        match self {
+            Opcode::Sha256 => 35,
+            Opcode::Sha512_256 => 45,
+            _ => 1,
+        }
+    }
+
+    /// The version of programs that it came with, as its row says.
+    #[tactic(auto, unfolding(crate::specs::Table::row_of))]
+    pub fn version(self) -> Version
+        ensures { result ≡ (row_of self).version }
+    {
+        match self {
+            Opcode::Gtxns
+            | Opcode::Gtxnsa
+            | Opcode::Assert
+            | Opcode::Dig
+            | Opcode::Swap
+            | Opcode::Select
+            | Opcode::Getbit
+            | Opcode::Setbit
+            | Opcode::Getbyte
+            | Opcode::Setbyte
+            | Opcode::Pushbytes
+            | Opcode::Pushint => Version::Three,
+            _ => Version::Two,
+        }
     }
 }
 

@@ -198,7 +198,7 @@ pub fn opcode_in(version: Version, code: u8) -> Option<Opcode>
     ensures { result ≡ opcode_in version code }
 {
     match Opcode::of(code) {
-        Some(opcode) if version.has(opcode.row().version) => Some(opcode),
+        Some(opcode) if version.has(opcode.version()) => Some(opcode),
         _ => None,
     }
 }
