@@ -1,7 +1,7 @@
 //! Items put into a ledger.
 
 ghost use Rattle.std.specs.Prelude.{◌≡◌, ◌++◌, [], false, IfErr, IfOk};
-ghost use Rattle.avm_ledger.specs.Ledgers.{Ledger as LedgerMaps};
+ghost use Rattle.avm_ledger.specs.Ledgers.{IsOrderly, Ledger as LedgerMaps};
 ghost use Rattle.avm_items.specs.declared.item_value.ItemValue.TheVariants.{Absent};
 ghost use Rattle.avm_items.specs.Items.{IsInItemOrder};
 ghost use Rattle.avm_items.specs.LedgerItems.{at, put, put_one};
@@ -10,11 +10,12 @@ ghost use Rattle.avm_items.specs.Putting.{AllPutBack, CanPutBack, ChangePutBack,
 use crate::item::Item;
 use crate::item_map::ItemMap;
 use crate::item_value::ItemValue;
-use avm_ledger::Ledger;
+use avm_ledger::{Ledger, OpenLedger};
 use std::alloc::{AllocError, Global};
+use std::mem;
 
 /// Takes an item out.
-fn remove(ledger: &mut Ledger, item: &Item)
+fn remove(ledger: &mut OpenLedger, item: &Item)
     ensures { ledger.new ≡ put_one ledger.old item.now Absent }
 {
     match item {
@@ -35,7 +36,7 @@ fn remove(ledger: &mut Ledger, item: &Item)
 /// kind than the item's and nothing is set.
 fn set(
     alloc: Global,
-    ledger: &mut Ledger,
+    ledger: &mut OpenLedger,
     item: &Item,
     value: ItemValue,
 ) -> Result<Option<ItemValue>, AllocError>
@@ -72,7 +73,7 @@ fn set(
 }
 
 /// Puts the old value of an item back.
-fn put_back(alloc: Global, ledger: &mut Ledger, item: &Item, old: ItemValue)
+fn put_back(alloc: Global, ledger: &mut OpenLedger, item: &Item, old: ItemValue)
     ensures { CanPutBack ledger.old (item.now, old) → ledger.new ≡ put_one ledger.old item.now old }
 {
     if let ItemValue::Absent = old {
@@ -83,7 +84,7 @@ fn put_back(alloc: Global, ledger: &mut Ledger, item: &Item, old: ItemValue)
 }
 
 /// Puts the old values of items back, the last one first.
-fn put_all_back(alloc: Global, ledger: &mut Ledger, changes: Vec<(Item, ItemValue)>)
+fn put_all_back(alloc: Global, ledger: &mut OpenLedger, changes: Vec<(Item, ItemValue)>)
     ensures { (before : LedgerMaps) → AllPutBack ledger.old changes.items before → ledger.new ≡ before }
 {
     let mut changes = changes;
@@ -93,7 +94,7 @@ fn put_all_back(alloc: Global, ledger: &mut Ledger, changes: Vec<(Item, ItemValu
 }
 
 /// Takes items out.
-fn remove_all(ledger: &mut Ledger, items: &[Item])
+fn remove_all(ledger: &mut OpenLedger, items: &[Item])
     ensures { ledger.new ≡ without_all ledger.old items.now }
 {
     for item in items {
@@ -105,7 +106,7 @@ fn remove_all(ledger: &mut Ledger, items: &[Item])
 /// refused, `changes` still has what leads back.
 fn change(
     alloc: Global,
-    ledger: &mut Ledger,
+    ledger: &mut OpenLedger,
     item: Item,
     value: ItemValue,
     changes: &mut Vec<(Item, ItemValue)>,
@@ -133,7 +134,7 @@ fn change(
 /// Sets items, and keeps those that are to be absent.
 fn change_all(
     alloc: Global,
-    ledger: &mut Ledger,
+    ledger: &mut OpenLedger,
     items: ItemMap,
     changes: &mut Vec<(Item, ItemValue)>,
     absent: &mut Vec<Item>,
@@ -149,10 +150,10 @@ fn change_all(
     Ok(())
 }
 
-/// Puts items into a ledger, without a copy of a value. Each takes logarithmic time.
+/// Puts items into an open ledger, without a copy of a value. Each takes logarithmic time.
 ///
 /// First all is set that is not to be absent, since only that can want memory; then what is to be absent is taken out.
-pub fn put_items(alloc: Global, ledger: &mut Ledger, items: ItemMap) -> Result<(), AllocError>
+pub fn put_open(alloc: Global, ledger: &mut OpenLedger, items: ItemMap) -> Result<(), AllocError>
     ensures put { IfOk result (λ _. ledger.new ≡ put ledger.old items) }
     ensures unchanged { IfErr result (λ _. ledger.new ≡ ledger.old) }
 {
@@ -166,4 +167,25 @@ pub fn put_items(alloc: Global, ledger: &mut Ledger, items: ItemMap) -> Result<(
     }
     remove_all(ledger, absent.as_slice());
     Ok(())
+}
+
+/// Puts items into a ledger, as [`put_open`] does.
+///
+/// What is put leaves a ledger: no application has the next id or one above it.
+pub fn put_items(alloc: Global, ledger: &mut Ledger, items: ItemMap) -> Result<(), AllocError>
+    requires { IsOrderly (put ledger.old items) }
+    ensures put { IfOk result (λ _. ledger.new ≡ put ledger.old items) }
+    ensures unchanged { IfErr result (λ _. ledger.new ≡ ledger.old) }
+{
+    let mut open = mem::replace(ledger, Ledger::new(alloc)).open();
+    match put_open(alloc, &mut open, items) {
+        Ok(()) => {
+            *ledger = open.close();
+            Ok(())
+        }
+        Err(refused) => {
+            *ledger = open.close();
+            Err(refused)
+        }
+    }
 }

@@ -3,8 +3,7 @@ use Rattle.std.proofs.Common.{◌≡◌, ℕ, Some, Ok, Err, refl, sym, ap, ◌�
 use Rattle.std.specs.Prelude.{All, unwrap_or, false}
 use Rattle.avm_ledger.specs.declared.application.Application.{Application}
 use Rattle.avm_ledger.specs.declared.header.Header.{Header}
-use Rattle.avm_ledger.specs.Ledgers.{Ledger}
-use Rattle.avm_laws.specs.Orderly.{IsOrderly}
+use Rattle.avm_ledger.specs.Ledgers.{IsOrderly, Ledger}
 use Rattle.avm_items.specs.declared.call_data.CallData.{CallData}
 use Rattle.avm_items.specs.declared.item.Item.{Item}
 use Rattle.avm_items.specs.CallFields.{creates, new_keys}
@@ -23,7 +22,7 @@ use Rattle.avm_laws.proofs.Following.{Follows}
 use Rattle.avm_laws.proofs.FollowedRuns.{Stands, run_stands}
 use Rattle.avm_laws.proofs.FollowedCalls.{Leaves, IsKept, IsTarget, OnTarget, admitted_is, prepared_over, call_leaves}
 use Rattle.avm_laws.proofs.Given.{put_gives}
-use Rattle.avm_laws.proofs.KeptOrder.{next_is_free}
+use Rattle.avm_ledger.proofs.KeptOrder.{next_is_free}
 use Rattle.avm_laws.proofs.Pruned.{are_changes, put_pruned, put_written}
 
 -- ---- nothing more is kept

@@ -54,7 +54,7 @@ use Rattle.avm_laws.proofs.MachineValues
 use Rattle.avm_laws.proofs.MachineValues.{OkOf, IsWord, get_fits, there_fits, zeros_fit, flag_fits}
 use Rattle.avm_laws.proofs.Digests.{sha256_fits, sha512_256_fits}
 use Rattle.avm_laws.proofs.WrittenItems.{Row, OnOk, old_entry, old_counts, limit_of, either, then_test, then_found, then_found_is, entry_by, stands_if_row, foreign_by, may_put_by}
-use Rattle.avm_laws.proofs.KeptOrder.{application_rules}
+use Rattle.avm_ledger.proofs.KeptOrder.{application_rules}
 use Rattle.avm_laws.proofs.Tests.{both}
 
 -- ---- what a row is given, and what it leaves

@@ -37,7 +37,7 @@ use Rattle.avm_laws.proofs.FollowedRuns.{StepsKeep, led, row_stands}
 use Rattle.avm_laws.proofs.FollowedCalls.{IsKept}
 use Rattle.avm_laws.proofs.FittingRows.{Fits, Fit, effect_fits, stored_fits}
 use Rattle.avm_laws.proofs.ProgramValues.{read_fits, uints_fit, byte_strings_fit}
-use Rattle.avm_laws.proofs.KeptOrder.{application_rules, orderly}
+use Rattle.avm_ledger.proofs.KeptOrder.{application_rules, orderly}
 use Rattle.avm_laws.proofs.SoundPuts.{sound_put, led_sound}
 use Rattle.avm_laws.proofs.CallChanges.{leaves, after_is, written_over, put_followed}
 

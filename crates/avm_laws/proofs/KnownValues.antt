@@ -1,8 +1,7 @@
 -- What a run knows of an item is the value that the ledger with its own writes has.
 use Rattle.std.proofs.Common.{◌≡◌, ℕ, false, Option, None, Some, Ok, refl, sym, ap, ◌∙◌, subst}
 use Rattle.std.specs.Prelude.{is_none, unwrap_or}
-use Rattle.avm_ledger.specs.Ledgers.{Ledger, application_at}
-use Rattle.avm_laws.specs.Orderly.{IsOrderly}
+use Rattle.avm_ledger.specs.Ledgers.{IsOrderly, Ledger, application_at}
 use Rattle.avm_items.specs.declared.item.Item.{Item}
 use Rattle.avm_items.specs.declared.item.Item.TheVariants as item
 use Rattle.avm_items.specs.declared.item_value.ItemValue.{ItemValue}

@@ -7,7 +7,7 @@ use Rattle.avm_ledger.specs.declared.application.Application.{Application}
 use Rattle.avm_ledger.specs.declared.application.StoredApplication.{StoredApplication}
 use Rattle.avm_ledger.specs.declared.header.Header.{Header}
 use Rattle.avm_ledger.specs.Entries.{Entries, with_entry, without_entry}
-use Rattle.avm_ledger.specs.Ledgers.{Ledger, IsInOrder, application_at, with_application, without_application, with_row, with_state}
+use Rattle.avm_ledger.specs.Ledgers.{IsInOrder, IsOrderly, Ledger, application_at, with_application, with_row, with_state, without_application}
 use Rattle.avm_items.specs.declared.call_data.CallData.{CallData}
 use Rattle.avm_items.specs.declared.item.Item.TheVariants as item
 use Rattle.avm_items.specs.declared.item_value.ItemValue.TheVariants as value
@@ -19,7 +19,7 @@ use Rattle.avm_call.specs.Runs.{Position, context_at}
 use Rattle.avm_call.specs.Calls.{created, updated, sender_item, execution}
 use Rattle.avm_items.specs.Items.{ItemMap}
 use Rattle.avm_call.specs.Replay.{ledger_after, replayed}
-use Rattle.avm_laws.specs.Orderly.{EveryCallKeepsOrder, IsLaterLedger, IsOrderly, ReplaysKeepOrder}
+use Rattle.avm_laws.specs.Orderly.{EveryCallKeepsOrder, IsLaterLedger, ReplaysKeepOrder}
 use Rattle.avm_laws.proofs.Along.{along-any}
 use Rattle.avm_laws.proofs.WrittenItems.{Writes, Nothing, SameKind, Counted, Deleted, LocalPut, LocalDeleted, OnOk}
 use Rattle.avm_laws.proofs.FollowedRuns.{led, row_stands}

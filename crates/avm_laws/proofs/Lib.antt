@@ -6,7 +6,6 @@ pub mod Following
 pub mod FollowedRuns
 pub mod FollowedCalls
 pub mod Pruned
-pub mod KeptOrder
 pub mod CallChanges
 pub mod MachineValues
 pub mod Digests
@@ -20,7 +19,6 @@ pub mod QuietRows
 pub mod Accounted
 pub mod AccountedCalls
 pub mod ReadCalls
-pub mod FinishedCalls
 pub mod KnownValues
 pub mod Apart
 pub mod CheckedCalls

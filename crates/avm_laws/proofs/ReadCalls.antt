@@ -8,8 +8,7 @@ use Rattle.std.specs.Map.{keys_of}
 use Rattle.std.specs.declared.cmp.Ordering.TheVariants.{Less}
 use Rattle.std.proofs.lemmas.List.Elements.{All-nil, All-cons, All-contains, All-head, All-tail, Contains-append_left, Contains-append_right, Contains-push}
 use Rattle.avm_ledger.specs.declared.header.Header.{Header}
-use Rattle.avm_ledger.specs.Ledgers.{Ledger}
-use Rattle.avm_laws.specs.Orderly.{IsOrderly}
+use Rattle.avm_ledger.specs.Ledgers.{IsOrderly, Ledger}
 use Rattle.avm_ledger.proofs.Maps.{is_Equal, above_tied, below_none}
 use Rattle.avm_items.specs.declared.call_data.CallData.{CallData}
 use Rattle.avm_items.specs.declared.item.Item.{Item}
@@ -26,7 +25,7 @@ use Rattle.avm_laws.proofs.Given.{found_itself, item_total}
 use Rattle.avm_laws.proofs.WrittenItems.{IsThere}
 use Rattle.avm_laws.proofs.Accounted.{Accounted, if-result}
 use Rattle.avm_laws.proofs.AccountedCalls.{call_accounted}
-use Rattle.avm_laws.proofs.KeptOrder.{next_is_free}
+use Rattle.avm_ledger.proofs.KeptOrder.{next_is_free}
 use Rattle.avm_laws.proofs.CallChanges.{asks_for_none_gone, sorted_writes}
 
 -- ---- a run over what was read, and over a ledger that has it

@@ -40,7 +40,7 @@ use Rattle.avm_laws.proofs.WrittenItems.{Writes, Nothing, SameKind, Counted, Del
 use Rattle.avm_laws.proofs.Following.{the_application, entry_there, counts_there}
 use Rattle.avm_laws.proofs.FollowedRuns.{led}
 use Rattle.avm_laws.proofs.FittingRows.{Fits, stored_fits, local_fits}
-use Rattle.avm_laws.proofs.KeptOrder.{application_rules}
+use Rattle.avm_ledger.proofs.KeptOrder.{application_rules}
 use Rattle.avm_laws.proofs.Tests.{both}
 
 -- ---- all entries, after an insertion and a removal

@@ -3,7 +3,7 @@ use Rattle.std.specs.Prelude.{◌≡◌, ℕ, false, Some, Ok, Err, All, unwrap_
 use Rattle.std.specs.List.{Contains}
 use Rattle.avm_ledger.specs.declared.application.Application.{Application}
 use Rattle.avm_ledger.specs.declared.header.Header.{Header}
-use Rattle.avm_ledger.specs.Ledgers.{Ledger}
+use Rattle.avm_ledger.specs.Ledgers.{IsOrderly, Ledger}
 use Rattle.avm_items.specs.declared.call_data.CallData.{CallData}
 use Rattle.avm_items.specs.declared.item.Item.{Item}
 use Rattle.avm_items.specs.declared.item_value.ItemValue.{ItemValue}
@@ -14,7 +14,6 @@ use Rattle.avm_call.specs.Runs.{path}
 use Rattle.avm_call.specs.Calls.{CallResult, Target, admitted, prepared, execution, call_result}
 use Rattle.avm_call.specs.AskedFor.{AreAskedFor}
 use Rattle.avm_call.specs.Replay.{changes_on, ledger_after}
-use Rattle.avm_laws.specs.Orderly.{IsOrderly}
 
 -- what a call has written after so many steps of its program, over a ledger
 abbrev pub written_after : Ledger → CallData → Header → Target → Application → ℕ → ItemMap

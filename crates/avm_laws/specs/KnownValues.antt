@@ -1,7 +1,7 @@
 -- That what a run knows of an item is the ledger's value. The statement of the law.
 use Rattle.std.specs.Prelude.{◌≡◌, ℕ, Option, Some, Ok}
 use Rattle.avm_ledger.specs.declared.application.Application.{Application}
-use Rattle.avm_ledger.specs.Ledgers.{Ledger}
+use Rattle.avm_ledger.specs.Ledgers.{IsOrderly, Ledger}
 use Rattle.avm_items.specs.declared.item.Item.{Item}
 use Rattle.avm_items.specs.declared.item.Item.TheVariants as item
 use Rattle.avm_items.specs.declared.item_value.ItemValue.{ItemValue}
@@ -13,7 +13,6 @@ use Rattle.avm_items.specs.Asks.{answer_from}
 use Rattle.avm_call.specs.declared.outcome.Ended.{Ended}
 use Rattle.avm_call.specs.Runs.{Position, path}
 use Rattle.avm_call.specs.Calls.{admitted, prepared, execution}
-use Rattle.avm_laws.specs.Orderly.{IsOrderly}
 
 -- What a run knows: over the items read, the call is admitted to a program, and the path of the program has come to a position
 -- with these writes.

@@ -1,7 +1,7 @@
 -- Which look-ups are a ledger's, as those of a store of versions are: what a deleted application leaves there may stay.
 use Rattle.std.specs.Prelude.{◌≡◌, false, Bool, ◌&&◌, nat_lt}
 use Rattle.avm_ledger.specs.declared.header.Header.{Header}
-use Rattle.avm_ledger.specs.Ledgers.{Ledger}
+use Rattle.avm_ledger.specs.Ledgers.{IsOrderly, Ledger}
 use Rattle.avm_items.specs.declared.call_data.CallData.{CallData}
 use Rattle.avm_items.specs.declared.item.Item.{Item}
 use Rattle.avm_items.specs.declared.item.Item.TheVariants as item
@@ -9,7 +9,6 @@ use Rattle.avm_items.specs.Items.{Look}
 use Rattle.avm_items.specs.LedgerItems.{at, is_of_gone}
 use Rattle.avm_items.specs.Asks.{result_over}
 use Rattle.avm_call.specs.Calls.{call_result}
-use Rattle.avm_laws.specs.Orderly.{IsOrderly}
 
 -- the id of an application that was given to one
 abbrev pub was_given : Ledger → Item → Bool

@@ -1,7 +1,6 @@
 pub mod Ledgers
 pub mod Orderly
 pub mod Calls
-pub mod FinishedCalls
 pub mod KnownValues
 pub mod Rules
 pub mod Spellings

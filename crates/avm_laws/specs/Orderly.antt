@@ -2,17 +2,12 @@
 -- that every call keeps that, whatever it is. The statements of the laws.
 use Rattle.std.specs.Prelude.{◌≡◌, ℕ, ◌<◌, ◌≤◌, None, List}
 use Rattle.avm_ledger.specs.declared.header.Header.{Header}
-use Rattle.avm_ledger.specs.Ledgers.{Ledger, IsInOrder, application_at}
+use Rattle.avm_ledger.specs.Ledgers.{IsInOrder, IsOrderly, Ledger, application_at}
 use Rattle.avm_ledger.specs.LedgerRules.{KeepsRules}
 use Rattle.avm_items.specs.declared.call_data.CallData.{CallData}
 use Rattle.avm_call.specs.Replay.{ledger_after, replayed}
 
--- Its maps are in order, and no application has an id that no creation took.
-pub record IsOrderly (l : Ledger) : Type 0 where
-  pub order : IsInOrder l
-  pub below : (id : ℕ) → l.next_id ≤ id → application_at l id ≡ None
-
--- A ledger that keeps the rules is one.
+-- A ledger that keeps the rules is orderly.
 abbrev pub RulesMakeOrderly : Type 0
 RulesMakeOrderly = (l : Ledger) → KeepsRules l → IsOrderly l
 

@@ -3,7 +3,6 @@
 #![tactic(auto)]
 
 pub mod call_laws;
-pub mod finished_laws;
 pub mod ledger_laws;
 pub mod rule_laws;
 pub mod spelling_laws;

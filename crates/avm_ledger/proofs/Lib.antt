@@ -14,3 +14,4 @@ pub mod ApplicationsReading
 pub mod LocalStatesReading
 pub mod LedgerRead
 pub mod ManyReading
+pub mod KeptOrder

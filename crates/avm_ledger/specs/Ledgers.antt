@@ -1,5 +1,5 @@
 -- Ledgers: applications by rising id, local states by rising account and application, and the next id.
-use Rattle.std.specs.Prelude.{◌≡◌, ℕ, ◌+◌, ◌-◌, ◌^◌, ◌==◌, if◌then◌else◌, List, [], Option, Some, None, option_and_then, Result, Ok, Err}
+use Rattle.std.specs.Prelude.{◌≡◌, ◌≤◌, ℕ, ◌+◌, ◌-◌, ◌^◌, ◌==◌, if◌then◌else◌, List, [], Option, Some, None, option_and_then, Result, Ok, Err}
 use Rattle.std.specs.Ordering.{nat_cmp, ordering_then}
 use Rattle.std.specs.declared.cmp.Ordering.{Ordering}
 use Rattle.std.specs.Map.{lookup, remove_entry, keys_of}
@@ -68,3 +68,8 @@ pub record IsInOrder (l : Ledger) : Type 0 where
   pub applications : IsStrictlySortedBy nat_cmp (keys_of l.applications)
   pub global_states : (id : ℕ) (app : StoredApplication) → application_at l id ≡ Some app → IsInKeyOrder app.state
   pub local_states : IsStrictlySortedBy account_cmp (keys_of l.local_states)
+
+-- Its maps are in order, and no application has an id that no creation took. Every ledger keeps that.
+pub record IsOrderly (l : Ledger) : Type 0 where
+  pub order : IsInOrder l
+  pub below : (id : ℕ) → l.next_id ≤ id → application_at l id ≡ None

@@ -58,7 +58,7 @@ fn ledger_of(alloc: Global, bytes: &[u8]) -> Result<Ledger, LedgerError>
     ensures { Gives (λ l. l) result (ledger_at bytes.now) }
 {
     let parts = parts_of(alloc, bytes)?;
-    Ok(Ledger::from_parts(parts))
+    Ok(Ledger::from_parts(parts.next_id, parts.applications, parts.local_states))
 }
 
 fn put_applications(bytes: &mut Vec<u8>, ledger: &Ledger) -> Result<(), AllocError>

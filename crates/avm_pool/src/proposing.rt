@@ -2,7 +2,6 @@
 
 ghost use Rattle.std.specs.Prelude.{◌≡◌, ◌≤◌, true, [], IfErr, IfOk, None, OnOk, length};
 ghost use Rattle.std.specs.Arc.{arc_value};
-ghost use Rattle.avm_laws.specs.Orderly.{IsOrderly};
 ghost use Rattle.avm_ops.specs.Objects.{IsFull};
 ghost use Rattle.mv_parts.specs.Opening.{open_fault};
 ghost use Rattle.mv_parts.specs.Sealing.{IsOf};
@@ -43,7 +42,6 @@ pub fn propose<G: Gate, R: Threads + Wait + Sync>(
     own_ops: &OpSet,
     gate: &G,
 ) -> Result<Proposal, PoolError>
-    requires { IsOrderly base.now }
     ensures proposal { IfOk result (IsProposal base.now header.now calls.items) }
     ensures may { OnOk result (MayPropose ⟦<BoxedOp as Op>⟧.opcode worker_ops.items own_ops.now header.now calls.items) }
     ensures refused { IfErr result (IsRefusal ⟦<BoxedOp as Op>⟧.opcode worker_ops.items own_ops.now header.now calls.items) }
@@ -65,7 +63,6 @@ fn proposed<G: Gate, R: Threads + Wait + Sync>(
     own_ops: &OpSet,
     gate: &G,
 ) -> Result<Proposal, PoolError>
-    requires orderly { IsOrderly base.now }
     requires full { IsFull ⟦<BoxedOp as Op>⟧.opcode own_ops.now }
     requires opens { open_fault header.now calls.items ≡ None }
     ensures proposal { IfOk result (IsProposal base.now header.now calls.items) }
@@ -101,7 +98,6 @@ fn finish<G: Gate, R: Wait>(
     calls: &Arc<Vec<Call>>,
     own_ops: &OpSet,
 ) -> Result<Proposal, PoolError>
-    requires orderly { IsOrderly base.now }
     requires full { IsFull ⟦<BoxedOp as Op>⟧.opcode own_ops.now }
     requires opens { open_fault shared.now.header.now (arc_value calls.now).items ≡ None }
     ensures proposal { IfOk result (IsProposal base.now shared.now.header.now (arc_value calls.now).items) }
@@ -151,7 +147,6 @@ fn opened(
     header: &Header,
     calls: &Arc<Vec<Call>>,
 ) -> Result<(Journal, Vec<ShardLock>), AllocError>
-    requires orderly { IsOrderly base.now }
     requires opens { open_fault header.now (arc_value calls.now).items ≡ None }
     ensures { IfOk result (λ opened. IsOf opened.0 base.now header.now (arc_value calls.now).items) }
 {

@@ -11,3 +11,4 @@ mod Alive
 mod Leading
 mod Answering
 mod Showing
+pub mod FinishedCalls

@@ -5,3 +5,4 @@ pub mod Progress
 pub mod RunState
 pub mod Advances
 pub mod Showing
+pub mod FinishedCalls

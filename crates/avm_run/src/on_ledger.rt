@@ -11,6 +11,7 @@ use crate::live::{Closed, Live, Ran, run_on};
 use avm_call::{Call, Outcome};
 use avm_cpu::Cpu;
 use avm_items::{item_of, put_items};
+use avm_laws::rule_laws::every_call_keeps_order;
 use avm_ledger::{Header, Ledger};
 use avm_ops::{BoxedOp, Op, OpSet};
 use std::alloc::{AllocError, Global};
@@ -35,6 +36,9 @@ pub fn call_on(
     let closed = run_over(alloc, ledger, call, header, ops, spare)?;
     let mut writes = closed.writes;
     writes.prune_by(ledger);
+    // What the call leaves is a ledger.
+    ledger.holds();
+    every_call_keeps_order();
     put_items(alloc, ledger, writes)?;
     Ok(closed.outcome)
 }

@@ -405,10 +405,14 @@ fn one_application(
     let approval = check(alloc, bytes_of(alloc, approval)?.as_slice())?;
     let clear = check(alloc, bytes_of(alloc, clear)?.as_slice())?;
     ledger.create(alloc, NOBODY, &approval, &clear, TWO_UINTS, TWO_UINTS)?;
-    if is_in {
-        ledger.set_local_state(NOBODY, 1, State::new(alloc))?;
+    if !is_in {
+        return Ok(ledger);
     }
-    Ok(ledger)
+    let mut ledger = ledger.open();
+    ledger.set_local_state(NOBODY, 1, State::new(alloc))?;
+    // Its maps are in order.
+    let _next_id = ledger.next_id();
+    Ok(ledger.close())
 }
 
 /// A number put into the local state, and a rejection: the sender does not opt in.

@@ -1,6 +1,6 @@
 //! Ledgers that are made, changed and read back.
 
-use avm_items::{Item, ItemMap, ItemValue, item_of, put_items};
+use avm_items::{Item, ItemMap, ItemValue, item_of, put_open};
 use avm_ledger::{IdsEnd, Ledger, Schema, State};
 use std::alloc::Global;
 use std::test::Fail;
@@ -31,8 +31,8 @@ fn one_application(alloc: Global) -> Result<Ledger, Fail> {
     Ok(ledger)
 }
 
-fn uint_at(ledger: &Ledger, id: u64, key: &StateKey) -> Option<u64> {
-    match ledger.global_value(id, key) {
+fn uint_in(state: Option<&State>, key: &StateKey) -> Option<u64> {
+    match state?.get(key) {
         Some(Value::Uint(number)) => Some(*number),
         _ => None,
     }
@@ -59,15 +59,21 @@ fn creations_take_the_next_ids(rt: HostRuntime) -> Result<(), Fail> {
     Ok(())
 }
 
+/// A ledger without applications, of this next id.
+fn ledger_before(alloc: Global, id: u64) -> Ledger {
+    let mut ledger = Ledger::new(alloc).open();
+    ledger.set_next_id(id);
+    ledger.close()
+}
+
 #[test]
 fn the_last_number_is_no_id(rt: HostRuntime) -> Result<(), Fail> {
     let alloc = rt.alloc();
-    let mut ledger = Ledger::new(alloc);
     let program = program(alloc)?;
-    ledger.set_next_id(u64::MAX);
+    let mut ledger = ledger_before(alloc, u64::MAX);
     let refused = ledger.create(alloc, ZERO_ADDRESS, &program, &program, NO_ENTRY, NO_ENTRY);
     assert_eq!(rt; refused, Err(Failure::Fault(IdsEnd::IdsEnd)));
-    ledger.set_next_id(u64::MAX - 1);
+    let mut ledger = ledger_before(alloc, u64::MAX - 1);
     let last = ledger.create(alloc, ZERO_ADDRESS, &program, &program, NO_ENTRY, NO_ENTRY)?;
     assert_eq!(rt; last, u64::MAX - 1);
     assert_eq!(rt; ledger.next_id(), u64::MAX);
@@ -77,30 +83,28 @@ fn the_last_number_is_no_id(rt: HostRuntime) -> Result<(), Fail> {
 #[test]
 fn keys_are_counted_by_kind(rt: HostRuntime) -> Result<(), Fail> {
     let alloc = rt.alloc();
-    let mut ledger = one_application(alloc)?;
+    let mut ledger = one_application(alloc)?.open();
     ledger.set_key(1, key("n")?, Value::Uint(7))?;
     let bytes = ByteString::from_slice(alloc, b"seven")?;
     ledger.set_key(1, key("m")?, Value::Bytes(bytes))?;
-    assert_eq!(rt; uint_at(&ledger, 1, &key("n")?), Some(7));
+    assert_eq!(rt; uint_in(ledger.global_state(1), &key("n")?), Some(7));
     let counts = ledger.global_state(1).ok_or("its state")?.counts();
     assert_eq!(rt; counts, Schema { uints: 1, bytes: 1 });
     ledger.set_key(1, key("m")?, Value::Uint(8))?;
     let counts = ledger.global_state(1).ok_or("its state")?.counts();
     assert_eq!(rt; counts, Schema { uints: 2, bytes: 0 });
     ledger.remove_key(1, &key("n")?);
-    assert_eq!(rt; uint_at(&ledger, 1, &key("n")?), None);
+    assert_eq!(rt; uint_in(ledger.global_state(1), &key("n")?), None);
     let counts = ledger.global_state(1).ok_or("its state")?.counts();
     assert_eq!(rt; counts, Schema { uints: 1, bytes: 0 });
     Ok(())
 }
 
-/// A copy is its source, and stays when the source changes.
 #[test]
 fn items_are_put_and_taken_out(rt: HostRuntime) -> Result<(), Fail> {
     let alloc = rt.alloc();
-    let mut ledger = one_application(alloc)?;
+    let mut ledger = one_application(alloc)?.open();
     ledger.set_key(1, key("n")?, Value::Uint(7))?;
-    let before = ledger.clone()?;
     let mut items = ItemMap::new(alloc);
     items.insert(Item::Key(1, key("a")?), ItemValue::Key(Value::Uint(1)))?;
     items.insert(Item::Key(1, key("n")?), ItemValue::Absent)?;
@@ -109,16 +113,29 @@ fn items_are_put_and_taken_out(rt: HostRuntime) -> Result<(), Fail> {
         ItemValue::Local(State::new(alloc)),
     )?;
     items.insert(Item::NextApp, ItemValue::NextApp(5))?;
-    put_items(alloc, &mut ledger, items)?;
-    assert_eq!(rt; uint_at(&ledger, 1, &key("a")?), Some(1));
-    assert_eq!(rt; uint_at(&ledger, 1, &key("n")?), None);
+    put_open(alloc, &mut ledger, items)?;
+    assert_eq!(rt; uint_in(ledger.global_state(1), &key("a")?), Some(1));
+    assert_eq!(rt; uint_in(ledger.global_state(1), &key("n")?), None);
     assert_eq!(rt; ledger.next_id(), 5);
     assert!(rt; ledger.local_state(&ZERO_ADDRESS, 1).is_some());
-    assert!(rt; item_of(&ledger, &Item::Counts(1))?.is_same(&ItemValue::Counts(ONE_UINT)));
-    assert!(rt; item_of(&ledger, &Item::App(2))?.is_same(&ItemValue::Absent));
-    assert_eq!(rt; uint_at(&before, 1, &key("n")?), Some(7));
-    assert_eq!(rt; before.next_id(), 2);
-    let row = item_of(&before, &Item::App(1))?;
+    assert!(rt; ledger.remove_application(1).is_some());
+    assert!(rt; ledger.global_state(1).is_none());
+    Ok(())
+}
+
+/// A copy is its source, and stays when the source changes.
+#[test]
+fn copies_stay(rt: HostRuntime) -> Result<(), Fail> {
+    let alloc = rt.alloc();
+    let mut ledger = one_application(alloc)?;
+    let copy = ledger.clone()?;
+    let program = program(alloc)?;
+    ledger.create(alloc, ZERO_ADDRESS, &program, &program, NO_ENTRY, NO_ENTRY)?;
+    assert_eq!(rt; ledger.next_id(), 3);
+    assert_eq!(rt; copy.next_id(), 2);
+    let row = item_of(&copy, &Item::App(1))?;
     assert!(rt; row.is_same(&item_of(&ledger, &Item::App(1))?));
+    assert!(rt; item_of(&copy, &Item::App(2))?.is_same(&ItemValue::Absent));
+    assert!(rt; item_of(&copy, &Item::Counts(1))?.is_same(&ItemValue::Counts(NO_ENTRY)));
     Ok(())
 }

@@ -13,7 +13,7 @@ use Rattle.avm_call.specs.Calls.{CallResult}
 use Rattle.avm_call.specs.Replay.{outcome_on, changes_on, ledger_after, replayed}
 use Rattle.avm_run.specs.Results.{CallRecord, IsFinished}
 use Rattle.avm_laws.specs.LedgerLooks.{IsLookOf, IsOfLedger, was_given}
-use Rattle.avm_laws.proofs.FinishedCalls.{on_ledgers}
+use Rattle.avm_run.proofs.FinishedCalls.{on_ledgers}
 use Rattle.avm_laws.proofs.Given.{item_same}
 use Rattle.mv_history.specs.History as history
 use Rattle.mv_history.specs.History.{Agrees, Replays, lookup_after, state_after}

@@ -4,7 +4,7 @@ use Rattle.std.proofs.Common.{◌≡◌, ℕ, ◌<◌, ◌≤◌, Bool, true, fa
 use Rattle.std.specs.Prelude.{◌&&◌, is_none, unwrap_or}
 use Rattle.avm_ledger.specs.declared.application.StoredApplication.{StoredApplication}
 use Rattle.avm_ledger.specs.declared.header.Header.{Header}
-use Rattle.avm_ledger.specs.Ledgers.{Ledger, application_at}
+use Rattle.avm_ledger.specs.Ledgers.{IsOrderly, Ledger, application_at}
 use Rattle.avm_items.specs.declared.call_data.CallData.{CallData}
 use Rattle.avm_items.specs.declared.item.Item.{Item}
 use Rattle.avm_items.specs.declared.item.Item.TheVariants as item
@@ -15,7 +15,7 @@ use Rattle.avm_items.specs.Asks.{result_over}
 use Rattle.avm_call.specs.Calls.{CallResult, call_result}
 use Rattle.avm_call.specs.Replay.{changes_on, ledger_after}
 use Rattle.avm_laws.specs.LedgerLooks.{IsLookOf, is_of_deleted}
-use Rattle.avm_laws.specs.Orderly.{IsLaterLedger, IsOrderly}
+use Rattle.avm_laws.specs.Orderly.{IsLaterLedger}
 use Rattle.avm_laws.proofs.FollowedCalls.{Leaves}
 use Rattle.avm_laws.proofs.CallChanges.{after_is, leaves}
 use Rattle.avm_laws.proofs.LaterLedgers.{IsLaterAt, begins, later_kept, orderly_after}

@@ -3,7 +3,7 @@ use Rattle.std.proofs.Common.{◌≡◌, ℕ, suc, ◌+◌, Bool, true, false, i
 use Rattle.std.specs.Prelude.{IsSome}
 use Rattle.std.specs.List.{AllByRecursion}
 use Rattle.std.specs.Ordering.{is_eq}
-use Rattle.avm_ledger.specs.Ledgers.{Ledger}
+use Rattle.avm_ledger.specs.Ledgers.{IsOrderly, Ledger}
 use Rattle.avm_ledger.specs.declared.header.Header.{Header}
 use Rattle.std.specs.Cmp.{tied_itself}
 use Rattle.avm_items.specs.declared.call_data.CallData.{CallData}
@@ -11,7 +11,6 @@ use Rattle.avm_items.specs.declared.item.Item.{Item}
 use Rattle.avm_items.specs.declared.item_value.ItemValue.{ItemValue}
 use Rattle.avm_items.specs.LedgerItems.{at}
 use Rattle.avm_call.specs.declared.outcome.Outcome.{Outcome}
-use Rattle.avm_laws.specs.Orderly.{IsOrderly}
 use Rattle.avm_laws.specs.LedgerLooks.{IsLookOf, IsOfLedger}
 use Rattle.avm_laws.proofs.Given.{item_same, item_total}
 use Rattle.avm_laws.proofs.LedgerLooks.{ledgers_are_looks}

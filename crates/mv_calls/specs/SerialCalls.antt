@@ -7,12 +7,11 @@
 use Rattle.std.specs.Prelude.{◌≡◌, ℕ, suc, ◌+◌, ◌≤◌, IsSome, List, map}
 use Rattle.std.specs.List.{AllByRecursion}
 use Rattle.avm_ledger.specs.declared.header.Header.{Header}
-use Rattle.avm_ledger.specs.Ledgers.{Ledger}
+use Rattle.avm_ledger.specs.Ledgers.{IsOrderly, Ledger}
 use Rattle.avm_items.specs.declared.call_data.CallData.{CallData}
 use Rattle.avm_items.specs.declared.item.Item.{Item}
 use Rattle.avm_items.specs.LedgerItems.{at, AgreesWithReads}
 use Rattle.avm_call.specs.Replay.{outcomes, replayed}
-use Rattle.avm_laws.specs.Orderly.{IsOrderly}
 use Rattle.avm_laws.specs.LedgerLooks.{IsLookOf, IsOfLedger}
 use Rattle.mv_history.specs.History.{IsRising, commit_count, entries_below, state_below}
 use Rattle.mv_history.specs.Schedule.{IsConsistent}

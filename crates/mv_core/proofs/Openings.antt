@@ -1,13 +1,12 @@
 -- A store in which nothing has begun keeps what a store keeps.
 use Rattle.std.proofs.Common.{◌≡◌, ℕ, zero, suc, ◌+◌, ◌<◌, List, [], ◌∷◌, ◌++◌, length, length-append, Option, None, Some, get_or, refl, sym, ap, ◌∙◌, subst, arith}
 use Rattle.avm_ledger.specs.declared.header.Header.{Header}
-use Rattle.avm_ledger.specs.Ledgers.{Ledger}
+use Rattle.avm_ledger.specs.Ledgers.{IsOrderly, Ledger}
 use Rattle.avm_items.specs.declared.call_data.CallData.{CallData}
 use Rattle.avm_items.specs.declared.item.Item.{Item}
 use Rattle.avm_items.specs.declared.item_value.ItemValue.{ItemValue}
 use Rattle.avm_items.specs.LedgerItems.{at}
 use Rattle.avm_call.specs.declared.outcome.Outcome.{Outcome}
-use Rattle.avm_laws.specs.Orderly.{IsOrderly}
 use Rattle.mv_history.specs.World.{first_world}
 use Rattle.mv_history.proofs.Events.{schedule_first}
 use Rattle.mv_agreement.specs.Agreement.{HoldsVersions}

@@ -2,7 +2,6 @@
 
 ghost use Rattle.std.specs.Prelude.{◌≡◌, [], None, Some, IfOk, OnOk, replicate};
 ghost use Rattle.std.specs.Arc.{arc_value};
-ghost use Rattle.avm_laws.specs.Orderly.{IsOrderly};
 ghost use Rattle.avm_ops.specs.Objects.{IsFull};
 ghost use Rattle.mv_parts.specs.Opening.{open_fault};
 ghost use Rattle.mv_core.specs.declared.world.Worker.TheVariants.{Idle};
@@ -34,7 +33,6 @@ pub fn run_events(
     events: &[Event],
 ) -> Result<World, AllocError>
     requires full { IsFull ⟦<BoxedOp as Op>⟧.opcode ops.now }
-    requires orderly { IsOrderly base }
     requires opens { open_fault header (arc_value calls).items ≡ None }
     ensures { IfOk result (λ world. IsRun (record { base = base; header = header; calls = (arc_value calls).items }) events.now world) }
 {

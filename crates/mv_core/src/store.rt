@@ -17,7 +17,6 @@ ghost use Rattle.mv_core.specs.declared.faults.ReadFault.TheVariants.{Unknown};
 ghost use Rattle.mv_core.specs.declared.faults.StateFault.TheVariants.{Pruned};
 ghost use Rattle.mv_core.specs.Places.{IsLive};
 ghost use Rattle.std.specs.Arc.{arc_value};
-ghost use Rattle.avm_laws.specs.Orderly.{IsOrderly};
 ghost use Rattle.mv_parts.specs.Opening.{IsOpenRefusal, open_fault};
 ghost use Rattle.mv_core.specs.Calls.{as_journal, first_store};
 ghost use Rattle.mv_core.specs.Commits.{IsCommitRefusal, IsCommitted, MayCommit};
@@ -69,12 +68,12 @@ impl Store {
         header: Header,
         calls: Arc<Vec<Call>>,
     ) -> Result<Store, OpenError>
-        requires { IsOrderly base }
         ensures opened { IfOk result (λ store. store ≡ first_store base header (arc_value calls).items) }
         ensures opens { OnOk result (open_fault header (arc_value calls).items ≡ None) }
         ensures refused { IfErr result (IsOpenRefusal header (arc_value calls).items) }
     {
         let count = calls.len();
+        base.holds();
         match open_parts(alloc, base, header, calls) {
             Ok((journal, held)) => match empty_places(alloc, count) {
                 Ok(attempts) => Ok(Store {

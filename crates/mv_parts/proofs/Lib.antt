@@ -10,3 +10,4 @@ pub mod KeptCommits
 pub mod Counts
 pub mod Seals
 pub mod Agreeing
+pub mod NextLedgers

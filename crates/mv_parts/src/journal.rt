@@ -2,7 +2,7 @@
 
 ghost use Rattle.std.specs.Prelude.{◌≡◌, ◌+◌, ◌↔◌, ◌<◌, ◌≤◌, length, IfOk, IfErr, IfNone, IfSome, IsOk, IsTrue, OnErr, OnOk, None};
 ghost use Rattle.std.specs.Option.{option_copied};
-ghost use Rattle.avm_laws.specs.Orderly.{IsOrderly};
+ghost use Rattle.avm_ledger.specs.Ledgers.{IsOrderly};
 ghost use Rattle.mv_history.specs.World.{after_abandon, after_begin, fresh_attempt, low_after_prune};
 ghost use Rattle.mv_calls.specs.CallHistory.{call_of};
 ghost use Rattle.mv_calls.specs.SerialCalls.{AreOfCalls, AreSerialCalls};

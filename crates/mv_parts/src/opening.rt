@@ -2,7 +2,7 @@
 
 ghost use Rattle.std.specs.Prelude.{◌≡◌, ◌≤◌, ◌+◌, IfErr, IfOk, None, OnOk, length};
 ghost use Rattle.std.specs.Arc.{arc_value};
-ghost use Rattle.avm_laws.specs.Orderly.{IsOrderly};
+ghost use Rattle.avm_ledger.specs.Ledgers.{IsOrderly};
 ghost use Rattle.avm_replay.specs.Plain.{first_beyond};
 ghost use Rattle.mv_parts.specs.Journals.{first_journal};
 ghost use Rattle.mv_parts.specs.Opening.{IsOpenRefusal, first_places as first_held, open_fault};
@@ -26,7 +26,6 @@ pub fn open_parts(
     header: Header,
     calls: Arc<Vec<Call>>,
 ) -> Result<(Journal, Held), OpenError>
-    requires { IsOrderly base }
     ensures journal { IfOk result (λ parts. parts.0 ≡ first_journal base header (arc_value calls).items) }
     ensures shards { IfOk result (λ parts. parts.1 ≡ first_held base) }
     ensures opens { OnOk result (open_fault header (arc_value calls).items ≡ None) }
@@ -35,6 +34,7 @@ pub fn open_parts(
     if let Some(fault) = open_fault(&header, &calls) {
         return Err(Failure::Fault(fault));
     }
+    base.holds();
     match made_parts(alloc, base, header, calls) {
         Ok(parts) => Ok(parts),
         Err(_) => Err(Failure::Memory),

@@ -7,8 +7,8 @@ ghost use Rattle.mv_calls.specs.SerialCalls.{ledger_of};
 
 use crate::entry::Entry;
 use crate::journal::Journal;
-use avm_items::{ItemMap, put_items};
-use avm_ledger::Ledger;
+use avm_items::{ItemMap, put_open};
+use avm_ledger::{Ledger, OpenLedger};
 use std::alloc::{AllocError, Global};
 
 impl Journal {
@@ -18,16 +18,16 @@ impl Journal {
         ensures { IfOk result (λ ledger. ledger ≡ ledger_of self.now.base self.now.header self.now.calls (entries_below (suc timestamp) self.now.world.entries)) }
     {
         self.holds();
-        let mut ledger = Ledger::clone(&self.base)?;
+        let mut ledger = Ledger::clone(&self.base)?.open();
         put_entries(alloc, &mut ledger, &self.entries, timestamp)?;
-        Ok(ledger)
+        Ok(ledger.close())
     }
 }
 
 /// Puts the writes of entries with timestamps up to this one into a ledger, one entry after another.
 fn put_entries(
     alloc: Global,
-    ledger: &mut Ledger,
+    ledger: &mut OpenLedger,
     entries: &[Entry],
     timestamp: u64,
 ) -> Result<(), AllocError>
@@ -42,7 +42,7 @@ fn put_entries(
 /// Puts the writes of an entry into a ledger, unless its timestamp is above this one.
 fn put_entry(
     alloc: Global,
-    ledger: &mut Ledger,
+    ledger: &mut OpenLedger,
     entry: &Entry,
     timestamp: u64,
 ) -> Result<(), AllocError>
@@ -51,7 +51,7 @@ fn put_entry(
     if timestamp < entry.timestamp {
         return Ok(());
     }
-    put_items(alloc, ledger, copy_of(alloc, &entry.writes)?)
+    put_open(alloc, ledger, copy_of(alloc, &entry.writes)?)
 }
 
 /// A copy of items with their values.

@@ -20,6 +20,7 @@ use crate::seal_fault::{RefusedSeal, SealFault};
 use avm_block::{Block, Entry as BlockEntry, outcome_has_place};
 use avm_call::Call;
 use avm_items::put_items;
+use avm_laws::rule_laws::every_call_keeps_order;
 use avm_ledger::{Header, Ledger};
 use std::alloc::{AllocError, Global};
 use teal_value::Failure;
@@ -138,6 +139,9 @@ fn put_all(
 {
     for entry in entries {
         has_place(ledger, header, calls, entry);
+        // What the call leaves is a ledger.
+        ledger.holds();
+        every_call_keeps_order();
         put_items(alloc, ledger, copy_of(alloc, &entry.writes)?)?;
     }
     Ok(())

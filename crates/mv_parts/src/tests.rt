@@ -1,5 +1,3 @@
-ghost use Rattle.avm_laws.specs.Orderly.{IsOrderly};
-
 use super::{BeginFault, Journal, SealFault, open_parts};
 use avm_call::Call;
 use avm_items::{Addresses, CallData, Completion};
@@ -21,15 +19,6 @@ const HEADER: Header = Header {
     min_balance: 0,
     max_life: 0,
 };
-
-// The ledger without applications.
-fn no_applications(alloc: Global) -> Ledger
-    ensures { IsOrderly result }
-{
-    let ledger = Ledger::new(alloc);
-    let _next_id = ledger.next_id();
-    ledger
-}
 
 // A call of application 1.
 fn a_call(alloc: Global) -> Result<Call, Fail> {
@@ -60,7 +49,7 @@ fn a_call(alloc: Global) -> Result<Call, Fail> {
 // A journal of one call.
 fn journal_of_one(alloc: Global) -> Result<Journal, Fail> {
     let calls = Arc::new(alloc, vec![in alloc; a_call(alloc)?]?)?;
-    match open_parts(alloc, no_applications(alloc), HEADER, calls) {
+    match open_parts(alloc, Ledger::new(alloc), HEADER, calls) {
         Ok((journal, _shards)) => Ok(journal),
         Err(_) => Err("one call makes a journal".into()),
     }
@@ -130,13 +119,14 @@ fn a_live_attempt_is_in_the_way_of_a_seal(rt: HostRuntime) -> Result<(), Fail> {
 fn a_journal_is_of_its_own_calls(rt: HostRuntime) -> Result<(), Fail> {
     let alloc = rt.alloc();
     let mut journal = journal_of_one(alloc)?;
-    let base = no_applications(alloc);
+    let base = Ledger::new(alloc);
     let calls = vec![in alloc; a_call(alloc)?]?;
     assert!(rt; journal.is_of(&base, &HEADER, &calls));
     assert!(rt; !journal.is_of(&base, &HEADER, &[]));
     assert!(rt; !journal.is_of(&base, &Header { round: 1, ..HEADER }, &calls));
-    let mut other = no_applications(alloc);
+    let mut other = Ledger::new(alloc).open();
     other.set_next_id(2);
+    let other = other.close();
     assert!(rt; !journal.is_of(&other, &HEADER, &calls));
     assert!(rt; journal.begin(1).is_ok());
     assert!(rt; !journal.is_of(&base, &HEADER, &calls));

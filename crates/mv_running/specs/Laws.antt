@@ -1,7 +1,7 @@
 -- What every list of events comes to. The statements of the laws.
 use Rattle.std.specs.Prelude.{◌≡◌, ◌↔◌, ℕ, true, List, Some, Err}
 use Rattle.std.specs.List.{Contains}
-use Rattle.avm_ledger.specs.Ledgers.{Ledger}
+use Rattle.avm_ledger.specs.Ledgers.{IsOrderly, Ledger}
 use Rattle.avm_items.specs.declared.call_data.CallData.{CallData}
 use Rattle.avm_items.specs.declared.item.Item.{Item}
 use Rattle.avm_items.specs.Items.{value_in}
@@ -9,7 +9,6 @@ use Rattle.avm_items.specs.LedgerItems.{at, AgreesWithReads}
 use Rattle.avm_items.specs.Asks.{answer_from, items_asked}
 use Rattle.avm_call.specs.AskedFor.{AreAskedFor}
 use Rattle.avm_call.specs.Calls.{call_result}
-use Rattle.avm_laws.specs.Orderly.{IsOrderly}
 use Rattle.mv_history.specs.SameWorlds.{IsSameWorld}
 use Rattle.mv_history.specs.World.{IsInTime, attempt_at, greatest_mark}
 use Rattle.mv_calls.specs.CallHistory.{CallAttempt, CallEntry, call_of, same_item}

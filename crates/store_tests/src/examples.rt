@@ -1,14 +1,12 @@
 //! Ledgers and calls that the tests begin with, and the set of all objects.
 
 ghost use Rattle.std.specs.Prelude.{IfOk};
-ghost use Rattle.avm_laws.specs.Orderly.{IsOrderly};
 ghost use Rattle.avm_ops.specs.Objects.{IsFull};
 
 use avm_arith::ArithOp;
 use avm_call::Call;
 use avm_flow_ops::FlowOp;
 use avm_items::{Addresses, CallData, Completion};
-use avm_laws::rule_laws::every_call_keeps_order;
 use avm_ledger::{Header, Ledger, Profile, Schema};
 use avm_ops::{BoxedOp, Op, OpSet, Ops};
 use avm_state_ops::StateOp;
@@ -72,15 +70,9 @@ pub const NO_KEYS: &str =
     000000000000000000000000000f02200101361a00361a00642208672200050220010122020000000000000000";
 
 /// The ledger of these digits.
-pub fn ledger_of(alloc: Global, digits: &str) -> Result<Ledger, Fail>
-    ensures { IfOk result (λ ledger. IsOrderly ledger) }
-{
+pub fn ledger_of(alloc: Global, digits: &str) -> Result<Ledger, Fail> {
     match Ledger::read(alloc, hex::decode(alloc, digits)?.as_slice()) {
-        Ok(ledger) => {
-            // A ledger that keeps the rules is in order, as the law says.
-            every_call_keeps_order();
-            Ok(ledger)
-        }
+        Ok(ledger) => Ok(ledger),
         Err(_) => Err("these bytes are a ledger".into()),
     }
 }

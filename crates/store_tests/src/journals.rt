@@ -3,7 +3,6 @@
 ghost use Rattle.std.specs.Prelude.{◌≡◌, [], IfOk};
 ghost use Rattle.avm_items.specs.declared.item_value.ItemValue.TheVariants.{Absent};
 ghost use Rattle.avm_items.specs.Items.{with_item};
-ghost use Rattle.avm_laws.specs.Orderly.{IsOrderly};
 ghost use Rattle.avm_ops.specs.Objects.{IsFull};
 
 use crate::examples::{
@@ -22,15 +21,6 @@ use std::alloc::{AllocError, Global};
 use std::sync::Arc;
 use std::test::Fail;
 use teal_value::Failure;
-
-// The ledger without applications.
-fn no_applications(alloc: Global) -> Ledger
-    ensures { IsOrderly result }
-{
-    let ledger = Ledger::new(alloc);
-    let _next_id = ledger.next_id();
-    ledger
-}
 
 // The calls: one creation.
 fn one_creation(alloc: Global) -> Result<Arc<Vec<Call>>, Fail> {
@@ -138,7 +128,7 @@ fn first_wrong(alloc: Global, ops: &OpSet) -> Result<Option<&'static str>, Fail>
 {
     let (mut journal, mut held) = match open_parts(
         alloc,
-        no_applications(alloc),
+        Ledger::new(alloc),
         HEADER,
         one_creation(alloc)?,
     ) {
@@ -171,7 +161,7 @@ fn is_sealed(alloc: Global, ops: &OpSet, journal: Journal) -> Result<bool, Fail>
         Ok(sealed) => sealed,
         Err(_) => return Err("no attempt is live".into()),
     };
-    let verdict = replay(alloc, &no_applications(alloc), &sealed.block, ops)?;
+    let verdict = replay(alloc, &Ledger::new(alloc), &sealed.block, ops)?;
     let is_one = sealed.block.entries().len() == 1 && matches!(sealed.numbers.as_slice(), [1]);
     Ok(is_one && matches!(verdict, Verdict::Agrees(_)))
 }
@@ -312,7 +302,7 @@ fn drops_what_is_pruned(alloc: Global, store: &mut Store) -> bool {
 #[test]
 fn a_store_knows_its_tickets(rt: HostRuntime) -> Result<(), Fail> {
     let alloc = rt.alloc();
-    match Store::open(alloc, no_applications(alloc), HEADER, one_creation(alloc)?) {
+    match Store::open(alloc, Ledger::new(alloc), HEADER, one_creation(alloc)?) {
         Ok(mut store) => {
             assert!(rt; knows_its_tickets(&mut store));
             assert!(rt; drops_what_is_pruned(alloc, &mut store));

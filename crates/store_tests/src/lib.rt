@@ -4,6 +4,8 @@
 #[cfg(test)]
 mod creations;
 #[cfg(test)]
+mod debugged;
+#[cfg(test)]
 mod examples;
 #[cfg(test)]
 mod journals;

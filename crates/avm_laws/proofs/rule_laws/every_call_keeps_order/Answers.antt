@@ -1,4 +1,4 @@
-use Rattle.avm_laws.proofs.KeptOrder.{orderly}
+use Rattle.avm_ledger.proofs.KeptOrder.{orderly}
 use Rattle.avm_laws.proofs.LaterLedgers.{every_call_keeps_order, replays_keep_order}
 use Rattle.avm_laws.proofs.rule_laws.every_call_keeps_order.Goals as goal
 

@@ -10,4 +10,4 @@ returns-then-timestamp-entry c = rw (← c.entry.view_is) (pass_one_entry _ c.ar
 pub returns : goal.returns
 returns c =
     rw (← c.entry.view_is)
-    (IfOk-weaker c.put_items.result _ _ (λ done h. h ∙ ap (put c.args.ledger.now) c.in_ok-copy_of.ensures ∙ put_one_entry c.args.ledger.now c.args.timestamp _ c.if-timestamp-entry.false) c.put_items.ensures.put)
+    (IfOk-weaker c.put_open.result _ _ (λ done h. h ∙ ap (put c.args.ledger.now) c.in_ok-copy_of.ensures ∙ put_one_entry c.args.ledger.now c.args.timestamp _ c.if-timestamp-entry.false) c.put_open.ensures.put)

@@ -1,7 +1,6 @@
 -- A call that has ended, on each ledger that has what it read.
 use Rattle.std.proofs.Common.{◌≡◌, Ok, Err, refl, sym, ap, ◌∙◌}
-use Rattle.avm_ledger.specs.Ledgers.{Ledger}
-use Rattle.avm_laws.specs.Orderly.{IsOrderly}
+use Rattle.avm_ledger.specs.Ledgers.{IsOrderly, Ledger}
 use Rattle.avm_items.specs.Items.{value_in}
 use Rattle.avm_items.specs.LedgerItems.{put, AgreesWithReads}
 use Rattle.avm_items.specs.Asks.{Answer, answer_from}
@@ -10,7 +9,7 @@ use Rattle.avm_call.specs.Calls.{CallResult, call_result}
 use Rattle.avm_call.specs.AskedFor.{AreAskedFor}
 use Rattle.avm_call.specs.Replay.{outcome_on, changes_on}
 use Rattle.avm_run.specs.Results.{CallRecord, IsResult, with_changes}
-use Rattle.avm_laws.specs.FinishedCalls.{IsCallOn, IsCallOnLedgers}
+use Rattle.avm_run.specs.FinishedCalls.{IsCallOn, IsCallOnLedgers}
 use Rattle.avm_laws.proofs.ReadCalls.{ends_alike, changes_what_it_read}
 
 result_same : {r s : CallResult} → ◌≡◌ {A = Answer CallResult} (Ok r) (Ok s) → r ≡ s

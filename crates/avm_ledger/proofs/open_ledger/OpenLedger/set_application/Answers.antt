@@ -1,5 +1,5 @@
 use Rattle.avm_ledger.proofs.Changes.{written_row}
-use Rattle.avm_ledger.proofs.ledger.Ledger.set_application.Goals as goal
+use Rattle.avm_ledger.proofs.open_ledger.OpenLedger.set_application.Goals as goal
 
 pub returns-in-Some-clause-set : goal.returns-in-Some-clause-set
 returns-in-Some-clause-set c =

@@ -6,10 +6,10 @@ use Rattle.std.specs.FinMap.{nat_cmp-IsAntisymmetric}
 use Rattle.std.proofs.lemmas.List.Elements.{All-contains}
 use Rattle.std.proofs.lemmas.Map.Views.{Contains-from_lookup}
 use Rattle.avm_ledger.specs.declared.application.StoredApplication.{StoredApplication}
-use Rattle.avm_ledger.specs.Ledgers.{Ledger, application_at, IsInOrder}
+use Rattle.avm_ledger.specs.Ledgers.{Ledger, application_at, IsOrderly}
 use Rattle.avm_ledger.specs.LedgerRules.{IsApplicationBelow, KeepsRules}
 use Rattle.avm_ledger.proofs.Maps.{is_Equal}
-use Rattle.avm_laws.specs.Orderly.{IsOrderly}
+use Rattle.avm_ledger.proofs.LedgerRead.{in_order}
 
 same_id : (x y : ℕ) → is_at (nat_cmp x) y ≡ true → x ≡ y
 same_id x y e = nat_cmp-IsAntisymmetric x y (is_Equal (nat_cmp x y) e)
@@ -19,15 +19,8 @@ pub application_rules : (l : Ledger) (id : ℕ) (app : StoredApplication) → Ke
 application_rules l id app keeps is =
     All-contains (IsApplicationBelow l.next_id) l.applications (id, app) keeps.applications (Contains-from_lookup {eq = λ x y. is_at (nat_cmp x) y} same_id id app l.applications is)
 
-rules_in_order : (l : Ledger) → KeepsRules l → IsInOrder l
-rules_in_order l keeps = record {
-  applications = keeps.rising_ids;
-  global_states = λ id app is. (application_rules l id app keeps is).state.rising;
-  local_states = keeps.rising_accounts;
-}
-
 pub orderly : (l : Ledger) → KeepsRules l → IsOrderly l
-orderly l keeps = record { order = rules_in_order l keeps; below = λ id h. by id h (application_at l id) refl }
+orderly l keeps = record { order = in_order l keeps; below = λ id h. by id h (application_at l id) refl }
   where
     by : (id : ℕ) → l.next_id ≤ id → (a : Option StoredApplication) → application_at l id ≡ a → a ≡ None
     by id h None is = refl

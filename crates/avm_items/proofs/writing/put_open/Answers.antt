@@ -1,7 +1,7 @@
 use Rattle.std.proofs.Common.{subst, sym, ap, refl, ◌∙◌, ◌++◌}
 use Rattle.avm_items.specs.Putting.{AllPutBack, absent_items, without_all}
 use Rattle.avm_items.proofs.Passes.{two_passes}
-use Rattle.avm_items.proofs.writing.put_items.Goals as goal
+use Rattle.avm_items.proofs.writing.put_open.Goals as goal
 
 pub returns-in-Err-clause-unchanged : goal.returns-in-Err-clause-unchanged
 returns-in-Err-clause-unchanged c =

@@ -1,10 +1,9 @@
 -- What a call that has ended is on each ledger that has what it read. The statement of the law.
 use Rattle.std.specs.Prelude.{◌≡◌}
-use Rattle.avm_ledger.specs.Ledgers.{Ledger}
+use Rattle.avm_ledger.specs.Ledgers.{IsOrderly, Ledger}
 use Rattle.avm_items.specs.LedgerItems.{put, AgreesWithReads}
 use Rattle.avm_call.specs.Replay.{outcome_on, changes_on, ledger_after}
 use Rattle.avm_run.specs.Results.{CallRecord}
-use Rattle.avm_laws.specs.Orderly.{IsOrderly}
 
 -- The call ends so on the ledger, and its writes are the changes, so they lead to the ledger after it.
 pub record IsCallOn (l : Ledger) (f : CallRecord) : Type 0 where

@@ -1,6 +1,6 @@
 use Rattle.avm_ledger.specs.Entries.{without_entry}
 use Rattle.avm_ledger.proofs.Changes.{written_in_order, written_state}
-use Rattle.avm_ledger.proofs.ledger.Ledger.remove_key.Goals as goal
+use Rattle.avm_ledger.proofs.open_ledger.OpenLedger.remove_key.Goals as goal
 
 pub invariant_of-self-2 : goal.invariant_of-self-2
 invariant_of-self-2 c =
