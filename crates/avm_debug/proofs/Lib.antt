@@ -11,7 +11,9 @@ pub mod ViewsThere
 pub mod Moving
 pub mod Beginning
 pub mod OpenedEntries
+pub mod OpenedLive
 pub mod Copies
 pub mod Places
 pub mod Shows
 pub mod EntriesBefore
+pub mod CallsBefore

@@ -51,3 +51,4 @@ refuses_met base b number e l header (Err (failure.Fault fault.NoProgram)) met r
 }
 refuses_met base b number e l header (Err (failure.Fault fault.NoEntry)) met refused = absurd refused
 refuses_met base b number e l header (Err (failure.Fault fault.WrongBase)) met refused = absurd refused
+refuses_met base b number e l header (Err (failure.Fault fault.Pruned)) met refused = absurd refused

@@ -8,3 +8,5 @@ pub mod Changes
 pub mod Scratch
 pub mod Shown
 pub mod Laws
+pub mod LiveOpening
+pub mod Sources

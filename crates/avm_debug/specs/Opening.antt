@@ -59,6 +59,7 @@ abbrev pub IsOpenRefusal : Ledger → Block → ℕ → Failure OpenFault → Ty
 IsOpenRefusal base b number (failure.Fault fault.NoEntry) = entry_at b.entries number ≡ None
 IsOpenRefusal base b number (failure.Fault fault.WrongBase) = IsSome (entry_at b.entries number) × (b.base ≢ ledger_digest base)
 IsOpenRefusal base b number (failure.Fault fault.NoProgram) = IsWithoutProgram base b number
+IsOpenRefusal base b number (failure.Fault fault.Pruned) = ⊥
 IsOpenRefusal base b number failure.Memory = IsSome (entry_at b.entries number)
 
 -- ---- the parts of it

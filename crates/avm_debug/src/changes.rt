@@ -7,7 +7,7 @@ ghost use Rattle.avm_call.specs.Views.{state_changes};
 ghost use Rattle.avm_debug.specs.Changes.{change_of_key, changes_seen, gathered, global_entries, is_same_option, local_changes_along, local_seen, of_account, account_changes};
 
 use crate::view::{KeyChange, LocalChange};
-use avm_ledger::{Ledger, State};
+use avm_ledger::{OpenLedger, State};
 use std::alloc::{AllocError, Global};
 use std::collections::BTreeMap;
 use teal_value::{Address, StateKey, Value};
@@ -80,8 +80,8 @@ fn key_changes(alloc: Global, before: &State, after: &State) -> Result<Vec<KeyCh
 /// The keys of an application's global state whose values differ between two ledgers.
 pub(crate) fn global_changes(
     alloc: Global,
-    before: &Ledger,
-    after: &Ledger,
+    before: &OpenLedger,
+    after: &OpenLedger,
     id: u64,
 ) -> Result<Vec<KeyChange>, AllocError>
     ensures { IfOk result (λ changes. changes_seen changes.items ≡ state_changes (global_entries (application_at before.now id)) (global_entries (application_at after.now id))) }
@@ -121,7 +121,7 @@ fn push_all(
 fn push_account(
     alloc: Global,
     changes: &mut Vec<LocalChange>,
-    before: &Ledger,
+    before: &OpenLedger,
     id: u64,
     place: &(Address, u64),
     state: &State,
@@ -143,8 +143,8 @@ fn push_account(
 /// has.
 pub(crate) fn local_changes(
     alloc: Global,
-    before: &Ledger,
-    after: &Ledger,
+    before: &OpenLedger,
+    after: &OpenLedger,
     id: u64,
 ) -> Result<Vec<LocalChange>, AllocError>
     ensures { IfOk result (λ changes. local_seen changes.items ≡ local_changes_along before.now id after.now.local_states) }

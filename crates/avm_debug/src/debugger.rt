@@ -1,146 +1,78 @@
 //! Debuggers.
 
-ghost use Rattle.std.specs.Prelude.{◌≡◌, IfErr, IfOk, None, Some};
+ghost use Rattle.std.specs.Prelude.{◌≡◌, ◌↔◌, IfErr, IfOk, IsErrOf};
+ghost use Rattle.teal_value.specs.declared.failure.Failure.TheVariants.{Fault};
 ghost use Rattle.avm_ops.specs.Objects.{IsFull};
+ghost use Rattle.avm_debug.specs.declared.faults.PastFault.TheVariants.{Pruned, WrongBase};
 ghost use Rattle.avm_debug.specs.DebugSteps.{StepsTo};
 ghost use Rattle.avm_debug.specs.Shown.{IsShown};
-ghost use Rattle.avm_debug.specs.Opening.{HasProgram, IsOpenRefusal, IsOpened, IsStartRefusal};
+ghost use Rattle.avm_debug.specs.Sources.{HasWrongBase, IsOpenedFrom, IsPruned, IsRefusedFrom, past_ledger};
 
-use crate::faults::{OpenError, OpenFault, StepError, StepFault};
-use crate::opening::{entry_of, ledger_before, start_over};
-use crate::prepared::writes_of;
-use crate::stepping::{comes_next, step_over};
-use crate::view::{View, ViewError, ViewFault};
-use crate::viewing::view_at;
-use avm_block::Block;
-use avm_call::Call;
-use avm_items::ItemMap;
-use avm_ledger::{Header, Ledger};
+use crate::faults::{OpenError, PastError, StepError};
+use crate::source::{Source, state_of};
+use crate::stepper::Stepper;
+use crate::view::{View, ViewError};
+use avm_ledger::Ledger;
 use avm_ops::{BoxedOp, Op, OpSet};
-use avm_run::CallRun;
-use std::alloc::{AllocError, Global};
-use std::marker::Model;
-use teal_value::{Failure, Fault};
+use std::alloc::Global;
 
-/// A call that is stepped through over the ledger that it met, which contracts see as that ledger, the call and its
-/// header with the steps made; as none where it is spent.
+/// A call that is stepped through, and the block or store that it is of.
 #[derive(Drop)]
-pub struct Debugger {
-    ledger: Ledger,
-    /// What the call has written before its program.
-    prepared: ItemMap,
-    /// The run of the call, which is let go where memory is refused.
-    run: Option<CallRun>,
-    /// The fault of the step behind those made, where it was tried.
-    fault: Option<Fault>,
+pub struct Debugger<'a> {
+    pub source: Source<'a>,
+    pub stepper: Stepper,
 }
 
-impl Model for Debugger {
-    ghost use Rattle.std.specs.Prelude.{Option};
-    ghost use Rattle.avm_debug.specs.Debugging.{Debugged};
-    ghost use Rattle.avm_debug.specs.DebugRuns.{IsKept, IsPreparedFor, seen};
-
-    ghost Value = { Option Debugged };
-
-    ghost view = { λ d. seen d.ledger d.fault d.run };
-
-    ghost invariant = { λ d. IsKept d.ledger d.fault d.run × IsPreparedFor d.ledger d.prepared d.run };
-}
-
-impl Debugger {
-    /// The call of an entry of a block, before the first instruction of its program, over the ledger that the calls
-    /// before it have led to. That ledger is made here, by a replay of those calls over the ledger before the block.
+impl<'a> Debugger<'a> {
+    /// The call of an entry, before the first instruction of its program, over the ledger that it met.
     ///
-    /// Entries are numbered from 1, by rising timestamp. How the entries say that their calls ended is not compared.
+    /// Entries are numbered from 1, by rising timestamp. How they say that their calls ended is not compared. What a store
+    /// commits later does not show.
     pub fn open(
         alloc: Global,
-        base: &Ledger,
-        block: &Block,
+        source: Source<'a>,
         entry: usize,
         ops: &OpSet,
-    ) -> Result<Debugger, OpenError>
+    ) -> Result<Debugger<'a>, OpenError>
         requires full { IsFull ⟦<BoxedOp as Op>⟧.opcode ops.now }
-        ensures opened { IfOk result (λ debugger. IsOpened base.now block.now entry debugger) }
-        ensures refused { IfErr result (IsOpenRefusal base.now block.now entry) }
+        ensures source { IfOk result (λ debugger. debugger.source ≡ source.entry) }
+        ensures opened { IfOk result (λ debugger. IsOpenedFrom source.entry entry debugger.stepper) }
+        ensures refused { IfErr result (IsRefusedFrom source.entry entry) }
     {
-        match entry_of(block.entries(), entry) {
-            None => Err(Failure::Fault(OpenFault::NoEntry)),
-            Some(entry) => match ledger_before(alloc, base, block, entry, ops) {
-                Ok(ledger) => Debugger::started(alloc, ledger, &entry.call, block.header(), ops),
-                Err(refused) => Err(refused),
-            },
+        let opened = match source {
+            Source::Block(base, block) => Stepper::open_block(alloc, base, block, entry, ops),
+            Source::Live(store) => Stepper::open_live(alloc, store, entry, ops),
+        };
+        match opened {
+            Ok(stepper) => Ok(Debugger { source, stepper }),
+            Err(refused) => Err(refused),
         }
     }
 
-    /// A call before the first instruction of its program.
-    fn started(
-        alloc: Global,
-        ledger: Ledger,
-        call: &Call,
-        header: &Header,
-        ops: &OpSet,
-    ) -> Result<Debugger, OpenError>
-        requires full { IsFull ⟦<BoxedOp as Op>⟧.opcode ops.now }
-        ensures started { IfOk result (λ debugger. debugger ≡ Some (record { ledger = ledger; call = call.now; header = header.now; steps = 0; fault = None })) }
-        ensures program { IfOk result (λ _. HasProgram ledger call.now) }
-        ensures refused { IfErr result (IsStartRefusal ledger call.now) }
-    {
-        let mut run = CallRun::start(alloc, call, header, None)?;
-        match start_over(alloc, ops, &ledger, &mut run) {
-            Ok(true) => match writes_of(alloc, &run) {
-                Ok(prepared) => Ok(Debugger {
-                    ledger,
-                    prepared,
-                    run: Some(run),
-                    fault: None,
-                }),
-                Err(AllocError) => Err(Failure::Memory),
-            },
-            Ok(false) => Err(Failure::Fault(OpenFault::NoProgram)),
-            Err(AllocError) => Err(Failure::Memory),
-        }
-    }
-
-    /// Carries out the instruction that comes next, over the ledger. One that faults leaves place and stack as they
-    /// were, and its fault is shown from then on. It costs what the instruction does.
+    /// Makes a step, as [`Stepper::step`] does.
     pub fn step(&mut self, alloc: Global, ops: &OpSet) -> Result<(), StepError>
         requires full { IsFull ⟦<BoxedOp as Op>⟧.opcode ops.now }
-        ensures { StepsTo self.old self.new result }
+        ensures step { StepsTo self.old.stepper self.new.stepper result }
+        ensures source { self.new.source ≡ self.old.source }
     {
-        let Some(run) = self.run.take() else {
-            return Err(Failure::Fault(StepFault::Spent));
-        };
-        let mut run = run;
-        if !comes_next(self.fault, &run) {
-            self.run = Some(run);
-            return Err(Failure::Fault(StepFault::Ended));
-        }
-        match step_over(alloc, ops, &self.ledger, &mut run) {
-            Ok(fault) => {
-                self.run = Some(run);
-                self.fault = fault;
-                Ok(())
-            }
-            Err(AllocError) => Err(Failure::Memory),
-        }
+        self.stepper.step(alloc, ops)
     }
 
-    /// What stands where the program stands. It makes the ledger before and after what the call has written so far,
-    /// which costs as much as the ledger is large.
+    /// What stands where the program stands, as [`Stepper::view`] shows it.
     pub fn view(&self, alloc: Global) -> Result<View<'_>, ViewError>
-        ensures { IsShown self.now result }
+        ensures { IsShown self.now.stepper result }
     {
-        match &self.run {
-            Some(run) => match run.shown() {
-                Some(shown) => {
-                    match view_at(alloc, &self.ledger, &self.prepared, self.fault, shown) {
-                        Ok(view) => Ok(view),
-                        Err(AllocError) => Err(Failure::Memory),
-                    }
-                }
-                None => unreachable!(),
-            },
-            None => Err(Failure::Fault(ViewFault::Spent)),
-        }
+        self.stepper.view(alloc)
+    }
+
+    /// The ledger after the source's calls with timestamps up to this one, as [`state_of`] gives it.
+    pub fn state(&self, alloc: Global, timestamp: u64, ops: &OpSet) -> Result<Ledger, PastError>
+        requires full { IsFull ⟦<BoxedOp as Op>⟧.opcode ops.now }
+        ensures ledger { IfOk result (λ ledger. ledger ≡ past_ledger self.now.source timestamp) }
+        ensures wrong_base { IsErrOf result (Fault WrongBase) → HasWrongBase self.now.source }
+        ensures same_base { IfOk result (λ _. HasWrongBase self.now.source → ⊥) }
+        ensures pruned { IsErrOf result (Fault Pruned) ↔ IsPruned self.now.source timestamp }
+    {
+        state_of(alloc, self.source, timestamp, ops)
     }
 }

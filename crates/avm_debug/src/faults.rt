@@ -11,6 +11,8 @@ pub enum OpenFault {
     WrongBase,
     /// No program runs: the call is refused, or clears the local state of an application that is gone.
     NoProgram,
+    /// The ledger before the call is below the store's low mark.
+    Pruned = 5,
 }
 
 /// An [`OpenFault`], or want of memory.
@@ -27,3 +29,15 @@ pub enum StepFault {
 
 /// A [`StepFault`], or want of memory.
 pub type StepError = Failure<StepFault>;
+
+/// Why there is no ledger of the past.
+#[derive(Clone, Copy, Debug, PartialEq, Eq)]
+pub enum PastFault {
+    /// The block stands over another ledger.
+    WrongBase = 2,
+    /// The timestamp is below the store's low mark.
+    Pruned = 5,
+}
+
+/// A [`PastFault`], or want of memory.
+pub type PastError = Failure<PastFault>;

@@ -4,8 +4,8 @@ ghost use Rattle.std.specs.Prelude.{◌≡◌, IfOk};
 ghost use Rattle.avm_items.specs.LedgerItems.{put};
 ghost use Rattle.avm_debug.specs.Stepping.{ShowsWrites};
 
-use avm_items::{ItemMap, put_items};
-use avm_ledger::Ledger;
+use avm_items::{ItemMap, put_open};
+use avm_ledger::{Ledger, OpenLedger};
 use avm_run::CallRun;
 use std::alloc::{AllocError, Global};
 
@@ -35,10 +35,24 @@ pub(crate) fn ledger_with(
     alloc: Global,
     ledger: &Ledger,
     items: &ItemMap,
-) -> Result<Ledger, AllocError>
+) -> Result<OpenLedger, AllocError>
     ensures { IfOk result (λ after. after ≡ put ledger.now items.now) }
 {
-    let mut after = ledger.clone()?;
-    put_items(alloc, &mut after, copied(alloc, items)?)?;
+    let mut after = ledger.clone()?.open();
+    put_open(alloc, &mut after, copied(alloc, items)?)?;
+    Ok(after)
+}
+
+/// A copy of a ledger with items set, and then further ones.
+pub(crate) fn ledger_with_both(
+    alloc: Global,
+    ledger: &Ledger,
+    items: &ItemMap,
+    further: &ItemMap,
+) -> Result<OpenLedger, AllocError>
+    ensures { IfOk result (λ after. after ≡ put (put ledger.now items.now) further.now) }
+{
+    let mut after = ledger_with(alloc, ledger, items)?;
+    put_open(alloc, &mut after, copied(alloc, further)?)?;
     Ok(after)
 }

@@ -6,7 +6,7 @@ ghost use Rattle.avm_run.specs.Showing.{sight_of};
 ghost use Rattle.avm_debug.specs.Shown.{next_by, next_seen, view_by, view_seen};
 
 use crate::changes::{global_changes, local_changes};
-use crate::prepared::ledger_with;
+use crate::prepared::{ledger_with, ledger_with_both};
 use crate::scratch::scratch_places;
 use crate::view::{Next, View};
 use avm_items::ItemMap;
@@ -38,7 +38,7 @@ pub(crate) fn view_at<'a>(
     ensures { IfOk result (λ view. view_seen view ≡ view_by ledger.now prepared.now fault (sight_of shown.entry)) }
 {
     let before = ledger_with(alloc, ledger, prepared)?;
-    let after = ledger_with(alloc, &before, shown.writes)?;
+    let after = ledger_with_both(alloc, ledger, prepared, shown.writes)?;
     let scratch = scratch_places(alloc, shown.machine)?;
     let global_changes = global_changes(alloc, &before, &after, shown.application)?;
     let local_changes = local_changes(alloc, &before, &after, shown.application)?;

@@ -80,6 +80,7 @@ abbrev pub opening_name : OpenFault → List ℕ
 opening_name opening.NoEntry = codes "NoEntry"
 opening_name opening.WrongBase = codes "WrongBase"
 opening_name opening.NoProgram = codes "NoProgram"
+opening_name opening.Pruned = codes "Pruned"
 
 abbrev pub opening_text : OpenFault → List ℕ
 opening_text fault = codes "refused debug " ++ (opening_name fault ++ codes "\n")

@@ -12,7 +12,7 @@ use crate::output::{DONE, Reply};
 use crate::refusal::{Refusal, refusal_reply};
 use crate::view_text::view_text;
 use avm_block::Block;
-use avm_debug::{Debugger, StepFault};
+use avm_debug::{Debugger, Source, StepFault};
 use avm_ledger::Ledger;
 use avm_ops::{BoxedOp, Op, OpSet};
 use std::alloc::{AllocError, Global};
@@ -56,16 +56,16 @@ fn found_reply(
 }
 
 /// The call of an entry, so many steps on.
-fn debugger_at(
+fn debugger_at<'a>(
     alloc: Global,
-    ledger: &Ledger,
-    block: &Block,
+    ledger: &'a Ledger,
+    block: &'a Block,
     entry: usize,
     steps: u64,
     ops: &OpSet,
-) -> Result<Debugger, Failure<Refusal>>
+) -> Result<Debugger<'a>, Failure<Refusal>>
     requires full { IsFull ⟦<BoxedOp as Op>⟧.opcode ops.now }
-    ensures come { IfOk result (λ debugger. HasCome ledger.now block.now entry steps debugger) }
+    ensures come { IfOk result (λ debugger. HasCome ledger.now block.now entry steps debugger.stepper) }
     ensures refused { IfErr result (IsRefused ledger.now block.now entry steps) }
 {
     let mut debugger = opened(alloc, ledger, block, entry, ops)?;
@@ -80,26 +80,26 @@ fn debugger_at(
 }
 
 /// The call of an entry, before the first instruction of its program.
-fn opened(
+fn opened<'a>(
     alloc: Global,
-    ledger: &Ledger,
-    block: &Block,
+    ledger: &'a Ledger,
+    block: &'a Block,
     entry: usize,
     ops: &OpSet,
-) -> Result<Debugger, Failure<Refusal>>
+) -> Result<Debugger<'a>, Failure<Refusal>>
     requires full { IsFull ⟦<BoxedOp as Op>⟧.opcode ops.now }
-    ensures opened { IfOk result (λ debugger. IsOpened ledger.now block.now entry debugger) }
+    ensures opened { IfOk result (λ debugger. IsOpened ledger.now block.now entry debugger.stepper) }
     ensures refused { (steps : ℕ) → IfErr result (IsRefused ledger.now block.now entry steps) }
 {
-    match Debugger::open(alloc, ledger, block, entry, ops) {
+    match Debugger::open(alloc, Source::Block(ledger, block), entry, ops) {
         Ok(debugger) => Ok(debugger),
         Err(Failure::Fault(fault)) => Err(Failure::Fault(Refusal::Opening(fault))),
         Err(Failure::Memory) => Err(Failure::Memory),
     }
 }
 
-fn view_reply(alloc: Global, debugger: &Debugger) -> Result<Reply, AllocError>
-    ensures { IfOk result (λ reply. ShowsReply debugger.now (shown reply)) }
+fn view_reply(alloc: Global, debugger: &Debugger<'_>) -> Result<Reply, AllocError>
+    ensures { IfOk result (λ reply. ShowsReply debugger.now.stepper (shown reply)) }
 {
     match debugger.view(alloc) {
         Ok(view) => {

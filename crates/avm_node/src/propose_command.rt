@@ -3,7 +3,6 @@
 ghost use Rattle.std.specs.Prelude.{◌≡◌, ◌++◌, IfOk, OnOk, string_bytes};
 ghost use Rattle.std.specs.List.{flat_map};
 ghost use Rattle.avm_ledger.specs.declared.header.Profile.TheVariants.{Three};
-ghost use Rattle.avm_laws.specs.Orderly.{IsOrderly};
 ghost use Rattle.avm_ops.specs.Objects.{IsFull};
 ghost use Rattle.avm_node.specs.ProposeCommands.{IsPoolReply, IsProposeReply, left_line, pool_name, pool_reply, proposal_reply};
 ghost use Rattle.avm_node.specs.ProposeShown.{seen};
@@ -47,7 +46,6 @@ fn pool_answer<R: Threads + Wait + Sync>(
     sets: Vec<OpSet>,
     own: &OpSet,
 ) -> Result<Reply, AllocError>
-    requires orderly { IsOrderly read.base }
     requires profile { read.header.profile ≡ Three }
     requires sets { AreWorkerSets ⟦<BoxedOp as Op>⟧.opcode sets.items own.now }
     ensures { IfOk result (λ reply. IsPoolReply (seen read) (shown reply)) }

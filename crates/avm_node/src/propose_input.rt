@@ -3,7 +3,6 @@
 ghost use Rattle.std.specs.Prelude.{◌≡◌, IfOk};
 ghost use Rattle.teal_value.specs.Answer.{Gives};
 ghost use Rattle.avm_ledger.specs.declared.header.Profile.TheVariants.{Three};
-ghost use Rattle.avm_laws.specs.Orderly.{IsOrderly};
 ghost use Rattle.avm_node.specs.DigitLines.{DigitLine, digit_lines};
 ghost use Rattle.avm_node.specs.ProposeInputs.{calls_of, first_header, header_of, on_call, propose_input};
 ghost use Rattle.avm_node.specs.CallLines.{checked_call};
@@ -15,7 +14,6 @@ use crate::digit_lines::DigitLines;
 use crate::refusal::Refusal;
 use avm_block::header_codec::header_of as header_in;
 use avm_call::Call;
-use avm_laws::rule_laws::every_call_keeps_order;
 use avm_ledger::{Fields, Header, Ledger, Profile};
 use std::alloc::Global;
 use teal_value::Failure;
@@ -31,12 +29,10 @@ pub struct ProposeInput {
 /// What the lines are, or the first refusal in their order.
 pub fn propose_input(alloc: Global, input: &[u8]) -> Result<ProposeInput, Failure<Refusal>>
     ensures exact { Gives seen result (propose_input (digit_lines input.now)) }
-    ensures orderly { IfOk result (λ read. IsOrderly read.base) }
     ensures profile { IfOk result (λ read. read.header.profile ≡ Three) }
 {
     let mut lines = DigitLines::new(input);
     let base = next_ledger(alloc, &mut lines)?;
-    every_call_keeps_order();
     let header = next_header(alloc, &mut lines)?;
     let calls = calls_of(alloc, lines)?;
     Ok(ProposeInput {

@@ -114,6 +114,7 @@ fn opening_text(alloc: Global, fault: OpenFault) -> Result<String, AllocError>
         OpenFault::NoEntry => "NoEntry",
         OpenFault::WrongBase => "WrongBase",
         OpenFault::NoProgram => "NoProgram",
+        OpenFault::Pruned => "Pruned",
     };
     format!(in alloc; "refused debug {name}\n")
 }

@@ -4,4 +4,6 @@
 #[cfg(test)]
 mod blocks;
 #[cfg(test)]
+mod kinds;
+#[cfg(test)]
 mod steps;

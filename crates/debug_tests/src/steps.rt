@@ -3,9 +3,12 @@
 ghost use Rattle.avm_ops.specs.Objects.{IsFull};
 
 use crate::blocks::{NOBODY, block_of};
+use crate::kinds::kinds_are_shown;
 use avm_arith::ArithOp;
 use avm_block::Block;
-use avm_debug::{Debugger, KeyChange, LocalChange, Next, OpenFault, ScratchPlace, StepFault, View};
+use avm_debug::{
+    Debugger, KeyChange, LocalChange, Next, OpenFault, ScratchPlace, Source, StepFault, View,
+};
 use avm_flow_ops::FlowOp;
 use avm_items::Completion;
 use avm_ledger::Ledger;
@@ -36,7 +39,7 @@ const PUTS_AND_REJECTS: &str = "02200200012601016e311840000223432228236622";
 
 /// What comes next.
 #[derive(Clone, Copy, Debug, PartialEq, Eq)]
-enum Came {
+pub(crate) enum Came {
     Instruction(Opcode),
     Fault(Fault),
     End,
@@ -68,7 +71,7 @@ const NOTHING: Seen = Seen {
     local: None,
 };
 
-fn kind_of(next: &Next<'_>) -> Came {
+pub(crate) fn kind_of(next: &Next<'_>) -> Came {
     match next {
         Next::Instruction(instruction) => Came::Instruction(instruction.opcode),
         Next::Fault(fault) => Came::Fault(*fault),
@@ -76,7 +79,7 @@ fn kind_of(next: &Next<'_>) -> Came {
     }
 }
 
-fn uint_of(value: Option<&Value>) -> Option<u64> {
+pub(crate) fn uint_of(value: Option<&Value>) -> Option<u64> {
     match value {
         Some(Value::Uint(number)) => Some(*number),
         _ => None,
@@ -122,7 +125,7 @@ fn seen_of(view: &View<'_>) -> Seen {
 }
 
 /// What a debugger shows.
-fn shown_by(alloc: Global, debugger: &Debugger) -> Result<Seen, Fail> {
+fn shown_by(alloc: Global, debugger: &Debugger<'_>) -> Result<Seen, Fail> {
     match debugger.view(alloc) {
         Ok(view) => Ok(seen_of(&view)),
         Err(_) => Err("there is a view".into()),
@@ -130,7 +133,12 @@ fn shown_by(alloc: Global, debugger: &Debugger) -> Result<Seen, Fail> {
 }
 
 /// Makes so many steps; the first refusal of one, if there is one.
-fn stepped(alloc: Global, ops: &OpSet, debugger: &mut Debugger, steps: usize) -> Option<StepFault>
+pub(crate) fn stepped(
+    alloc: Global,
+    ops: &OpSet,
+    debugger: &mut Debugger<'_>,
+    steps: usize,
+) -> Option<StepFault>
     requires full { IsFull ⟦<BoxedOp as Op>⟧.opcode ops.now }
 {
     for _step in 0..steps {
@@ -151,7 +159,8 @@ fn shown_after(
 ) -> Result<(Seen, Option<StepFault>), Fail>
     requires full { IsFull ⟦<BoxedOp as Op>⟧.opcode ops.now }
 {
-    match Debugger::open(alloc, &Ledger::new(alloc), block, entry, ops) {
+    let base = Ledger::new(alloc);
+    match Debugger::open(alloc, Source::Block(&base, block), entry, ops) {
         Ok(debugger) => {
             let mut debugger = debugger;
             let refused = stepped(alloc, ops, &mut debugger, steps);
@@ -349,7 +358,7 @@ fn open_fault(
 ) -> Option<OpenFault>
     requires full { IsFull ⟦<BoxedOp as Op>⟧.opcode ops.now }
 {
-    match Debugger::open(alloc, ledger, block, entry, ops) {
+    match Debugger::open(alloc, Source::Block(ledger, block), entry, ops) {
         Err(Failure::Fault(fault)) => Some(fault),
         _ => None,
     }
@@ -423,5 +432,6 @@ fn calls_are_stepped_through(rt: HostRuntime) -> Result<(), Fail> {
     }
     assert!(rt; cases_are_shown(alloc, &ops)?);
     assert!(rt; calls_are_refused(alloc, &ops)?);
+    assert!(rt; kinds_are_shown(alloc, &ops)?);
     Ok(())
 }

@@ -5,7 +5,7 @@ use Rattle.avm_debug.specs.DebugRuns.{IsKept, IsPreparedFor, seen}
 use Rattle.avm_debug.specs.Shown.{IsShown}
 use Rattle.avm_debug.proofs.Shows.{KeptShows, kept_shows, shown_view}
 use Rattle.avm_debug.proofs.ViewsThere.{space_over}
-use Rattle.avm_debug.proofs.debugger.Debugger.view.Goals as goal
+use Rattle.avm_debug.proofs.stepper.Stepper.view.Goals as goal
 
 pub view_at-requires : goal.view_at-requires
 view_at-requires c =

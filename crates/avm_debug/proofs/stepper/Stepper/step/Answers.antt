@@ -6,8 +6,8 @@ use Rattle.avm_debug.specs.DebugRuns.{IsKept, IsPreparedFor, seen}
 use Rattle.avm_debug.specs.DebugSteps.{StepsTo}
 use Rattle.avm_debug.proofs.Moving.{comes_over, ends_over}
 use Rattle.avm_debug.proofs.Shows.{prepared_stays}
-use Rattle.avm_debug.proofs.debugger.Debugger.step.Goals.{in-None-6, in-Some-2}
-use Rattle.avm_debug.proofs.debugger.Debugger.step.Goals as goal
+use Rattle.avm_debug.proofs.stepper.Stepper.step.Goals.{in-None-6, in-Some-2}
+use Rattle.avm_debug.proofs.stepper.Stepper.step.Goals as goal
 
 pub step_over-requires-clause-stands : goal.step_over-requires-clause-stands
 step_over-requires-clause-stands g c =

@@ -1,7 +1,7 @@
 use Rattle.std.proofs.Common.{◌≡◌, Some, sym, ap, ◌∙◌}
 use Rattle.avm_debug.specs.Opening.{entry_at}
 use Rattle.avm_debug.proofs.OpenedEntries.{IsMet, opens_met, refuses_met}
-use Rattle.avm_debug.proofs.debugger.Debugger.open.Goals as goal
+use Rattle.avm_debug.proofs.stepper.Stepper.open_block.Goals as goal
 
 pub returns-in-Ok-clause-opened : goal.returns-in-Ok-clause-opened
 returns-in-Ok-clause-opened g c =

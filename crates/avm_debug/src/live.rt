@@ -1,0 +1,44 @@
+//! The committed calls of a store, and the ledgers that they met.
+
+ghost use Rattle.std.specs.Prelude.{◌≡◌, ◌<◌, ◌-◌, IfErr, IfOk};
+ghost use Rattle.std.specs.Option.{option_map};
+ghost use Rattle.avm_debug.specs.LiveOpening.{IsBelowLow, ledger_of_store, met_live};
+
+use crate::faults::{OpenError, OpenFault};
+use avm_call::Call;
+use avm_ledger::Ledger;
+use mv_core::Store;
+use std::alloc::Global;
+use teal_value::Failure;
+
+/// The timestamp and the call of a committed entry, counted from 1.
+pub(crate) fn live_call(store: &Store, number: usize) -> Option<(u64, &Call)>
+    ensures { option_map (λ met. (met.0, met.1.now)) result ≡ met_live store.now number }
+{
+    if number == 0 {
+        return None;
+    }
+    let entry = store.entries().get(number - 1)?;
+    let call = store.call(entry.number())?;
+    Some((entry.timestamp(), call))
+}
+
+/// The ledger of a store before a timestamp.
+pub(crate) fn live_ledger_before(
+    alloc: Global,
+    store: &Store,
+    timestamp: u64,
+) -> Result<Ledger, OpenError>
+    ensures ledger { IfOk result (λ ledger. ledger ≡ ledger_of_store store.now (timestamp - 1)) }
+    ensures kept { IfOk result (λ _. store.now.world.low < timestamp) }
+    ensures refused { IfErr result (IsBelowLow store.now timestamp) }
+{
+    if timestamp <= store.low() {
+        return Err(Failure::Fault(OpenFault::Pruned));
+    }
+    match store.state_at(alloc, timestamp - 1) {
+        Ok(ledger) => Ok(ledger),
+        Err(Failure::Fault(_pruned)) => Err(Failure::Fault(OpenFault::Pruned)),
+        Err(Failure::Memory) => Err(Failure::Memory),
+    }
+}
