@@ -3,13 +3,9 @@
 #![tactic(auto)]
 
 #[cfg(test)]
-mod calls;
-#[cfg(test)]
 mod lists;
 #[cfg(test)]
 mod outcomes;
-#[cfg(test)]
-mod random;
 #[cfg(test)]
 mod random_lists;
 #[cfg(test)]

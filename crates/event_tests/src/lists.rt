@@ -1,9 +1,6 @@
 //! Lists of events, run over a store and replayed.
-
-ghost use Rattle.avm_laws.specs.Orderly.{IsOrderly};
 ghost use Rattle.avm_ops.specs.Objects.{IsFull};
 
-use crate::calls::HEADER;
 use avm_block::Block;
 use avm_call::Call;
 use avm_ledger::Ledger;
@@ -11,6 +8,7 @@ use avm_ops::{BoxedOp, Op, OpSet};
 use avm_replay::{Verdict, replay, state_at};
 use mv_core::{Event, Store, World, run_events};
 use mv_parts::Sealed;
+use sample_calls::rows::HEADER;
 use std::alloc::Global;
 use std::sync::Arc;
 use std::test::Fail;
@@ -24,7 +22,6 @@ pub fn world_after(
     events: &[Event],
 ) -> Result<World, Fail>
     requires full { IsFull ⟦<BoxedOp as Op>⟧.opcode ops.now }
-    requires orderly { IsOrderly base.now }
 {
     // That a store is opened says that there are few calls, each of the header's profile.
     match Store::open(alloc, base.clone()?, HEADER, Arc::try_clone(calls)?) {

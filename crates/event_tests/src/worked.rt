@@ -3,84 +3,19 @@
 
 ghost use Rattle.avm_ops.specs.Objects.{IsFull};
 
-use crate::calls::{Row, X, Y, calls_of, ledger_of};
 use crate::lists::{replay_store, world_after};
 use avm_call::Outcome;
-use avm_items::{Completion, Item};
+use avm_items::Item;
 use avm_ops::{BoxedOp, Op, OpSet};
 use mv_core::{CommitFault, Event, RefusedCommit, StateFault, Store, Worker, World};
+use sample_calls::rows::{Row, X, Y, calls_of, ledger_of};
+use sample_calls::worked::{
+    EARLY, EARLY_AFTER, EARLY_CALLS, SKEW, SKEW_AT_2, SKEW_AT_3, SKEW_CALLS,
+};
 use std::alloc::Global;
+use std::sync::Arc;
 use std::test::Fail;
 use teal_value::{Failure, Fault};
-
-/// Application 1 puts the number under `v` of the call's further account, and 1, under `v` of the sender:
-/// `int 0; byte "v"; int 1; byte "v"; app_local_get; int 1; +; app_local_put; int 1`. X and Y are in, with empty states.
-const SKEW: &str =
-    "0000000000000002000000010000000000000001000000000000000000000000000000000000000000000000000000000000000000120220020001260101762228232862230866230005022001012200000100000000000201010101010101010101010101010101010101010101010101010101010101010000000000000001000202020202020202020202020202020202020202020202020202020202020202000000000000000100";
-
-/// Under `v`, Y has 1.
-const SKEW_AT_2: &str =
-    "00000000000000020000000100000000000000010000000000000000000000000000000000000000000000000000000000000000001202200200012601017622282328622308662300050220010122000001000000000002010101010101010101010101010101010101010101010101010101010101010100000000000000010002020202020202020202020202020202020202020202020202020202020202020000000000000001010176010000000000000001";
-
-/// And X has 2.
-const SKEW_AT_3: &str =
-    "000000000000000200000001000000000000000100000000000000000000000000000000000000000000000000000000000000000012022002000126010176222823286223086623000502200101220000010000000000020101010101010101010101010101010101010101010101010101010101010101000000000000000101017601000000000000000202020202020202020202020202020202020202020202020202020202020202020000000000000001010176010000000000000001";
-
-/// Application 1 reads the number under `k` of the call's foreign application: `int 1; byte "k"; app_global_get_ex`.
-const EARLY: &str =
-    "00000000000000020000000100000000000000010000000000000000000000000000000000000000000000000000000000000000000b022001012601016b22286500050220010122000000000000000000";
-
-/// Application 2 stands, whose programs are `int 1`.
-const EARLY_AFTER: &str =
-    "00000000000000030000000200000000000000010000000000000000000000000000000000000000000000000000000000000000000b022001012601016b222865000502200101220000000000000000000000000201010101010101010101010101010101010101010101010101010101010101010005022001012200050220010122000000000000000000";
-
-/// Each of the two accounts reads the other's state and writes its own.
-const SKEW_CALLS: [Row; 2] = [
-    Row {
-        sender: X,
-        application: 1,
-        completion: Completion::NoOp,
-        arguments: 0,
-        account: Y,
-        foreign: 1,
-        program: "",
-        uints: 0,
-    },
-    Row {
-        sender: Y,
-        application: 1,
-        completion: Completion::NoOp,
-        arguments: 0,
-        account: X,
-        foreign: 1,
-        program: "",
-        uints: 0,
-    },
-];
-
-/// The creation of application 2, and a call that asks for it.
-const EARLY_CALLS: [Row; 2] = [
-    Row {
-        sender: X,
-        application: 0,
-        completion: Completion::NoOp,
-        arguments: 0,
-        account: Y,
-        foreign: 1,
-        program: "0220010122",
-        uints: 0,
-    },
-    Row {
-        sender: Y,
-        application: 1,
-        completion: Completion::NoOp,
-        arguments: 0,
-        account: X,
-        foreign: 2,
-        program: "",
-        uints: 0,
-    },
-];
 
 /// The committed calls of a write skew.
 const SKEW_ENTRIES: [(u64, u32, Outcome); 2] = [
@@ -242,7 +177,7 @@ fn world_of(
     requires full { IsFull ⟦<BoxedOp as Op>⟧.opcode ops.now }
 {
     let base = ledger_of(alloc, base)?;
-    let calls = calls_of(alloc, rows)?;
+    let calls = Arc::new(alloc, calls_of(alloc, rows)?)?;
     world_after(alloc, ops, &base, &calls, events)
 }
 

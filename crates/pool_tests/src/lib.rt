@@ -2,8 +2,14 @@
 #![tactic(auto)]
 
 #[cfg(test)]
-mod counts;
+mod cases;
 #[cfg(test)]
-mod gates;
+mod proposing;
+#[cfg(test)]
+mod random_blocks;
+#[cfg(test)]
+mod script;
 #[cfg(test)]
 mod sets;
+#[cfg(test)]
+mod tests;

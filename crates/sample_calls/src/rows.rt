@@ -1,17 +1,15 @@
 //! Calls and ledgers, by rows of data.
 
 ghost use Rattle.std.specs.Prelude.{IfOk};
-ghost use Rattle.avm_laws.specs.Orderly.{IsOrderly};
 
 use avm_call::Call;
 use avm_items::{Addresses, CallData, Completion};
-use avm_laws::rule_laws::every_call_keeps_order;
 use avm_ledger::{Header, Ledger, Profile, Schema};
 use std::alloc::Global;
-use std::sync::Arc;
 use std::test::Fail;
 use teal_value::{Address, ByteString, ByteStrings, Uints};
 
+/// A header of profile 2, all of whose numbers are 0.
 pub const HEADER: Header = Header {
     profile: Profile::Two,
     round: 0,
@@ -21,11 +19,13 @@ pub const HEADER: Header = Header {
     max_life: 0,
 };
 
-/// Accounts.
+/// An account.
 pub const X: Address = Address([1; 32]);
 
+/// Another.
 pub const Y: Address = Address([2; 32]);
 
+/// A third.
 pub const Z: Address = Address([3; 32]);
 
 /// A call: who makes it, on which application, with how many empty arguments, with which further account and which
@@ -86,19 +86,16 @@ pub fn call_of(alloc: Global, row: &Row) -> Result<Call, Fail> {
 }
 
 /// The calls of rows, in their order.
-pub fn calls_of(alloc: Global, rows: &[Row]) -> Result<Arc<Vec<Call>>, Fail> {
+pub fn calls_of(alloc: Global, rows: &[Row]) -> Result<Vec<Call>, Fail> {
     let mut calls = Vec::new(alloc);
     for row in rows {
         calls.push(call_of(alloc, row)?)?;
     }
-    Ok(Arc::new(alloc, calls)?)
+    Ok(calls)
 }
 
 /// The ledger of these digits.
-pub fn ledger_of(alloc: Global, digits: &str) -> Result<Ledger, Fail>
-    ensures { IfOk result (λ ledger. IsOrderly ledger) }
-{
-    every_call_keeps_order();
+pub fn ledger_of(alloc: Global, digits: &str) -> Result<Ledger, Fail> {
     match Ledger::read(alloc, hex::decode(alloc, digits)?.as_slice()) {
         Ok(ledger) => Ok(ledger),
         Err(_) => Err("these bytes are a ledger".into()),

@@ -1,8 +1,6 @@
-//! Random lists of events, from a fixed seed.
+//! Random numbers, from a fixed seed.
 
 ghost use Rattle.std.specs.Prelude.{◌<◌};
-
-use std::test::Fail;
 
 /// A linear congruential generator modulo 2^64 (Knuth, "The Art of Computer Programming", volume 2, section 3.3.4: MMIX).
 #[derive(Drop)]
@@ -11,6 +9,7 @@ pub struct Random {
 }
 
 impl Random {
+    /// The generator with this state.
     pub fn new(seed: u64) -> Random {
         Random { state: seed }
     }

@@ -1,0 +1,147 @@
+//! Whether calls are proposed as a case says.
+
+ghost use Rattle.std.specs.Prelude.{◌≡◌};
+ghost use Rattle.avm_ops.specs.Objects.{IsFull};
+
+use crate::cases::Case;
+use crate::script::Script;
+use avm_block::{Block, encode};
+use avm_call::Call;
+use avm_ledger::{Header, Ledger};
+use avm_ops::{BoxedOp, Op, OpSet};
+use avm_pool::{Gate, Proposal, propose};
+use avm_replay::{Verdict, replay};
+use sample_calls::rows::{HEADER, call_of, ledger_of};
+use std::alloc::Global;
+use std::sync::Wait;
+use std::test::Fail;
+use std::thread::Threads;
+
+/// Calls that are proposed whole: none is left, and the number of each stands once.
+pub fn proposed<G: Gate, R: Threads + Wait + Sync>(
+    rt: &R,
+    alloc: Global,
+    base: &Ledger,
+    header: &Header,
+    calls: Vec<Call>,
+    sets: Vec<OpSet>,
+    own: &OpSet,
+    gate: &G,
+) -> Result<Block, Fail> {
+    let count = calls.len();
+    match propose(rt, alloc, base, header, calls, sets, own, gate) {
+        Ok(proposal) => {
+            let Proposal {
+                block,
+                numbers,
+                left,
+            } = proposal;
+            if !left.is_empty() {
+                return Err("a call is left".into());
+            }
+            if !stand_once(alloc, &numbers, count)? || block.entries().len() != count {
+                return Err("each call is in the block, once".into());
+            }
+            Ok(block)
+        }
+        Err(_) => Err("the calls are proposed".into()),
+    }
+}
+
+/// Whether the numbers 1 to the count stand each once.
+fn stand_once(alloc: Global, numbers: &[u32], count: usize) -> Result<bool, Fail> {
+    let mut seen = vec![in alloc; true]?;
+    for _number in 0..count {
+        seen.push(false)?;
+    }
+    for number in numbers {
+        match seen.get_mut(*number as usize) {
+            Some(flag) => {
+                if *flag {
+                    return Ok(false);
+                }
+                *flag = true;
+            }
+            None => return Ok(false),
+        }
+    }
+    Ok(numbers.len() == count)
+}
+
+/// The ledger after a block, in hexadecimal, where it replays.
+pub fn replayed(alloc: Global, base: &Ledger, block: &Block, ops: &OpSet) -> Result<String, Fail>
+    requires full { IsFull ⟦<BoxedOp as Op>⟧.opcode ops.now }
+{
+    match replay(alloc, base, block, ops)? {
+        Verdict::Agrees(after) => Ok(hex::encode(alloc, after.canonical(alloc)?.as_slice())?),
+        _ => Err("the block replays".into()),
+    }
+}
+
+fn calls_of_case(alloc: Global, case: &Case) -> Result<Vec<Call>, Fail> {
+    let mut calls = Vec::new(alloc);
+    for _time in 0..case.times {
+        for row in case.calls {
+            calls.push(call_of(alloc, row)?)?;
+        }
+    }
+    Ok(calls)
+}
+
+/// Whether a block has these timestamps, or any where none are given.
+fn has_timestamps(block: &Block, timestamps: &[u64]) -> bool {
+    if timestamps.is_empty() {
+        return true;
+    }
+    for (entry, timestamp) in block.entries().iter().zip(timestamps.iter()) {
+        if entry.timestamp != *timestamp {
+            return false;
+        }
+    }
+    block.entries().len() == timestamps.len()
+}
+
+/// Whether a block has these bytes, or any where none are given.
+fn has_bytes(alloc: Global, block: &Block, digits: &str) -> Result<bool, Fail> {
+    Ok(
+        digits.is_empty()
+            || encode(alloc, block)?.as_slice() == hex::decode(alloc, digits)?.as_slice(),
+    )
+}
+
+/// What differs from the case, if something does.
+pub fn wrong<R: Threads + Wait + Sync>(
+    rt: &R,
+    alloc: Global,
+    case: &Case,
+    sets: Vec<OpSet>,
+    own: &OpSet,
+) -> Result<Option<&'static str>, Fail>
+    requires full { IsFull ⟦<BoxedOp as Op>⟧.opcode own.now }
+{
+    let base = ledger_of(alloc, case.base)?;
+    let header = Header {
+        profile: case.profile,
+        ..HEADER
+    };
+    let calls = calls_of_case(alloc, case)?;
+    let gate = Script::new(alloc, case.holds, calls.len())?;
+    let block = proposed(rt, alloc, &base, &header, calls, sets, own, &gate)?;
+    if !gate.is_passed() {
+        return Ok(Some("someone waited in vain, or a call was not committed once"));
+    }
+    if case.first && !gate.is_first() {
+        return Ok(Some("a call was made again"));
+    }
+    if !has_timestamps(&block, case.timestamps) {
+        return Ok(Some("the timestamps"));
+    }
+    if !has_bytes(alloc, &block, case.block)? {
+        return Ok(Some("the block's bytes"));
+    }
+    let after = replayed(alloc, &base, &block, own)?;
+    if after.as_str() != case.after[0] && after.as_str() != case.after[1] {
+        return Ok(Some("the ledger after"));
+    }
+    Ok(None)
+}

@@ -1,0 +1,74 @@
+//! Two lists of calls that depend on one another: a write skew, and a call that asks for an application that is not there
+//! yet. The ledgers are worked out by hand from the formats and the AVM specification.
+
+use crate::rows::{Row, X, Y};
+use avm_items::Completion;
+
+/// Application 1 puts the number under `v` of the call's further account, and 1, under `v` of the sender:
+/// `int 0; byte "v"; int 1; byte "v"; app_local_get; int 1; +; app_local_put; int 1`. X and Y are in, with empty states.
+pub const SKEW: &str =
+    "0000000000000002000000010000000000000001000000000000000000000000000000000000000000000000000000000000000000120220020001260101762228232862230866230005022001012200000100000000000201010101010101010101010101010101010101010101010101010101010101010000000000000001000202020202020202020202020202020202020202020202020202020202020202000000000000000100";
+
+/// Under `v`, Y has 1.
+pub const SKEW_AT_2: &str =
+    "00000000000000020000000100000000000000010000000000000000000000000000000000000000000000000000000000000000001202200200012601017622282328622308662300050220010122000001000000000002010101010101010101010101010101010101010101010101010101010101010100000000000000010002020202020202020202020202020202020202020202020202020202020202020000000000000001010176010000000000000001";
+
+/// And X has 2.
+pub const SKEW_AT_3: &str =
+    "000000000000000200000001000000000000000100000000000000000000000000000000000000000000000000000000000000000012022002000126010176222823286223086623000502200101220000010000000000020101010101010101010101010101010101010101010101010101010101010101000000000000000101017601000000000000000202020202020202020202020202020202020202020202020202020202020202020000000000000001010176010000000000000001";
+
+/// Application 1 reads the number under `k` of the call's foreign application: `int 1; byte "k"; app_global_get_ex`.
+pub const EARLY: &str =
+    "00000000000000020000000100000000000000010000000000000000000000000000000000000000000000000000000000000000000b022001012601016b22286500050220010122000000000000000000";
+
+/// Application 2 stands, whose programs are `int 1`.
+pub const EARLY_AFTER: &str =
+    "00000000000000030000000200000000000000010000000000000000000000000000000000000000000000000000000000000000000b022001012601016b222865000502200101220000000000000000000000000201010101010101010101010101010101010101010101010101010101010101010005022001012200050220010122000000000000000000";
+
+/// Each of the two accounts reads the other's state and writes its own.
+pub const SKEW_CALLS: [Row; 2] = [
+    Row {
+        sender: X,
+        application: 1,
+        completion: Completion::NoOp,
+        arguments: 0,
+        account: Y,
+        foreign: 1,
+        program: "",
+        uints: 0,
+    },
+    Row {
+        sender: Y,
+        application: 1,
+        completion: Completion::NoOp,
+        arguments: 0,
+        account: X,
+        foreign: 1,
+        program: "",
+        uints: 0,
+    },
+];
+
+/// The creation of application 2, and a call that asks for it.
+pub const EARLY_CALLS: [Row; 2] = [
+    Row {
+        sender: X,
+        application: 0,
+        completion: Completion::NoOp,
+        arguments: 0,
+        account: Y,
+        foreign: 1,
+        program: "0220010122",
+        uints: 0,
+    },
+    Row {
+        sender: Y,
+        application: 1,
+        completion: Completion::NoOp,
+        arguments: 0,
+        account: X,
+        foreign: 2,
+        program: "",
+        uints: 0,
+    },
+];
