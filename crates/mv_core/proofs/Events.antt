@@ -43,7 +43,7 @@ use Rattle.mv_running.proofs.Workers.{with_item-new}
 use Rattle.mv_core.specs.Places.{ArePlacesOf, IsLive, live_in}
 use Rattle.mv_core.specs.Stores.{CallSlots, IsFirstRead, IsKept, IsPrune, IsReadAgain, marks_in, shown}
 use Rattle.mv_core.proofs.Attempts.{all_in, attempt_here, count_in, live_begun, live_ended, live_read, places_begun, places_ended, places_read}
-use Rattle.mv_core.proofs.Held.{IsRaisedPlace, marks_of_places, none_stays, raised_place, same_place, shards_after_read, versions_after_read}
+use Rattle.mv_core.proofs.Held.{IsRaisedPlace, marks_of_places, none_stays, raised_place, shards_after_read, versions_after_read}
 
 -- a read leaves one mark
 one_mark : {V : Type 0} (t n found g : ℕ) (vs : List (Version V)) → IsChain vs → oldest_timestamp vs ≤ t → ((d : Version V) → (newest_at t vs d).timestamp ≡ found) → g ≡ mark_in n vs
@@ -266,18 +266,19 @@ module _ (base : Ledger) (header : Header) (calls : List CallData) (w : CallWorl
     bound = subst (λ h. IsLowerBound h (live_in slots w.live)) same_low (pruned_below w.low (min t w.clock) (live_in slots w.live) k.store.consistent.schedule.low_live)
 
     -- what is seen, where the marks are kept that count
-    pruned_world : HaveSameMarks same_item (at base) (low_after_prune w t) w.entries (marks_in places) (marks_in new) → KeepsNeededMarks same_item (at base) (low_after_prune w t) w.entries (marks_in places) (marks_in new) → IsPrune (shown base header calls w places slots) (shown base header calls (record w { low = low_after_prune w t }) new slots) t
-    pruned_world same needed = record {
+    pruned_world : HaveSameMarks same_item (at base) (low_after_prune w t) w.entries (marks_in places) (marks_in new) → KeepsNeededMarks same_item (at base) (low_after_prune w t) w.entries (marks_in places) (marks_in new)
+        → ((x : Item) → versions_for new x ≡ versions_from (low_after_prune w t) (versions_for places x)) → IsPrune (shown base header calls w places slots) (shown base header calls (record w { low = low_after_prune w t }) new slots) t
+    pruned_world same needed versions = record {
       same = same;
       event = ap (λ l. record { clock = w.clock; low = l; entries = w.entries; marks = marks_in new; live = live_in slots w.live }) (sym same_low);
       marks = needed;
+      versions = versions;
       others = refl;
     }
 
-    -- a low mark that rises
-    module _ (below : w.low < low_after_prune w t) (pruned : ArePruned (low_after_prune w t) places new) where
+    module _ (pruned : ArePruned (low_after_prune w t) places new) where
       raised_each : (i : ℕ) → i < shard_count → IsRaisedPlace (low_after_prune w t) i base (get_or places i None) (get_or new i None)
-      raised_each i inside = raised_place (low_after_prune w t) w.low i base (get_or places i None) (get_or new i None) below (k.shards.each i inside) (pruned i)
+      raised_each i inside = raised_place (low_after_prune w t) w.low i base (get_or places i None) (get_or new i None) low_below (k.shards.each i inside) (pruned i)
 
       raised_versions : (x : Item) → versions_for new x ≡ versions_from (low_after_prune w t) (versions_for places x)
       raised_versions x = (raised_each (shard_of x) (index_within x)).versions x
@@ -322,57 +323,16 @@ module _ (base : Ledger) (header : Header) (calls : List CallData) (w : CallWorl
           count = k.count;
           attempts = k.attempts;
         },
-        pruned_world (λ x n counts. marks_are x n ∙ sym (raised_store.1 x n counts) ∙ sym (new_marks x n)) (record { kept_or_dropped = kept_or_dropped; needed = needed }),
-      )
-
-    -- a low mark that does not rise changes nothing
-    module _ (same : low_after_prune w t ≡ w.low) (pruned : ArePruned (low_after_prune w t) places new) where
-      same_each : (i : ℕ) → i < shard_count → get_or new i None ≡ get_or places i None
-      same_each i inside = same_place w.low i base (get_or places i None) (get_or new i None) (k.shards.each i inside) (subst (λ l. IsPrunedPlace l (get_or places i None) (get_or new i None)) same (pruned i))
-
-      same_versions : (x : Item) → versions_for new x ≡ versions_for places x
-      same_versions x = ap (λ o. versions_or_none o x) (same_each (shard_of x) (index_within x))
-
-      all_same : versions_for new ≡ versions_for places
-      all_same = λ i x. same_versions x i
-
-      same_marks : (x : Item) (n : ℕ) → greatest_mark same_item (marks_in new) x n ≡ greatest_mark same_item (marks_in places) x n
-      same_marks x n = marks_of_places new (λ y. subst IsChain (sym (same_versions y)) (k.store.holds y).chain) x n ∙ ap (mark_in n) (same_versions x) ∙ sym (marks_are x n)
-
-      stays : IsKept base header calls (record w { low = low_after_prune w t }) new slots × IsPrune (shown base header calls w places slots) (shown base header calls (record w { low = low_after_prune w t }) new slots) t
-      stays = (
-        subst (λ l. IsKept base header calls (record w { low = l }) new slots) (sym same)
-            (record {
-              orderly = k.orderly;
-              store = subst (λ all. IsStore (λ value. value) same_item IsOfLedger (meaning_of header calls) (at base) w.low w.clock w.low w.entries (live_in slots w.live) all) (sym all_same) k.store;
-              shards = record {
-                beyond = λ i above. none_stays (low_after_prune w t) (get_or places i None) (get_or new i None) (pruned i) (k.shards.beyond i above);
-                each = λ i inside. subst (λ o. IsOver base w.low i o) (sym (same_each i inside)) (k.shards.each i inside);
-              };
-              are_calls = k.are_calls;
-              live_calls = k.live_calls;
-              count = k.count;
-              attempts = k.attempts;
-            }),
-        pruned_world (λ x n counts. sym (same_marks x n)) (record { kept_or_dropped = λ x n. inl (same_marks x n); needed = λ x u above. same_marks x (version_below same_item (at base) w.entries (suc u) x).0 }),
+        pruned_world (λ x n counts. marks_are x n ∙ sym (raised_store.1 x n counts) ∙ sym (new_marks x n)) (record { kept_or_dropped = kept_or_dropped; needed = needed }) raised_versions,
       )
 
     -- the marks of the versions that are left
     pub marks_left : ArePruned (low_after_prune w t) places new → (x : Item) (n : ℕ) → (version_below same_item (at base) w.entries (suc (low_after_prune w t)) x).0 ≤ n → mark_in n (versions_for new x) ≡ mark_in n (versions_for places x)
-    marks_left pruned x n counts = by (nat_lt w.low (low_after_prune w t)) (compared w.low (low_after_prune w t))
-      where
-        by : (b : Bool) → Compared w.low (low_after_prune w t) b → mark_in n (versions_for new x) ≡ mark_in n (versions_for places x)
-        by b (less h) = (raised_store h pruned).1 x n counts
-        by b (not_less h) = ap (mark_in n) (same_versions (omega (arith, h, low_below)) pruned x)
+    marks_left pruned x n counts = (raised_store pruned).1 x n counts
 
     pub still_above : (x : Item) → (version_below same_item (at base) w.entries (suc w.low) x).0 ≤ (version_below same_item (at base) w.entries (suc (low_after_prune w t)) x).0
     still_above x = version_below-monotone same_item (at base) (suc w.low) (suc (low_after_prune w t)) w.entries x (omega (arith, low_below)) k.store.consistent.journal.rising
 
     pub kept_pruned : ArePruned (low_after_prune w t) places new
         → IsKept base header calls (record w { low = low_after_prune w t }) new slots × IsPrune (shown base header calls w places slots) (shown base header calls (record w { low = low_after_prune w t }) new slots) t
-    kept_pruned pruned = by (nat_lt w.low (low_after_prune w t)) (compared w.low (low_after_prune w t))
-      where
-        by : (b : Bool) → Compared w.low (low_after_prune w t) b
-            → IsKept base header calls (record w { low = low_after_prune w t }) new slots × IsPrune (shown base header calls w places slots) (shown base header calls (record w { low = low_after_prune w t }) new slots) t
-        by b (less h) = raised h pruned
-        by b (not_less h) = stays (omega (arith, h, low_below)) pruned
+    kept_pruned = raised

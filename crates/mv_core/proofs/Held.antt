@@ -97,17 +97,12 @@ pub record IsRaisedPlace (higher i : ℕ) (base : Ledger) (old new : Option Shar
   pub over : IsOver base higher i new
   pub versions : (x : Item) → versions_or_none new x ≡ versions_from higher (versions_or_none old x)
 
-pub raised_place : (higher low i : ℕ) (base : Ledger) (old new : Option Shard) → low < higher → IsOver base low i old → IsPrunedPlace higher old new → IsRaisedPlace higher i base old new
+pub raised_place : (higher low i : ℕ) (base : Ledger) (old new : Option Shard) → low ≤ higher → IsOver base low i old → IsPrunedPlace higher old new → IsRaisedPlace higher i base old new
 raised_place higher low i base None new below over pruned = absurd over
 raised_place higher low i base (Some s) None below over pruned = absurd pruned
 raised_place higher low i base (Some s) (Some n) below over pruned =
-    let raised = pruned.raised (subst (λ l. l < higher) (sym over.1) below) in
+    let raised = pruned.raised (subst (λ l. l ≤ higher) (sym over.1) below) in
     record { over = (raised.index ∙ over.0, raised.low, raised.base ∙ over.2); versions = raised.versions }
-
-pub same_place : (low i : ℕ) (base : Ledger) (old new : Option Shard) → IsOver base low i old → IsPrunedPlace low old new → new ≡ old
-same_place low i base None new over pruned = absurd over
-same_place low i base (Some s) None over pruned = absurd pruned
-same_place low i base (Some s) (Some n) over pruned = ap Some (pruned.stays (subst (λ l. low ≤ l) (sym over.1) (omega arith)))
 
 -- a place without a shard has none afterwards
 pub none_stays : (t : ℕ) (old new : Option Shard) → IsPrunedPlace t old new → old ≡ None → new ≡ None

@@ -9,6 +9,7 @@ use Rattle.avm_items.specs.declared.item_value.ItemValue.{ItemValue}
 use Rattle.avm_items.specs.Items.{value_in}
 use Rattle.avm_items.specs.LedgerItems.{at}
 use Rattle.avm_laws.specs.LedgerLooks.{IsOfLedger}
+use Rattle.mv_chain.specs.Versions.{versions_from}
 use Rattle.mv_history.specs.History.{version_below}
 use Rattle.mv_history.specs.SameWorlds.{HaveSameMarks, IsSameWorld}
 use Rattle.mv_history.specs.World.{Mark, KeepsNeededMarks, after_prune, after_read, attempt_at}
@@ -92,12 +93,13 @@ pub record IsReadAgain (old new : Store) (n t : ℕ) (x : Item) (v : ItemValue) 
   pub known : value_in attempt.reads x ≡ Some v
   pub unchanged : new ≡ old
 
--- The low mark rises, as far as the live attempts allow. Of the marks only those may be missing that no one from there on
--- asks for: those of versions below the newest at the low mark.
+-- The low mark rises, as far as the live attempts allow. Of each item the newest version not above it is left, and those
+-- above it. Of the marks only those may be missing that no one from there on asks for: those of the versions that go.
 pub record IsPrune (old new : Store) (t : ℕ) : Type 0 where
   pub event : new.world ≡ after_prune old.world t new.world.marks
   pub same : HaveSameMarks same_item (at old.base) new.world.low old.world.entries old.world.marks new.world.marks
   pub marks : KeepsNeededMarks same_item (at old.base) new.world.low old.world.entries old.world.marks new.world.marks
+  pub versions : (x : Item) → versions_for new.places x ≡ versions_from new.world.low (versions_for old.places x)
   pub others : new ≡ record old { world = new.world; places = new.places }
 
 -- ---- a read of the attempt at a place

@@ -35,7 +35,7 @@ use Rattle.mv_calls.proofs.SerialCalls.{items_have_an_equality}
 use Rattle.mv_shards.specs.Chains.{versions_or, with_versions}
 use Rattle.mv_shards.specs.Indexes.{shard_count, shard_of}
 use Rattle.mv_shards.specs.Helds.{AreHeld, Places}
-use Rattle.mv_shards.specs.Shards.{Shard, versions_held}
+use Rattle.mv_shards.specs.Shards.{IsRaisedTo, Shard, versions_held}
 use Rattle.mv_shards.specs.Writing.{IsWrittenPlace, IsWrittenShard, committed_versions}
 use Rattle.mv_shards.proofs.Touched.{found_inserted}
 use Rattle.avm_items.specs.Items.{item_cmp}
@@ -275,7 +275,17 @@ module _ (base : Ledger) (low higher : ℕ) (es : List CallEntry) (from : low �
       (every_prune_keeps_marks_lem ItemValue higher (v ∷ vs) v h.chain (omega (arith, h.old_enough, from))).kept n (subst (λ m. m ≤ n) (sym (h.found higher v from).timestamp) counts)
 
 pub every_prune_keeps_agreement : EveryPruneKeepsAgreement
-every_prune_keeps_agreement j old new t indexed pruned k = by (nat_lt old.low higher) (compared old.low higher)
+every_prune_keeps_agreement j old new t indexed pruned k = record {
+  base = raised.base ∙ k.base;
+  low = raised.low;
+  versions = λ x own. subst (HoldsVersions (λ value. value) same_item (at j.base) higher j.world.entries x) (sym (raised.versions x))
+      (every_prune_keeps_agreement_lem Item ItemValue Outcome ItemValue (λ value. value) same_item (at j.base) j.world.low j.world.entries x (versions_held old x) (k.versions x (own ∙ raised.index)) higher from);
+  marks = all_map (λ (e : CallEntry). j.world.low < e.timestamp → AreMarkedIn j.base j.world.entries old e) _ j.world.entries
+      (λ e was beyond. all_map (λ (r : Item × ItemValue). shard_of r.0 ≡ old.index → e.timestamp ≤ mark_in (version_below same_item (at j.base) j.world.entries e.timestamp r.0).0 (versions_held old r.0)) _ e.reads
+      (λ r h own. marked e r beyond (own ∙ raised.index) (h (own ∙ raised.index)))
+      (was (let f = from in omega (arith, f, beyond))))
+      k.marks;
+}
   where
     higher : ℕ
     higher = low_after_prune j.world t
@@ -283,30 +293,14 @@ every_prune_keeps_agreement j old new t indexed pruned k = by (nat_lt old.low hi
     from : j.world.low ≤ higher
     from = omega arith
 
-    marked : (e : CallEntry) (r : Item × ItemValue) → higher < e.timestamp → shard_of r.0 ≡ old.index → ((x : Item) → versions_held new x ≡ versions_from higher (versions_held old x))
+    raised : IsRaisedTo higher old new
+    raised = pruned.raised (subst (λ l. l ≤ higher) (sym k.low) from)
+
+    marked : (e : CallEntry) (r : Item × ItemValue) → higher < e.timestamp → shard_of r.0 ≡ old.index
         → e.timestamp ≤ mark_in (version_below same_item (at j.base) j.world.entries e.timestamp r.0).0 (versions_held old r.0) → e.timestamp ≤ mark_in (version_below same_item (at j.base) j.world.entries e.timestamp r.0).0 (versions_held new r.0)
-    marked e r beyond own versions was =
+    marked e r beyond own was =
         subst (λ m. e.timestamp ≤ m)
-        (sym (ap (mark_in (version_below same_item (at j.base) j.world.entries e.timestamp r.0).0) (versions r.0)
+        (sym (ap (mark_in (version_below same_item (at j.base) j.world.entries e.timestamp r.0).0) (raised.versions r.0)
         ∙ mark_left j.base j.world.low higher j.world.entries from r.0 (version_below same_item (at j.base) j.world.entries e.timestamp r.0).0 (versions_held old r.0) (k.versions r.0 own)
         (version_below-monotone same_item (at j.base) (suc higher) e.timestamp j.world.entries r.0 (omega (arith, beyond)) indexed.consistent.journal.rising)))
         was
-
-    by : (b : Bool) → Compared old.low higher b → Agrees (record j { world = record (j.world) { low = higher } }) new
-    by b (less below) =
-        let raised = pruned.raised below in
-        record {
-          base = raised.base ∙ k.base;
-          low = raised.low;
-          versions = λ x own. subst (HoldsVersions (λ value. value) same_item (at j.base) higher j.world.entries x) (sym (raised.versions x))
-              (every_prune_keeps_agreement_lem Item ItemValue Outcome ItemValue (λ value. value) same_item (at j.base) j.world.low j.world.entries x (versions_held old x) (k.versions x (own ∙ raised.index)) higher from);
-          marks = all_map (λ (e : CallEntry). j.world.low < e.timestamp → AreMarkedIn j.base j.world.entries old e) _ j.world.entries
-              (λ e was beyond. all_map (λ (r : Item × ItemValue). shard_of r.0 ≡ old.index → e.timestamp ≤ mark_in (version_below same_item (at j.base) j.world.entries e.timestamp r.0).0 (versions_held old r.0)) _ e.reads
-              (λ r h own. marked e r beyond (own ∙ raised.index) raised.versions (h (own ∙ raised.index)))
-              (was (let f = from in omega (arith, f, beyond))))
-              k.marks;
-        }
-    by b (not_less above) =
-        let same : j.world.low ≡ higher = let f = from in omega (arith, f, above, k.low) in
-        subst (λ n. Agrees (record j { world = record (j.world) { low = n } }) new) same
-        (subst (Agrees j) (sym (pruned.stays (omega (arith, above)))) k)

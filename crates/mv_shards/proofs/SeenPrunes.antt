@@ -15,7 +15,7 @@ use Rattle.mv_shards.specs.Writing.{Parts}
 use Rattle.mv_shards.proofs.FirstReads.{versions_touched}
 use Rattle.mv_shards.proofs.Places.{seen_at}
 
-pub pruned_seen : (t : ℕ) (p q : Part) → p.low < t → q.index ≡ p.index → arc_value q.base ≡ arc_value p.base → q.low ≡ t → IsPart p → IsPart q
+pub pruned_seen : (t : ℕ) (p q : Part) → p.low ≤ t → q.index ≡ p.index → arc_value q.base ≡ arc_value p.base → q.low ≡ t → IsPart p → IsPart q
     → ((first : Item → ItemValue) (x : Item) → versions_of first q.chains.entries x ≡ versions_from t (versions_of first p.chains.entries x)) → IsPrunedShard t (seen p) (seen q)
 pruned_seen t p q below index base low k n versions = record {
   raised = λ h. record {

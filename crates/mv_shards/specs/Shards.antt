@@ -50,10 +50,10 @@ pub record IsRaisedTo (t : ℕ) (old new : Shard) : Type 0 where
   pub low : new.low ≡ t
   pub versions : (x : Item) → versions_held new x ≡ versions_from t (versions_held old x)
 
--- a low mark only rises
+-- A low mark only rises. Where it stands already, a version may have been written at it since: what that one follows goes.
 pub record IsPrunedShard (t : ℕ) (old new : Shard) : Type 0 where
-  pub raised : old.low < t → IsRaisedTo t old new
-  pub stays : t ≤ old.low → new ≡ old
+  pub raised : old.low ≤ t → IsRaisedTo t old new
+  pub stays : t < old.low → new ≡ old
 
 -- ---- a shard as it is kept
 

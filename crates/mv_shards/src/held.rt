@@ -158,8 +158,8 @@ impl Held {
         None
     }
 
-    /// Raises the low mark of each shard that is held and has a lower one, and drops the versions that no read from there
-    /// on can find. It takes no memory.
+    /// Raises the low mark of each shard that is held and has no higher one, and drops the versions there that no read from
+    /// the low mark on can find. It takes no memory.
     pub fn prune(&mut self, timestamp: u64)
         ensures { ArePruned timestamp self.old self.new }
     {

@@ -183,13 +183,13 @@ pub(crate) fn refuses(part: &Part, writes: &ItemMap, timestamp: u64) -> bool
     false
 }
 
-/// Raises the low mark, and drops the versions that no read from there on can find.
+/// Raises the low mark, unless it is higher, and drops the versions that no read from there on can find.
 pub(crate) fn prune(part: &mut Part, timestamp: u64)
     requires { IsPart part.old }
     ensures kept { IsPart part.new }
     ensures pruned { IsPrunedShard timestamp (seen part.old) (seen part.new) }
 {
-    if part.low < timestamp {
+    if part.low <= timestamp {
         part.low = timestamp;
         prune_chains(&mut part.chains, timestamp);
     }
