@@ -7,6 +7,7 @@ ghost use Rattle.avm_call.specs.Replay.{replayed};
 ghost use Rattle.avm_block.specs.Blocks.{RisesAbove, calls_in};
 ghost use Rattle.avm_replay.specs.Past.{IsRefused, entries_until, ledger_at};
 
+use crate::base::Base;
 use avm_block::{Block, Entry};
 use avm_ledger::{Header, Ledger};
 use avm_ops::{BoxedOp, Op, OpSet};
@@ -37,10 +38,28 @@ pub fn state_at(
     ensures state { IfOk result (λ after. after ≡ ledger_at ledger.now block.now timestamp) }
     ensures refused { IfErr result (IsRefused ledger.now block.now) }
 {
-    if ledger.digest(alloc)? != *block.base() {
+    let copy = ledger.clone()?;
+    let base = Base::of(alloc, copy)?;
+    state_at_owned(alloc, base, block, timestamp, ops)
+}
+
+/// The same, of a ledger that is not copied.
+pub fn state_at_owned(
+    alloc: Global,
+    base: Base,
+    block: &Block,
+    timestamp: u64,
+    ops: &OpSet,
+) -> Result<Ledger, StateError>
+    requires full { IsFull ⟦<BoxedOp as Op>⟧.opcode ops.now }
+    ensures base { IfOk result (λ _. block.now.base ≡ ledger_digest base) }
+    ensures state { IfOk result (λ after. after ≡ ledger_at base block.now timestamp) }
+    ensures refused { IfErr result (IsRefused base block.now) }
+{
+    if *base.digest() != *block.base() {
         return Err(Failure::Fault(StateFault::WrongBase));
     }
-    let mut after = ledger.clone()?;
+    let mut after = base.into_ledger();
     make_until(
         alloc,
         &mut after,

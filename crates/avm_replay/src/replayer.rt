@@ -4,6 +4,7 @@ ghost use Rattle.std.specs.Prelude.{◌≡◌, ◌≤◌, ◌↔◌, IfOk, IsTru
 ghost use Rattle.avm_ops.specs.Objects.{IsFull};
 ghost use Rattle.avm_replay.specs.Verdicts.{Compares, Judges, OneVerdict};
 
+use crate::base::Base;
 use crate::verdict::Verdict;
 use avm_block::{Block, Entry, MAX_ENTRIES};
 use avm_call::Outcome;
@@ -23,10 +24,25 @@ pub fn replay(
     requires full { IsFull ⟦<BoxedOp as Op>⟧.opcode ops.now }
     ensures { IfOk result (λ verdict. Judges ledger.now block.now verdict) }
 {
-    if ledger.digest(alloc)? != *block.base() {
+    let copy = ledger.clone()?;
+    let base = Base::of(alloc, copy)?;
+    replay_owned(alloc, base, block, ops)
+}
+
+/// Makes the calls of a block on the ledger before it, and compares. Nothing is copied.
+pub fn replay_owned(
+    alloc: Global,
+    base: Base,
+    block: &Block,
+    ops: &OpSet,
+) -> Result<Verdict, AllocError>
+    requires full { IsFull ⟦<BoxedOp as Op>⟧.opcode ops.now }
+    ensures { IfOk result (λ verdict. Judges base block.now verdict) }
+{
+    if *base.digest() != *block.base() {
         return Ok(Verdict::WrongBase);
     }
-    let mut after = ledger.clone()?;
+    let mut after = base.into_ledger();
     if let Some((entry, found)) = first_wrong(
         alloc,
         &mut after,

@@ -1,0 +1,75 @@
+//! Ledgers with their digests.
+
+ghost use Rattle.std.specs.Prelude.{◌≡◌, IfOk};
+ghost use Rattle.teal_value.specs.Answer.{Gives};
+ghost use Rattle.avm_ledger.specs.LedgerReader.{ledger_at};
+ghost use Rattle.avm_ledger.specs.LedgerRules.{KeepsRules};
+ghost use Rattle.avm_ledger.specs.Spellings.{ledger_digest};
+
+use avm_ledger::{Ledger, LedgerError};
+use sha2::{Digest, Sha256};
+use std::alloc::{AllocError, Global};
+use std::marker::Model;
+
+/// A ledger before a block, with its digest, by which the block names it. It is spelled once at most: not at all where it
+/// is read.
+#[derive(Drop)]
+pub struct Base {
+    ledger: Ledger,
+    digest: [u8; 32],
+}
+
+impl Model for Base {
+    ghost use Rattle.std.specs.Prelude.{◌≡◌};
+    ghost use Rattle.avm_ledger.specs.Ledgers.{Ledger as LedgerMaps};
+    ghost use Rattle.avm_ledger.specs.Spellings.{ledger_digest};
+
+    ghost Value = { LedgerMaps };
+
+    ghost view = { λ b. b.ledger };
+
+    ghost invariant = { λ b. b.digest ≡ ledger_digest b.ledger };
+}
+
+impl Base {
+    /// The ledger, with its digest.
+    pub fn of(alloc: Global, ledger: Ledger) -> Result<Base, AllocError>
+        ensures { IfOk result (λ base. base ≡ ledger) }
+    {
+        let digest = ledger.digest(alloc)?;
+        Ok(Base { ledger, digest })
+    }
+
+    /// The ledger that the bytes are, with their digest, which is the ledger's since they are its one spelling.
+    ///
+    /// They are read as [`Ledger::read`] does.
+    pub fn read(alloc: Global, bytes: &[u8]) -> Result<Base, LedgerError>
+        ensures exact { Gives (λ base. base) result (ledger_at bytes.now) }
+        ensures rules { IfOk result KeepsRules }
+    {
+        let ledger = Ledger::read(alloc, bytes)?;
+        let digest = Sha256::digest(bytes);
+        Ok(Base { ledger, digest })
+    }
+
+    /// The ledger.
+    pub fn ledger(&self) -> &Ledger
+        ensures { result.now ≡ self.now }
+    {
+        &self.ledger
+    }
+
+    /// The ledger alone.
+    pub fn into_ledger(self) -> Ledger
+        ensures { result ≡ self }
+    {
+        self.ledger
+    }
+
+    /// The ledger's digest.
+    pub fn digest(&self) -> &[u8; 32]
+        ensures { result.now ≡ ledger_digest self.now }
+    {
+        &self.digest
+    }
+}
