@@ -1,7 +1,7 @@
 //! The opcodes of versions 2 and 3.
 
 ghost use Rattle.std.specs.Prelude.{◌≡◌, Some, IfSome};
-ghost use Rattle.teal_table.specs.Table.{opcode_at, code_of, row_of};
+ghost use Rattle.teal_table.specs.Table.{opcode_at, code_of, name_of, row_of};
 
 use crate::shape::{Shape, Version};
 
@@ -178,6 +178,91 @@ impl Opcode {
             Opcode::AppGlobalDel => 0x69,
             Opcode::Pushbytes => 0x80,
             Opcode::Pushint => 0x81,
+        }
+    }
+
+    /// Its name in source text, as its row says.
+    #[tactic(auto, unfolding(crate::specs::Table::row_of))]
+    pub fn name(self) -> &'static str
+        ensures { result.now ≡ name_of self }
+    {
+        match self {
+            Opcode::Err => "err",
+            Opcode::Sha256 => "sha256",
+            Opcode::Sha512_256 => "sha512_256",
+            Opcode::Add => "+",
+            Opcode::Subtract => "-",
+            Opcode::Divide => "/",
+            Opcode::Multiply => "*",
+            Opcode::Less => "<",
+            Opcode::Greater => ">",
+            Opcode::LessOrEqual => "<=",
+            Opcode::GreaterOrEqual => ">=",
+            Opcode::And => "&&",
+            Opcode::Or => "||",
+            Opcode::Equal => "==",
+            Opcode::NotEqual => "!=",
+            Opcode::Not => "!",
+            Opcode::Len => "len",
+            Opcode::Itob => "itob",
+            Opcode::Btoi => "btoi",
+            Opcode::Remainder => "%",
+            Opcode::BitOr => "|",
+            Opcode::BitAnd => "&",
+            Opcode::BitXor => "^",
+            Opcode::BitNot => "~",
+            Opcode::Mulw => "mulw",
+            Opcode::Addw => "addw",
+            Opcode::Intcblock => "intcblock",
+            Opcode::Intc => "intc",
+            Opcode::Intc0 => "intc_0",
+            Opcode::Intc1 => "intc_1",
+            Opcode::Intc2 => "intc_2",
+            Opcode::Intc3 => "intc_3",
+            Opcode::Bytecblock => "bytecblock",
+            Opcode::Bytec => "bytec",
+            Opcode::Bytec0 => "bytec_0",
+            Opcode::Bytec1 => "bytec_1",
+            Opcode::Bytec2 => "bytec_2",
+            Opcode::Bytec3 => "bytec_3",
+            Opcode::Txn => "txn",
+            Opcode::Global => "global",
+            Opcode::Gtxn => "gtxn",
+            Opcode::Load => "load",
+            Opcode::Store => "store",
+            Opcode::Txna => "txna",
+            Opcode::Gtxna => "gtxna",
+            Opcode::Gtxns => "gtxns",
+            Opcode::Gtxnsa => "gtxnsa",
+            Opcode::Bnz => "bnz",
+            Opcode::Bz => "bz",
+            Opcode::B => "b",
+            Opcode::Return => "return",
+            Opcode::Assert => "assert",
+            Opcode::Pop => "pop",
+            Opcode::Dup => "dup",
+            Opcode::Dup2 => "dup2",
+            Opcode::Dig => "dig",
+            Opcode::Swap => "swap",
+            Opcode::Select => "select",
+            Opcode::Concat => "concat",
+            Opcode::Substring => "substring",
+            Opcode::Substring3 => "substring3",
+            Opcode::Getbit => "getbit",
+            Opcode::Setbit => "setbit",
+            Opcode::Getbyte => "getbyte",
+            Opcode::Setbyte => "setbyte",
+            Opcode::AppOptedIn => "app_opted_in",
+            Opcode::AppLocalGet => "app_local_get",
+            Opcode::AppLocalGetEx => "app_local_get_ex",
+            Opcode::AppGlobalGet => "app_global_get",
+            Opcode::AppGlobalGetEx => "app_global_get_ex",
+            Opcode::AppLocalPut => "app_local_put",
+            Opcode::AppGlobalPut => "app_global_put",
+            Opcode::AppLocalDel => "app_local_del",
+            Opcode::AppGlobalDel => "app_global_del",
+            Opcode::Pushbytes => "pushbytes",
+            Opcode::Pushint => "pushint",
         }
     }
 

@@ -1,6 +1,7 @@
 //! The table itself.
 
-ghost use Rattle.std.specs.Prelude.{◌≡◌, find};
+ghost use Rattle.std.specs.Prelude.{◌≡◌, ◌==◌, find, length};
+ghost use Rattle.std.specs.List.{filter};
 ghost use Rattle.std.specs.Option.{option_map};
 ghost use Rattle.std.specs.Str.{bytes_eq};
 ghost use Rattle.teal_table.specs.Table.{two, three, row_of, name_of, opcodes, opcode_at, opcode_in, opcode_named};
@@ -214,11 +215,105 @@ pub fn by_name(name: &str) -> Option<Row>
 }
 
 /// The opcode of a name of source text, which is given as its bytes.
-#[tactic(auto, unfolding(crate::specs::Table::opcode_named, crate::specs::Table::opcodes))]
 pub fn opcode_named(name: &[u8]) -> Option<Opcode>
     ensures { result ≡ opcode_named name.now }
 {
-    opcode_with(&OPCODES, name)
+    opcode_with(named_in(name.len()), name)
+}
+
+// The opcodes whose names have so many bytes, by rising code.
+#[tactic(auto, unfolding(crate::specs::Table::row_of, crate::specs::Table::opcodes))]
+fn named_in(len: usize) -> &'static [Opcode]
+    ensures { result.now ≡ filter (λ o. length (name_of o) == len) opcodes }
+{
+    match len {
+        1 => &[
+            Opcode::Add,
+            Opcode::Subtract,
+            Opcode::Divide,
+            Opcode::Multiply,
+            Opcode::Less,
+            Opcode::Greater,
+            Opcode::Not,
+            Opcode::Remainder,
+            Opcode::BitOr,
+            Opcode::BitAnd,
+            Opcode::BitXor,
+            Opcode::BitNot,
+            Opcode::B,
+        ],
+        2 => &[
+            Opcode::LessOrEqual,
+            Opcode::GreaterOrEqual,
+            Opcode::And,
+            Opcode::Or,
+            Opcode::Equal,
+            Opcode::NotEqual,
+            Opcode::Bz,
+        ],
+        3 => &[
+            Opcode::Err,
+            Opcode::Len,
+            Opcode::Txn,
+            Opcode::Bnz,
+            Opcode::Pop,
+            Opcode::Dup,
+            Opcode::Dig,
+        ],
+        4 => &[
+            Opcode::Itob,
+            Opcode::Btoi,
+            Opcode::Mulw,
+            Opcode::Addw,
+            Opcode::Intc,
+            Opcode::Gtxn,
+            Opcode::Load,
+            Opcode::Txna,
+            Opcode::Dup2,
+            Opcode::Swap,
+        ],
+        5 => &[Opcode::Bytec, Opcode::Store, Opcode::Gtxna, Opcode::Gtxns],
+        6 => &[
+            Opcode::Sha256,
+            Opcode::Intc0,
+            Opcode::Intc1,
+            Opcode::Intc2,
+            Opcode::Intc3,
+            Opcode::Global,
+            Opcode::Gtxnsa,
+            Opcode::Return,
+            Opcode::Assert,
+            Opcode::Select,
+            Opcode::Concat,
+            Opcode::Getbit,
+            Opcode::Setbit,
+        ],
+        7 => &[
+            Opcode::Bytec0,
+            Opcode::Bytec1,
+            Opcode::Bytec2,
+            Opcode::Bytec3,
+            Opcode::Getbyte,
+            Opcode::Setbyte,
+            Opcode::Pushint,
+        ],
+        9 => &[Opcode::Intcblock, Opcode::Substring, Opcode::Pushbytes],
+        10 => &[Opcode::Sha512_256, Opcode::Bytecblock, Opcode::Substring3],
+        12 => &[Opcode::AppOptedIn],
+        13 => &[
+            Opcode::AppLocalGet,
+            Opcode::AppLocalPut,
+            Opcode::AppLocalDel,
+        ],
+        14 => &[
+            Opcode::AppGlobalGet,
+            Opcode::AppGlobalPut,
+            Opcode::AppGlobalDel,
+        ],
+        16 => &[Opcode::AppLocalGetEx],
+        17 => &[Opcode::AppGlobalGetEx],
+        _ => &[],
+    }
 }
 
 // The first opcode with the name.
@@ -226,89 +321,9 @@ fn opcode_with(opcodes: &[Opcode], name: &[u8]) -> Option<Opcode>
     ensures { result ≡ find (λ o. bytes_eq (name_of o) name.now) opcodes.now }
 {
     for opcode in opcodes {
-        if opcode.row().name.as_bytes() == name {
+        if opcode.name().as_bytes() == name {
             return Some(*opcode);
         }
     }
     None
 }
-
-// The opcodes by rising code.
-static OPCODES: [Opcode; 76] = [
-    Opcode::Err,
-    Opcode::Sha256,
-    Opcode::Sha512_256,
-    Opcode::Add,
-    Opcode::Subtract,
-    Opcode::Divide,
-    Opcode::Multiply,
-    Opcode::Less,
-    Opcode::Greater,
-    Opcode::LessOrEqual,
-    Opcode::GreaterOrEqual,
-    Opcode::And,
-    Opcode::Or,
-    Opcode::Equal,
-    Opcode::NotEqual,
-    Opcode::Not,
-    Opcode::Len,
-    Opcode::Itob,
-    Opcode::Btoi,
-    Opcode::Remainder,
-    Opcode::BitOr,
-    Opcode::BitAnd,
-    Opcode::BitXor,
-    Opcode::BitNot,
-    Opcode::Mulw,
-    Opcode::Addw,
-    Opcode::Intcblock,
-    Opcode::Intc,
-    Opcode::Intc0,
-    Opcode::Intc1,
-    Opcode::Intc2,
-    Opcode::Intc3,
-    Opcode::Bytecblock,
-    Opcode::Bytec,
-    Opcode::Bytec0,
-    Opcode::Bytec1,
-    Opcode::Bytec2,
-    Opcode::Bytec3,
-    Opcode::Txn,
-    Opcode::Global,
-    Opcode::Gtxn,
-    Opcode::Load,
-    Opcode::Store,
-    Opcode::Txna,
-    Opcode::Gtxna,
-    Opcode::Gtxns,
-    Opcode::Gtxnsa,
-    Opcode::Bnz,
-    Opcode::Bz,
-    Opcode::B,
-    Opcode::Return,
-    Opcode::Assert,
-    Opcode::Pop,
-    Opcode::Dup,
-    Opcode::Dup2,
-    Opcode::Dig,
-    Opcode::Swap,
-    Opcode::Select,
-    Opcode::Concat,
-    Opcode::Substring,
-    Opcode::Substring3,
-    Opcode::Getbit,
-    Opcode::Setbit,
-    Opcode::Getbyte,
-    Opcode::Setbyte,
-    Opcode::AppOptedIn,
-    Opcode::AppLocalGet,
-    Opcode::AppLocalGetEx,
-    Opcode::AppGlobalGet,
-    Opcode::AppGlobalGetEx,
-    Opcode::AppLocalPut,
-    Opcode::AppGlobalPut,
-    Opcode::AppLocalDel,
-    Opcode::AppGlobalDel,
-    Opcode::Pushbytes,
-    Opcode::Pushint,
-];
