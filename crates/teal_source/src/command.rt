@@ -68,8 +68,8 @@ fn opcode_command(
     ensures { Gives (λ command. command) result (opcode_command version (only_in version (opcode_named name.now)) (words operands.now)) }
 {
     match opcode_named(name) {
-        Some(opcode) if version.has(opcode.row().version) => {
-            with_operands(alloc, version, opcode, opcode.row().immediates, operands)
+        Some(opcode) if version.has(opcode.version()) => {
+            with_operands(alloc, version, opcode, opcode.immediates(), operands)
         }
         _ => Err(Failure::Fault(AsmFaultKind::UnknownName)),
     }
