@@ -1,39 +1,28 @@
--- What the assembler answers, step by step.
-use Rattle.std.proofs.Common.{◌≡◌, ℕ, List, [], length, Result, Ok, Err, ap, ◌∙◌}
+-- What the assembler answers, from what the lines of the text mean.
+use Rattle.std.proofs.Common.{◌≡◌, ℕ, ◌+◌, List, [], length, Result, Ok, Err, ap, ◌∙◌, arith}
 use Rattle.std.specs.Result.{result_unwrap_or}
 use Rattle.teal_value.specs.declared.failure.Failure.{Failure}
 use Rattle.teal_value.specs.declared.failure.Failure.TheVariants as failure
 use Rattle.teal_value.specs.Answer.{◌>>=◌, Fails}
 use Rattle.teal_text.specs.declared.fault.TextFault.{TextFault}
 use Rattle.teal_text.specs.Lines.{LineTokens, lines_of}
+use Rattle.teal_text.specs.Unread.{all_lines}
 use Rattle.teal_source.specs.declared.fault.AsmFault.{AsmFault}
-use Rattle.teal_source.specs.Statements.{on_text, words_of_lines}
-use Rattle.teal_asm.specs.Meaning.{Meaning, meaning_of_lines, meaning}
+use Rattle.teal_asm.specs.Meaning.{Meaning, meaning}
 use Rattle.teal_asm.specs.Program.{program, short_program, line_count, assembled}
+use Rattle.teal_asm.specs.Reading.{line_total, unread_meaning}
 
--- the answer, from the lines
-abbrev answer : List ℕ → Result (List LineTokens) AsmFault → Result (List ℕ) AsmFault
-answer text lines = (lines >>= λ ls. meaning_of_lines (words_of_lines text ls)) >>= λ m. short_program (line_count text) (program m)
-
-of_lines : (text : List ℕ) (r : Result (List LineTokens) AsmFault) → on_text (lines_of text) ≡ r → assembled text ≡ answer text r
+of_meaning : (text : List ℕ) (r : Result Meaning AsmFault) → unread_meaning (all_lines text) ≡ r → assembled text ≡ (r >>= λ m. short_program (line_count text) (program m))
 unfolding assembled meaning
-of_lines text r e = ap (answer text) e
+of_meaning text r e = ap (λ q. q >>= λ m. short_program (line_count text) (program m)) e
 
-of_meaning : (text : List ℕ) (ls : List LineTokens) (r : Result Meaning AsmFault) → on_text (lines_of text) ≡ Ok ls → meaning_of_lines (words_of_lines text ls) ≡ r
-    → assembled text ≡ (r >>= λ m. short_program (line_count text) (program m))
-of_meaning text ls r lines e = of_lines text (Ok ls) lines ∙ ap (λ q. q >>= λ m. short_program (line_count text) (program m)) e
+count : (r : Result (List LineTokens) TextFault) (n : ℕ) → (r >>= λ ls. Ok (0 + length ls)) ≡ Ok n → length (result_unwrap_or r []) ≡ n
+count (Ok ls) n e = let same : 0 + length ls ≡ n = cc in omega (arith, same)
+count (Err f) n e = absurd cc
 
-count : (r : Result (List LineTokens) TextFault) (ls : List LineTokens) → on_text r ≡ Ok ls → length (result_unwrap_or r []) ≡ length ls
-count (Ok xs) ls e = let same : xs ≡ ls = cc in ap length same
-count (Err d) ls e = absurd cc
+pub no_meaning : (text : List ℕ) (d : Failure AsmFault) → Fails d (unread_meaning (all_lines text)) → Fails d (assembled text)
+no_meaning text failure.Memory e = tt
+no_meaning text (failure.Fault f) e = of_meaning text (Err f) e
 
-pub no_lines : (text : List ℕ) (d : Failure AsmFault) → Fails d (on_text (lines_of text)) → Fails d (assembled text)
-no_lines text failure.Memory e = tt
-no_lines text (failure.Fault f) e = of_lines text (Err f) e
-
-pub no_meaning : (text : List ℕ) (ls : List LineTokens) (d : Failure AsmFault) → on_text (lines_of text) ≡ Ok ls → Fails d (meaning_of_lines (words_of_lines text ls)) → Fails d (assembled text)
-no_meaning text ls failure.Memory lines e = tt
-no_meaning text ls (failure.Fault f) lines e = of_meaning text ls (Err f) lines e
-
-pub its_program : (text : List ℕ) (ls : List LineTokens) (m : Meaning) → on_text (lines_of text) ≡ Ok ls → meaning_of_lines (words_of_lines text ls) ≡ Ok m → assembled text ≡ short_program (length ls) (program m)
-its_program text ls m lines e = of_meaning text ls (Ok m) lines e ∙ ap (λ n. short_program n (program m)) (count (lines_of text) ls lines)
+pub its_program : (text : List ℕ) (m : Meaning) (n : ℕ) → unread_meaning (all_lines text) ≡ Ok m → line_total (all_lines text) ≡ Ok n → assembled text ≡ short_program n (program m)
+its_program text m n e total = of_meaning text (Ok m) e ∙ ap (λ k. short_program k (program m)) (count (lines_of text) n total)

@@ -1,26 +1,22 @@
 -- The line of the pragma: the first that has a token.
-use Rattle.std.proofs.Common.{◌≡◌, ℕ, zero, suc, ◌==◌, true, false, ◌-◌, ◌<◌, ◌≤◌, List, [], ◌∷◌, ◌++◌, length, map, take, drop, get_or, All, refl, sym, ap, ◌∙◌, arith}
+use Rattle.std.proofs.Common.{◌≡◌, ℕ, zero, suc, ◌==◌, true, false, ◌<◌, List, [], ◌∷◌, ◌++◌, length, map, Result, Ok, Err, refl, sym, ap, ◌∙◌, arith}
 use Rattle.std.proofs.lemmas.Bool.{eqb-true}
-use Rattle.std.proofs.lemmas.List.{nil_from_length, take_all}
+use Rattle.std.proofs.lemmas.List.{nil_from_length}
+use Rattle.teal_value.specs.declared.failure.Failure.{Failure}
+use Rattle.teal_value.specs.declared.failure.Failure.TheVariants as failure
+use Rattle.teal_value.specs.Answer.{◌>>=◌, Fails}
+use Rattle.teal_table.specs.declared.shape.Version.{Version}
+use Rattle.teal_text.specs.declared.fault.TextFault.{TextFault}
 use Rattle.teal_text.specs.declared.token.Token.{Token}
 use Rattle.teal_text.specs.declared.line.Line.{Line}
-use Rattle.teal_text.specs.Lines.{view, views}
-use Rattle.teal_source.specs.Statements.{pragma_of, word_at, words_on, words_of_line, words_of_lines}
-use Rattle.teal_asm.specs.Meaning.{meaning_of_lines, meaning_with}
-
--- the parts of a slice pattern
-pub first_and_more : (ls : List Line) (l : Line) → 1 ≤ length ls → l ≡ get_or ls 0 l → ls ≡ l ∷ take (length ls - 1) (drop 1 ls)
-first_and_more [] l some e = absurd (omega (arith, some))
-first_and_more (x ∷ xs) l some e = ap (λ y. y ∷ xs) (sym e) ∙ ap (λ ys. l ∷ ys) (sym (take_all (suc (length xs) - 1) xs (omega arith)))
-
-pub first_of : {A : Type 0} (P : A → Type 0) (ls : List A) (x : A) (more : List A) → ls ≡ x ∷ more → All P ls → P x
-first_of P ls x more e all = (rw e at all) 0 x (omega arith)
-
-pub more_of : {A : Type 0} (P : A → Type 0) (ls : List A) (x : A) (more : List A) → ls ≡ x ∷ more → All P ls → All P more
-more_of P ls x more e all = λ k d lt. (rw e at all) (suc k) d (omega (arith, lt))
-
-pub fewer : {A : Type 0} (ls : List A) (x : A) (more : List A) → ls ≡ x ∷ more → length more < length ls
-fewer ls x more e = rw e (omega arith)
+use Rattle.teal_text.specs.Lines.{LineTokens, view, with_line}
+use Rattle.teal_text.specs.Unread.{Unread, IsBehind}
+use Rattle.teal_source.specs.declared.statement.Statement.{Statement}
+use Rattle.teal_source.specs.declared.fault.AsmFault.{AsmFault}
+use Rattle.teal_source.specs.Statements.{on_text, pragma_of, statements, word_at, words_on, words_of_line, words_of_lines}
+use Rattle.teal_asm.specs.Meaning.{Meant, Meaning, all_instructions, meaning_of_lines, meaning_with}
+use Rattle.teal_asm.specs.Reading.{IsLater, meaning_behind, unread_meaning, unread_statements}
+use Rattle.teal_asm.proofs.LineByLine.{late, then_then}
 
 pub no_token : (n : ℕ) → true ≡ (n == 0) → n ≡ 0
 no_token n e = eqb-true n 0 (sym e)
@@ -30,14 +26,54 @@ some_token zero e = absurd cc
 some_token (suc n) e = omega arith
 
 -- a line without a token has no words
-pub blank_line : (text : List ℕ) (l : Line) (ls : List Line) → length l.tokens.items ≡ 0 → words_of_lines text (views (l ∷ ls)) ≡ words_of_lines text (views ls)
-blank_line text l ls e = ap (λ ts. words_on l.number (map (word_at text) ts) ++ words_of_lines text (views ls)) (nil_from_length l.tokens.items e)
+pub blank_line : (u next : Unread) (l : Line) → IsBehind l u next → length l.tokens.items ≡ 0 → unread_meaning next ≡ unread_meaning u
+blank_line u next l is none =
+    ap (λ t. on_text next.lines >>= λ ls. meaning_of_lines (words_of_lines t ls)) is.text ∙ at_rest next.lines
+    ∙ sym (ap (λ q. on_text q >>= λ ls. meaning_of_lines (words_of_lines u.text ls)) is.lines)
+  where
+    at_rest : (q : Result (List LineTokens) TextFault) → (on_text q >>= λ ls. meaning_of_lines (words_of_lines u.text ls)) ≡ (on_text (with_line (view l) q) >>= λ ls. meaning_of_lines (words_of_lines u.text ls))
+    at_rest (Ok ls) = sym (ap (λ ts. meaning_of_lines (words_on l.number (map (word_at u.text) ts) ++ words_of_lines u.text ls)) (nil_from_length l.tokens.items none))
+    at_rest (Err f) = refl
 
 -- a line with a token is the pragma's
-pub behind_pragma : (text : List ℕ) (l : Line) (ls : List Line) → 0 < length l.tokens.items
-    → meaning_with (pragma_of text (view l)) (words_of_lines text (views ls)) ≡ meaning_of_lines (words_of_lines text (views (l ∷ ls)))
-behind_pragma text l ls some = at_tokens l.tokens.items some
+pub pragma_line : (u next : Unread) (l : Line) → IsBehind l u next → 0 < length l.tokens.items → unread_meaning u ≡ meaning_behind (pragma_of u.text (view l)) next
+pragma_line u next l is some =
+    ap (λ q. on_text q >>= λ ls. meaning_of_lines (words_of_lines u.text ls)) is.lines ∙ at_rest next.lines
+    ∙ sym (ap (λ t. on_text next.lines >>= λ ls. meaning_with (pragma_of u.text (view l)) (words_of_lines t ls)) is.text)
   where
-    at_tokens : (ts : List Token) → 0 < length ts → meaning_with (pragma_of text (record { number = l.number; tokens = ts })) (words_of_lines text (views ls)) ≡ meaning_of_lines (words_of_line text (record { number = l.number; tokens = ts }) ++ words_of_lines text (views ls))
-    at_tokens [] some = absurd (omega (arith, some))
-    at_tokens (t ∷ ts) some = refl
+    at_tokens : (ls : List LineTokens) (ts : List Token) → 0 < length ts
+        → meaning_of_lines (words_of_line u.text (record { number = l.number; tokens = ts }) ++ words_of_lines u.text ls) ≡ meaning_with (pragma_of u.text (record { number = l.number; tokens = ts })) (words_of_lines u.text ls)
+    at_tokens ls [] some = absurd (omega (arith, some))
+    at_tokens ls (t ∷ ts) some = refl
+
+    at_rest : (q : Result (List LineTokens) TextFault) → (on_text (with_line (view l) q) >>= λ ls. meaning_of_lines (words_of_lines u.text ls)) ≡ (on_text q >>= λ ls. meaning_with (pragma_of u.text (view l)) (words_of_lines u.text ls))
+    at_rest (Ok ls) = at_tokens ls l.tokens.items some
+    at_rest (Err f) = refl
+
+-- a pragma that is wrong
+pub no_version : (named : Result Version AsmFault) (u : Unread) (d e : Failure AsmFault) → Fails d named → IsLater d e u.lines → Fails e (meaning_behind named u)
+no_version named u d e fails later = late d e u.lines (meaning_behind named u) later (λ f is_fault. at_fault f (rw is_fault at fails))
+  where
+    at_fault : (f : AsmFault) → named ≡ Err f → meaning_behind named u ≡ (on_text u.lines >>= λ ls. Err f)
+    at_fault f is = ap (λ n. on_text u.lines >>= λ ls. meaning_with n (words_of_lines u.text ls)) is
+
+-- the version is known: the statements, and their instructions
+by_statements : (version : Version) (u : Unread) (r : Result (List Statement) AsmFault) (named : Result Version AsmFault) → named ≡ Ok version → unread_statements version [] u ≡ r
+    → meaning_behind named u ≡ (r >>= λ ss. all_instructions ss >>= λ is. Ok (record { version = version; instructions = is }))
+by_statements version u r named is e =
+    ap (λ n. on_text u.lines >>= λ ls. meaning_with n (words_of_lines u.text ls)) is
+    ∙ then_then (on_text u.lines) (λ ls. statements version [] (words_of_lines u.text ls)) (λ ss. all_instructions ss >>= λ is. Ok (record { version = version; instructions = is }))
+    ∙ ap (λ q. q >>= λ ss. all_instructions ss >>= λ is. Ok (record { version = version; instructions = is })) e
+
+pub no_statements : (version : Version) (u : Unread) (d : Failure AsmFault) (named : Result Version AsmFault) → named ≡ Ok version → Fails d (unread_statements version [] u) → Fails d (meaning_behind named u)
+no_statements version u failure.Memory named is e = tt
+no_statements version u (failure.Fault f) named is e = by_statements version u (Err f) named is e
+
+pub no_instructions : (version : Version) (u : Unread) (ss : List Statement) (d : Failure AsmFault) (named : Result Version AsmFault) → named ≡ Ok version → unread_statements version [] u ≡ Ok ss → Fails d (all_instructions ss)
+    → Fails d (meaning_behind named u)
+no_instructions version u ss failure.Memory named is e fails = tt
+no_instructions version u ss (failure.Fault f) named is e fails = by_statements version u (Ok ss) named is e ∙ ap (λ q. q >>= λ is. Ok (record { version = version; instructions = is })) fails
+
+pub its_instructions : (version : Version) (u : Unread) (ss : List Statement) (instructions : List Meant) (named : Result Version AsmFault) → named ≡ Ok version → unread_statements version [] u ≡ Ok ss → all_instructions ss ≡ Ok instructions
+    → meaning_behind named u ≡ Ok (record { version = version; instructions = instructions })
+its_instructions version u ss instructions named is e given = by_statements version u (Ok ss) named is e ∙ ap (λ q. q >>= λ is. Ok (record { version = version; instructions = is })) given

@@ -1,4 +1,5 @@
 pub mod Meaning
+pub mod Reading
 pub mod Program
 pub mod Instructions
 pub mod Bodies

@@ -1,11 +1,12 @@
 //! The lines of a text, one behind another.
 
-ghost use Rattle.std.specs.Prelude.{◌≡◌, ◌∷◌, [], length, map, All, OnOk, IfOk};
+ghost use Rattle.std.specs.Prelude.{◌≡◌, ◌∷◌, [], Ok, length, map, All, OnOk, IfOk};
 ghost use Rattle.teal_value.specs.Answer.{Gives, Leaves};
 ghost use Rattle.teal_text.specs.Tokens.{LiesWithin};
-ghost use Rattle.teal_text.specs.Lines.{view, views};
-ghost use Rattle.teal_source.specs.Statements.{failure_on_line, pragma_in, pragma_of, statements, word_at, words_of_line, words_of_lines, words_on};
+ghost use Rattle.teal_text.specs.Lines.{view};
+ghost use Rattle.teal_source.specs.Statements.{failure_on_line, pragma_in, pragma_of, statements, word_at, words_of_line, words_on};
 ghost use Rattle.teal_asm.specs.Bodies.{IsBody};
+ghost use Rattle.teal_asm.specs.Reading.{FindsFirst, IsLater, IsNext, all_tokens, line_total, unread_statements};
 ghost use Rattle.teal_source.specs.Shown.{words};
 
 use crate::body::Body;
@@ -13,25 +14,80 @@ use crate::line::add_line;
 use std::alloc::{AllocError, Global};
 use teal_source::{AsmError, AsmFault, AsmFaultKind, LineError, is_pragma, named_version};
 use teal_table::Version;
-use teal_text::{Line, Token};
+use teal_text::{Line, Lines, Token};
 use teal_value::Failure;
 
-/// The statements of lines of a text.
+/// The statements of the lines that are left. Their tokens take the memory of `spare`.
 pub(crate) fn body_of(
     alloc: Global,
     version: Version,
-    text: &[u8],
-    lines: &[Line],
+    lines: &mut Lines<'_>,
+    spare: Vec<Token>,
 ) -> Result<Body, AsmError>
-    requires { All (λ line. All (LiesWithin 0 (length text.now)) line.tokens.items) lines.now }
-    ensures statements { Gives (λ body. body.statements.items) result (statements version [] (words_of_lines text.now (views lines.now))) }
+    ensures statements { Gives (λ body. body.statements.items) result (unread_statements version [] lines.old) }
     ensures kept { IfOk result IsBody }
+    ensures read { IfOk result (λ body. line_total lines.old ≡ Ok lines.new.read) }
 {
     let mut body = Body::new(alloc);
-    for line in lines {
-        add_tokens(alloc, version, text, line, &mut body)?;
+    let mut spare = spare;
+    while let Some(line) = next_line(lines, spare)? {
+        match add_tokens(alloc, version, lines.text(), &line, &mut body) {
+            Ok(()) => spare = line.tokens,
+            Err(error) => return Err(later_fault(lines, line.tokens, error)),
+        }
     }
     Ok(body)
+}
+
+/// The first line with a token, if there is one.
+pub(crate) fn first_line(alloc: Global, lines: &mut Lines<'_>) -> Result<Option<Line>, AsmError>
+    ensures { FindsFirst result lines.old lines.new }
+{
+    let mut spare = Vec::new(alloc);
+    while let Some(line) = next_line(lines, spare)? {
+        if !line.tokens.is_empty() {
+            return Ok(Some(line));
+        }
+        spare = line.tokens;
+    }
+    Ok(None)
+}
+
+/// A failure behind the round of the tokens, unless a line that is left has a fault in that round.
+pub(crate) fn later_fault(lines: &mut Lines<'_>, spare: Vec<Token>, error: AsmError) -> AsmError
+    ensures { IsLater error result lines.old.lines }
+{
+    match error {
+        Failure::Memory => Failure::Memory,
+        Failure::Fault(fault) => match read_all(lines, spare) {
+            Ok(()) => Failure::Fault(fault),
+            Err(error) => error,
+        },
+    }
+}
+
+// Reads the lines that are left.
+fn read_all(lines: &mut Lines<'_>, spare: Vec<Token>) -> Result<(), AsmError>
+    ensures { Gives (λ x. x) result (all_tokens lines.old.lines) }
+{
+    let mut spare = spare;
+    while let Some(line) = next_line(lines, spare)? {
+        spare = line.tokens;
+    }
+    Ok(())
+}
+
+fn next_line(lines: &mut Lines<'_>, spare: Vec<Token>) -> Result<Option<Line>, AsmError>
+    ensures { IsNext result lines.old lines.new }
+{
+    match lines.next_line(spare) {
+        Ok(line) => Ok(line),
+        Err(Failure::Memory) => Err(Failure::Memory),
+        Err(Failure::Fault(fault)) => Err(Failure::Fault(AsmFault {
+            line: fault.line,
+            kind: AsmFaultKind::Text,
+        })),
+    }
 }
 
 // Adds the statement of a line, if it has a token.

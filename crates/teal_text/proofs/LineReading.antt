@@ -1,8 +1,8 @@
 -- Reading a text line by line.
-use Rattle.std.proofs.Common.{◌≡◌, ℕ, ◌+◌, ◌<◌, ◌≤◌, Bool, true, false, not, cond, eqb, List, [], ◌∷◌, ◌++◌, length, take, drop, Result, Ok, Err, refl, sym, ap, ◌∙◌, append_assoc, arith, inl, inr}
+use Rattle.std.proofs.Common.{◌≡◌, ℕ, ◌+◌, ◌<◌, ◌≤◌, Bool, true, false, not, cond, eqb, List, [], ◌∷◌, length, take, drop, Result, Ok, Err, refl, ap, ◌∙◌, arith, inl, inr, ◌-◌}
 use Rattle.std.specs.List.{slice_split, onto_first}
 use Rattle.std.specs.Str.Lines.{strip_carriage_return}
-use Rattle.std.proofs.lemmas.List.{append-nil, drop_all, nil_from_length}
+use Rattle.std.proofs.lemmas.List.{drop_all, nil_from_length}
 use Rattle.std.proofs.lemmas.List.Folds.{length-prefix_len}
 use Rattle.std.proofs.lemmas.List.Sums.{prefix_len_passes, prefix_len-le-length}
 use Rattle.std.proofs.lemmas.List.Splits.{slice_split_none, slice_split_first}
@@ -15,16 +15,8 @@ use Rattle.teal_text.specs.declared.fault.TextFault.{TextFault}
 use Rattle.teal_text.specs.declared.token.Token.{Token}
 use Rattle.teal_value.specs.Answer.{◌>>=◌, Fails}
 use Rattle.teal_text.specs.Tokens.{tokens_of}
-use Rattle.teal_text.specs.Lines.{LineTokens, on_line, with_line, lines_from, lines_of, is_line_feed, line_len, line_text}
-
--- lines, after those in front
-abbrev pub with_lines : List LineTokens → Result (List LineTokens) TextFault → Result (List LineTokens) TextFault
-with_lines front (Ok ls) = Ok (front ++ ls)
-with_lines front (Err e) = Err e
-
--- the lines so far and those of the rest are those that are meant
-pub record ReadsLines (so_far : List LineTokens) (number place : ℕ) (rest : List ℕ) (meant : Result (List LineTokens) TextFault) : Type 0 where
-  pub same : with_lines so_far (lines_from number place (slice_split is_line_feed rest)) ≡ meant
+use Rattle.teal_text.specs.Lines.{LineTokens, on_line, with_line, lines_from, is_line_feed, line_len, line_text}
+use Rattle.teal_text.specs.Unread.{all_lines, unread_behind}
 
 pub has_first : (p : ℕ → Bool) (xs : List ℕ) → (y : List ℕ) × (ys : List (List ℕ)) × (slice_split p xs ≡ y ∷ ys)
 has_first p [] = ([], [], refl)
@@ -78,10 +70,6 @@ next_line number place rest some =
       | inr le ↦ last_line_lem number place rest some (omega (arith, prefix_len-le-length (λ x. not (is_line_feed x)) rest))
     ]
 
-regroup : (front : List LineTokens) (l : LineTokens) (r : Result (List LineTokens) TextFault) → with_lines front (with_line l r) ≡ with_lines (front ++ l ∷ []) r
-regroup front l (Ok ls) = ap (λ (x : List LineTokens). Ok x) (simp append_assoc)
-regroup front l (Err e) = refl
-
 -- the place of a rest that is empty doesn't count
 any_place : (number p q : ℕ) (rest : List ℕ) → rest ≡ [] → lines_from number p (slice_split is_line_feed rest) ≡ lines_from number q (slice_split is_line_feed rest)
 unfolding lines_from
@@ -94,33 +82,24 @@ same_place number p q len rest next e gone =
       | inr le ↦ any_place number p q next (gone le)
     ]
 
-pub begins : (text : List ℕ) (number place : ℕ) → number ≡ 1 → place ≡ 0 → ReadsLines [] number place text (lines_of text)
-begins text number place n p = record { same = rw (n, p) (with_none _) } where
-  with_none : (r : Result (List LineTokens) TextFault) → with_lines [] r ≡ r
-  with_none (Ok ls) = refl
-  with_none (Err e) = refl
+pub from_top : (text : List ℕ) → unread_behind 0 text text ≡ all_lines text
+from_top text =
+    let place : length text - length text ≡ 0 = omega arith in
+    ap (λ p. record { text = text; read = 0; left = length text; lines = lines_from 1 p (slice_split is_line_feed text) }) place
 
--- the first line of the rest goes to those that are read
-pub goes_on : (so_far : List LineTokens) (number place at n : ℕ) (rest next : List ℕ) (meant : Result (List LineTokens) TextFault) (tokens : List Token) → 0 < length rest → ReadsLines so_far number place rest meant
-    → on_line number (tokens_of place (line_text rest)) ≡ Ok tokens → n ≡ number + 1 → next ≡ drop (line_len rest + 1) rest → (line_len rest < length rest → at ≡ place + line_len rest + 1)
-    → ReadsLines (so_far ++ record { number = number; tokens = tokens } ∷ []) n at next meant
-goes_on so_far number place at n rest next meant tokens some r e n-is next-is at-is = record {
-  same =
-      let line : LineTokens = record { number = number; tokens = tokens } in
-      let one : lines_from number place (slice_split is_line_feed rest) ≡ with_line line (lines_from (number + 1) (place + line_len rest + 1) (slice_split is_line_feed (drop (line_len rest + 1) rest))) = next_line number place rest some ∙ ap (then_lines number place rest) e in
-      let there = same_place (number + 1) (place + line_len rest + 1) at (line_len rest) rest (drop (line_len rest + 1) rest) at-is (λ le. drop_all (line_len rest + 1) rest (omega (arith, le))) in
-      rw (n-is, next-is) (sym (ap (with_lines (so_far ++ line ∷ [])) there) ∙ sym (regroup so_far line _) ∙ ap (with_lines so_far) (sym one) ∙ r.same);
-}
+-- the first line is read, and the lines behind it are those of what follows it
+pub takes : (number place at : ℕ) (rest next : List ℕ) (tokens : List Token) → 0 < length rest → on_line number (tokens_of place (line_text rest)) ≡ Ok tokens → next ≡ drop (line_len rest + 1) rest → (line_len rest < length rest → at ≡ place + line_len rest + 1)
+    → lines_from number place (slice_split is_line_feed rest) ≡ with_line (record { number = number; tokens = tokens }) (lines_from (number + 1) at (slice_split is_line_feed next))
+takes number place at rest next tokens some e next-is at-is =
+    let line : LineTokens = record { number = number; tokens = tokens } in
+    let one : lines_from number place (slice_split is_line_feed rest) ≡ with_line line (lines_from (number + 1) (place + line_len rest + 1) (slice_split is_line_feed (drop (line_len rest + 1) rest))) = next_line number place rest some ∙ ap (then_lines number place rest) e in
+    let there = same_place (number + 1) (place + line_len rest + 1) at (line_len rest) rest (drop (line_len rest + 1) rest) at-is (λ le. drop_all (line_len rest + 1) rest (omega (arith, le))) in
+    rw next-is (one ∙ ap (with_line line) there)
 
-pub ends : (d : Failure TextFault) (so_far : List LineTokens) (number place : ℕ) (rest : List ℕ) (meant : Result (List LineTokens) TextFault) → 0 < length rest → ReadsLines so_far number place rest meant
-    → Fails d (on_line number (tokens_of place (line_text rest))) → Fails d meant
-ends failure.Memory so_far number place rest meant some r e = tt
-ends (failure.Fault f) so_far number place rest meant some r e =
-    let one : lines_from number place (slice_split is_line_feed rest) ≡ Err f = next_line number place rest some ∙ ap (then_lines number place rest) e in
-    sym r.same ∙ ap (with_lines so_far) one
+pub refuses : (d : Failure TextFault) (number place : ℕ) (rest : List ℕ) → 0 < length rest → Fails d (on_line number (tokens_of place (line_text rest))) → Fails d (lines_from number place (slice_split is_line_feed rest))
+refuses failure.Memory number place rest some e = tt
+refuses (failure.Fault f) number place rest some e = next_line number place rest some ∙ ap (then_lines number place rest) e
 
-pub is_done : (so_far : List LineTokens) (number place : ℕ) (rest : List ℕ) (meant : Result (List LineTokens) TextFault) → ReadsLines so_far number place rest meant → length rest ≡ 0 → meant ≡ Ok so_far
+pub none_left : (number place : ℕ) (rest : List ℕ) → length rest ≡ 0 → lines_from number place (slice_split is_line_feed rest) ≡ Ok []
 unfolding lines_from
-is_done so_far number place rest meant r e =
-    let none : lines_from number place (slice_split is_line_feed rest) ≡ Ok [] = rw (nil_from_length rest e) refl in
-    sym r.same ∙ ap (with_lines so_far) none ∙ ap (λ (x : List LineTokens). Ok x) (append-nil so_far)
+none_left number place rest e = rw (nil_from_length rest e) refl

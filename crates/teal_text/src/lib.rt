@@ -1,12 +1,14 @@
 //! The lines, tokens, numbers and byte literals of TEAL source text (TEAL specification, "Assembler syntax").
 //!
-//! What each call gives is a function of the text's bytes: `specs/Lines.antt` over `specs/Tokens.antt`,
+//! What each call gives is a function of the text's bytes: `specs/Lines.antt` over `specs/Tokens.antt`, read
+//! one by one in `specs/Unread.antt`,
 //! `specs/Numbers.antt`, and `specs/Literals.antt` over `specs/Strings.antt`. Laws about these functions are contracts of
 //! calls that do nothing: where tokens lie, and that what a listing is made of reads back.
 #![tactic(auto)]
 
 mod fault;
 mod line;
+mod lines;
 mod literal;
 mod numbers;
 mod scan;
@@ -14,7 +16,8 @@ mod string;
 mod token;
 
 pub use fault::{TextError, TextFault, TextFaultKind};
-pub use line::{Line, first_line, lines, plain_words_read_back, tokens_lie_in_order};
+pub use line::{Line, first_line, plain_words_read_back, tokens_lie_in_order};
+pub use lines::Lines;
 pub use literal::{
     base64_bytes, byte_literal, encoded_bytes, literals_read_back, names_encoding, token_bytes,
 };

@@ -8,12 +8,11 @@ ghost use Rattle.std.specs.List.{list_all};
 ghost use Rattle.teal_text.specs.PlainWords.{is_plain_line, text_of_lines, lines_of_words, words_at};
 ghost use Rattle.teal_text.specs.TokenOrder.{LieInOrder};
 ghost use Rattle.teal_text.specs.declared.token.Token.{Token};
-ghost use Rattle.teal_text.specs.Lines.{views, lines_of, on_line, line_len, line_text};
+ghost use Rattle.teal_text.specs.Lines.{lines_of, on_line, line_len, line_text};
 
 use crate::fault::{TextError, TextFault};
 use crate::scan::{announces_base64, blank_len, first_token};
 use crate::token::Token;
-use std::alloc::Global;
 use teal_value::Failure;
 
 /// A line, with its number from 1 and its tokens from left to right.
@@ -21,27 +20,6 @@ use teal_value::Failure;
 pub struct Line {
     pub number: usize,
     pub tokens: Vec<Token>,
-}
-
-/// The lines of a text, those without a token too.
-///
-/// A line feed ends a line, and a carriage return directly before it is no part of the line.
-pub fn lines(alloc: Global, text: &str) -> Result<Vec<Line>, TextError>
-    ensures value { Gives (λ v. views v.items) result (lines_of text.now) }
-    ensures within { IfOk result (λ v. All (λ line. All (LiesWithin 0 (length text.now)) line.tokens.items) v.items) }
-{
-    let mut lines = Vec::new(alloc);
-    let bytes = text.as_bytes();
-    let mut rest = bytes;
-    while !rest.is_empty() {
-        let number = lines.len() + 1;
-        let place = bytes.len() - rest.len();
-        let (line, next) = first_line(rest);
-        let tokens = tokens_of(alloc, number, place, line)?;
-        lines.push(Line { number, tokens })?;
-        rest = next;
-    }
-    Ok(lines)
 }
 
 /// The law of a line's tokens: they lie in order in their line, only blanks stand between them, and only blanks and a
@@ -93,18 +71,19 @@ fn without_carriage_return(line: &[u8]) -> &[u8]
     }
 }
 
-/// The tokens of the line of this number, which begins at a place of the text.
-fn tokens_of(
-    alloc: Global,
+/// The tokens of the line of this number, which begins at a place of the text. They take the memory of `spare`.
+pub(crate) fn tokens_of(
     number: usize,
     place: usize,
     line: &[u8],
+    spare: Vec<Token>,
 ) -> Result<Vec<Token>, TextError>
     requires { place + length line.now < 2 ^ 64 }
     ensures value { Gives (λ v. v.items) result (on_line number (tokens_of place line.now)) }
     ensures within { IfOk result (λ v. All (LiesWithin place (place + length line.now)) v.items) }
 {
-    let mut tokens = Vec::new(alloc);
+    let mut tokens = spare;
+    tokens.clear();
     let mut rest = line;
     let mut start = place;
     let mut base64 = false;

@@ -1,22 +1,29 @@
-use Rattle.std.proofs.Common.{sym, ap, ◌∙◌, arith}
-use Rattle.std.proofs.lemmas.Result.{err_from_is_err_and}
-use Rattle.std.proofs.lemmas.List.{drop_all}
-use Rattle.teal_text.specs.Lines.{views}
-use Rattle.teal_source.specs.Statements.{statements, words_of_lines}
-use Rattle.teal_asm.proofs.LineByLine.{goes_on, stops, statements-nil}
+use Rattle.std.proofs.Common.{rules, ◌≡◌, [], Ok, sym, subst, ◌∙◌}
+use Rattle.teal_value.specs.Answer.{Fails}
+use Rattle.teal_text.specs.Unread.{IsBehind}
+use Rattle.teal_asm.proofs.LineByLine.{all_read, goes_on, same_total, stops}
 use Rattle.teal_asm.proofs.lines.body_of.Goals as goal
 
-pub returns-in_err-add_tokens-clause-statements : goal.returns-in_err-add_tokens-clause-statements
-returns-in_err-add_tokens-clause-statements c =
-    let p = err_from_is_err_and c.from_residual.result c.from_residual.ensures.1 in
-    rw (p.1, p.2) (stops c.args.version c.loop-line.body.statements.items c.args.text.now c.args.lines.now c.loop-line.line-index c.line-item.result c.in_err-add_tokens.field-0.0 _ c.loop-line-test.true c.line-item.is c.in_err-add_tokens.ensures.leaves c.loop-line.invariant.reads)
+pub loop-body-preserved : goal.loop-body-preserved
+loop-body-preserved c =
+    let at = c.loop-body in
+    let is : IsBehind c.in-Some.line at.lines c.next_line.new.lines = rw c.in-Some.is at c.in_ok-line.ensures in
+    let text : c.text.result.now ≡ at.lines.text = c.text.ensures ∙ is.text in
+    record {
+      body = c.in-Ok.ensures.kept;
+      reads = goes_on c.args.version at.body.statements.items c.add_tokens.new.body.statements.items at.lines c.next_line.new.lines c.in-Some.line is (rw text at c.in-Ok.ensures.leaves) ∙ at.invariant.reads;
+      total = same_total at.lines c.next_line.new.lines c.in-Some.line is ∙ at.invariant.total;
+    }
 
-pub loop-line-preserved : goal.loop-line-preserved
-loop-line-preserved c = record {
-  body = c.in_ok-add_tokens.ensures.kept;
-  reads = goes_on c.args.version c.loop-line.body.statements.items _ c.args.text.now c.args.lines.now c.loop-line.line-index c.line-item.result _ c.loop-line-test.true c.line-item.is c.in_ok-add_tokens.ensures.leaves c.loop-line.invariant.reads;
-}
+pub returns-in-Err-clause-statements : goal.returns-in-Err-clause-statements
+returns-in-Err-clause-statements c =
+    let at = c.loop-body in
+    let is : IsBehind c.in-Some.line at.lines c.next_line.new.lines = rw c.in-Some.is at c.in_ok-line.ensures in
+    let text : c.text.result.now ≡ at.lines.text = c.text.ensures ∙ is.text in
+    subst (λ r. Fails c.later_fault.result r) at.invariant.reads
+    (stops c.args.version at.body.statements.items at.lines c.next_line.new.lines c.in-Some.line c.in-Err.error c.later_fault.result is (rw text at c.in-Err.ensures.leaves) c.later_fault.ensures)
 
 pub returns-clause-statements : goal.returns-clause-statements
 returns-clause-statements c =
-    sym c.loop-line.invariant.reads ∙ ap (λ ls. statements c.args.version c.loop-line.body.statements.items (words_of_lines c.args.text.now (views ls))) (drop_all c.loop-line.line-index c.args.lines.now (omega arith)) ∙ statements-nil c.args.version _
+    let none : c.loop-body.lines.lines ≡ Ok [] = search rules in
+    sym c.loop-body.invariant.reads ∙ all_read c.args.version c.loop-body.body.statements.items c.loop-body.lines none

@@ -1,11 +1,14 @@
-use Rattle.std.proofs.Common.{◌≡◌, [], drop}
-use Rattle.teal_text.specs.Lines.{views}
-use Rattle.teal_source.specs.Statements.{statements, words_of_lines}
+use Rattle.std.proofs.Common.{◌≡◌, []}
 use Rattle.teal_asm.specs.Bodies.{IsBody}
+use Rattle.teal_asm.specs.Reading.{line_total, unread_statements}
 use Rattle.teal_asm.proofs.lines.body_of.Given as goal
 
-abbrev pub invariant-loop-line : goal.invariant-loop-line
-invariant-loop-line l = record {
+abbrev pub invariant-loop-body : goal.invariant-loop-body
+invariant-loop-body l = record {
   body : IsBody l.body;
-  reads : statements l.version l.body.statements.items (words_of_lines l.text (views (drop l.line-index l.lines))) ≡ statements l.version [] (words_of_lines l.text (views l.lines));
+  reads : unread_statements l.version l.body.statements.items l.lines ≡ unread_statements l.version [] l.fn.lines;
+  total : line_total l.lines ≡ line_total l.fn.lines;
 }
+
+abbrev pub decreases-loop-body : goal.decreases-loop-body
+decreases-loop-body l = l.lines.left

@@ -14,8 +14,8 @@ pub loop-token-init : goal.loop-token-init
 loop-token-init c = record {
   low = omega arith;
   high = refl;
-  within = rw c.new-tokens.ensures.items (All-nil _);
-  reads = rw c.new-tokens.ensures.items (starts c.args.place c.args.line.now _ refl);
+  within = rw c.clear.ensures.items (All-nil _);
+  reads = rw c.clear.ensures.items (starts c.args.place c.args.line.now _ refl);
 }
 
 pub returns-in-Ok-None-clause-value : goal.returns-in-Ok-None-clause-value
