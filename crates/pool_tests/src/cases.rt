@@ -112,6 +112,38 @@ const INSIDE: [Hold; 2] = [
     },
 ];
 
+/// Calls 1 to 4 each stay at another event until call 5 is committed.
+const NO_LOCK: [Hold; 4] = [
+    Hold {
+        number: 1,
+        attempt: 1,
+        event: GateEvent::Begun,
+        other: 5,
+        until: GateEvent::Committed,
+    },
+    Hold {
+        number: 2,
+        attempt: 1,
+        event: GateEvent::Read,
+        other: 5,
+        until: GateEvent::Committed,
+    },
+    Hold {
+        number: 3,
+        attempt: 1,
+        event: GateEvent::BeforeCommit,
+        other: 5,
+        until: GateEvent::Committed,
+    },
+    Hold {
+        number: 4,
+        attempt: 1,
+        event: GateEvent::Committed,
+        other: 5,
+        until: GateEvent::Committed,
+    },
+];
+
 /// Calls, the gate, and what comes out.
 #[derive(Clone, Copy)]
 pub struct Case {
@@ -147,7 +179,7 @@ const CASE: Case = Case {
     block: "",
 };
 
-pub const CASES: [Case; 8] = [
+pub const CASES: [Case; 9] = [
     Case {
         name: "no call",
         first: true,
@@ -214,6 +246,17 @@ pub const CASES: [Case; 8] = [
         calls: &EACH,
         workers: 2,
         holds: &INSIDE,
+        first: true,
+        after: [TWO; 2],
+        ..CASE
+    },
+    Case {
+        name: "a commit while others that need the same lock stay at their events",
+        base: TWO,
+        calls: &ONE_CALL,
+        times: 5,
+        workers: 5,
+        holds: &NO_LOCK,
         first: true,
         after: [TWO; 2],
         ..CASE
