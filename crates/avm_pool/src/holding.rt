@@ -1,6 +1,6 @@
 //! A journal together with shards that are locked one after another.
 
-ghost use Rattle.std.specs.Prelude.{◌≡◌};
+ghost use Rattle.std.specs.Prelude.{◌≡◌, ◌<◌, ◌≤◌, IfSome, length};
 ghost use Rattle.avm_pool.specs.Holding.{Works};
 ghost use Rattle.avm_pool.specs.declared.holding.Work.TheVariants.{Commit};
 
@@ -87,20 +87,32 @@ pub(crate) fn work_with<R: Wait>(
     locks: &[ShardLock],
     wanted: &[bool],
     journal: &mut Journal,
+    work: Work,
+) -> Worked
+    ensures { Works work journal.old journal.new result }
+{
+    let mut held = Held::new();
+    work_from(rt, locks, wanted, 0, journal, &mut held, work)
+}
+
+/// Locks those from an index on too, and does the work.
+fn work_from<R: Wait>(
+    rt: &R,
+    locks: &[ShardLock],
+    wanted: &[bool],
+    from: usize,
+    journal: &mut Journal,
     held: &mut Held,
     work: Work,
 ) -> Worked
     ensures { Works work journal.old journal.new result }
 {
-    let (Some((lock, locks)), Some((is_wanted, wanted))) = (
-        locks.split_first(),
-        wanted.split_first(),
-    ) else {
+    let Some(index) = next_wanted(wanted, from) else {
         return work.done(journal, held);
     };
-    if !*is_wanted {
-        return work_with(rt, locks, wanted, journal, held, work);
-    }
+    let Some(lock) = locks.get(index) else {
+        return work.not_done();
+    };
     let mut guard = lock.lock(rt);
     let Some(shard) = guard.take() else {
         return work.not_done();
@@ -109,7 +121,19 @@ pub(crate) fn work_with<R: Wait>(
         *guard = Some(shard);
         return work.not_done();
     }
-    let worked = work_with(rt, locks, wanted, journal, held, work);
+    let worked = work_from(rt, locks, wanted, index + 1, journal, held, work);
     *guard = held.take();
     worked
+}
+
+/// The least index of a shard that is wanted, from an index on.
+fn next_wanted(wanted: &[bool], from: usize) -> Option<usize>
+    ensures { IfSome result (λ index. (from ≤ index) × (index < length wanted.now)) }
+{
+    for index in from..wanted.len() {
+        if wanted[index] {
+            return Some(index);
+        }
+    }
+    None
 }

@@ -16,7 +16,7 @@ use avm_cpu::Cpu;
 use avm_ops::{BoxedOp, Op, OpSet};
 use avm_run::Finished;
 use mv_parts::{BeginFault, Journal, Sealed};
-use mv_shards::{Attempt, Held};
+use mv_shards::Attempt;
 use std::alloc::{AllocError, Global};
 use std::sync::Wait;
 use teal_value::Failure;
@@ -103,13 +103,11 @@ fn commit<G: Gate, R: Wait>(
     let number = attempt.number();
     shared.gate.pause(number, 0, GateEvent::BeforeCommit);
     let wanted = shards_of(&attempt, &finished);
-    let mut held = Held::new();
     match work_with(
         rt,
         shared.shards,
         &wanted,
         journal,
-        &mut held,
         Work::Commit(attempt, finished),
     ) {
         Worked::Done => shared.gate.pause(number, 0, GateEvent::Committed),

@@ -13,7 +13,7 @@ use avm_ops::{BoxedOp, Op, OpSet};
 use avm_run::Finished;
 use call_numbers::{NumberPass, Numbers};
 use mv_parts::{BeginFault, Journal};
-use mv_shards::{Attempt, Held, SHARD_COUNT, shard_of};
+use mv_shards::{Attempt, SHARD_COUNT, shard_of};
 use std::sync::{Mutex, Wait};
 use std::thread;
 use teal_value::Failure;
@@ -202,9 +202,8 @@ fn under_locks<G: Gate, R: Wait>(
     wanted: &[bool],
     work: Work,
 ) -> Worked {
-    let mut held = Held::new();
     let mut guard = journal.lock(rt);
-    work_with(rt, shared.shards, wanted, &mut guard, &mut held, work)
+    work_with(rt, shared.shards, wanted, &mut guard, work)
 }
 
 /// Ends an attempt without a commit.
