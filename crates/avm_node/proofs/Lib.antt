@@ -2,6 +2,7 @@ pub mod CommandNames
 pub mod NumberTexts
 pub mod Replies
 pub mod DigitLines
+pub mod ReadPairs
 pub mod CallsReading
 pub mod PoolAnswers
 pub mod StepsMade

@@ -13,6 +13,7 @@ mod command_line;
 mod commands;
 mod debug_command;
 mod digit_lines;
+mod digits;
 mod input;
 mod outcomes;
 mod output;
