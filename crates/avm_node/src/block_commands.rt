@@ -18,7 +18,7 @@ use avm_block::{Block, decode};
 use avm_call::Outcome;
 use avm_ledger::Ledger;
 use avm_ops::{BoxedOp, Op, OpSet};
-use avm_replay::{Verdict, replay, state_at};
+use avm_replay::{Base, Verdict, replay_owned, state_at_owned};
 use std::alloc::{AllocError, Global};
 use teal_value::Failure;
 
@@ -28,7 +28,7 @@ pub fn replay_reply(alloc: Global, input: &[u8], ops: &OpSet) -> Result<Reply, A
     ensures { IfOk result (λ reply. IsReplayReply input.now (shown reply)) }
 {
     match ledger_and_block(alloc, input) {
-        Ok((ledger, block)) => verdict_on(alloc, &ledger, &block, ops),
+        Ok((base, block)) => verdict_on(alloc, base, &block, ops),
         Err(Failure::Fault(refusal)) => refusal_reply(alloc, refusal),
         Err(Failure::Memory) => Err(AllocError),
     }
@@ -61,16 +61,11 @@ fn ledger_reply(alloc: Global, ledger: &Ledger) -> Result<Reply, AllocError>
 }
 
 /// The verdict on a block, as an answer.
-fn verdict_on(
-    alloc: Global,
-    ledger: &Ledger,
-    block: &Block,
-    ops: &OpSet,
-) -> Result<Reply, AllocError>
+fn verdict_on(alloc: Global, base: Base, block: &Block, ops: &OpSet) -> Result<Reply, AllocError>
     requires full { IsFull ⟦<BoxedOp as Op>⟧.opcode ops.now }
-    ensures { IfOk result (λ reply. IsVerdictReply (Ok (ledger.now, block.now)) (shown reply)) }
+    ensures { IfOk result (λ reply. IsVerdictReply (Ok (base, block.now)) (shown reply)) }
 {
-    match replay(alloc, ledger, block, ops)? {
+    match replay_owned(alloc, base, block, ops)? {
         Verdict::Agrees(_after) => {
             let reply = agrees_reply(alloc, block.after())?;
             Ok(reply)
@@ -121,8 +116,8 @@ fn past_ledger(
     requires full { IsFull ⟦<BoxedOp as Op>⟧.opcode ops.now }
     ensures { Gives (λ l. l) result (past_ledger timestamp input.now) }
 {
-    let (ledger, block) = ledger_and_block(alloc, input)?;
-    match state_at(alloc, &ledger, &block, timestamp, ops) {
+    let (base, block) = ledger_and_block(alloc, input)?;
+    match state_at_owned(alloc, base, &block, timestamp, ops) {
         Ok(past) => Ok(past),
         Err(Failure::Fault(fault)) => Err(Failure::Fault(Refusal::State(fault))),
         Err(Failure::Memory) => Err(Failure::Memory),
@@ -130,23 +125,24 @@ fn past_ledger(
 }
 
 /// The ledger and the block of the only two lines.
-pub fn ledger_and_block(alloc: Global, input: &[u8]) -> Result<(Ledger, Block), Failure<Refusal>>
+pub fn ledger_and_block(alloc: Global, input: &[u8]) -> Result<(Base, Block), Failure<Refusal>>
     ensures { Gives (λ both. both) result (ledger_and_block (digit_lines input.now)) }
 {
     let mut lines = DigitLines::new(input);
-    let ledger = next_ledger(alloc, &mut lines)?;
+    let base = next_base(alloc, &mut lines)?;
     let block = next_block(alloc, &mut lines)?;
     lines.end()?;
-    Ok((ledger, block))
+    Ok((base, block))
 }
 
-pub(crate) fn next_ledger(alloc: Global, lines: &mut DigitLines) -> Result<Ledger, Failure<Refusal>>
-    ensures exact { Gives (λ ledger. (ledger, lines.new)) result (first_ledger lines.old) }
+/// The ledger of the next line.
+pub(crate) fn next_base(alloc: Global, lines: &mut DigitLines) -> Result<Base, Failure<Refusal>>
+    ensures exact { Gives (λ base. (base, lines.new)) result (first_ledger lines.old) }
     ensures rules { IfOk result KeepsRules }
 {
     let bytes = needed_bytes(alloc, lines)?;
-    match Ledger::read(alloc, bytes.as_slice()) {
-        Ok(ledger) => Ok(ledger),
+    match Base::read(alloc, bytes.as_slice()) {
+        Ok(base) => Ok(base),
         Err(Failure::Fault(fault)) => Err(Failure::Fault(Refusal::Ledger(fault))),
         Err(Failure::Memory) => Err(Failure::Memory),
     }

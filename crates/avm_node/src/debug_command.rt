@@ -31,7 +31,7 @@ pub fn debug_reply(
     ensures { IfOk result (λ reply. IsDebugReply entry steps input.now (shown reply)) }
 {
     match ledger_and_block(alloc, input) {
-        Ok((ledger, block)) => found_reply(alloc, &ledger, &block, entry as usize, steps, ops),
+        Ok((base, block)) => found_reply(alloc, base.ledger(), &block, entry as usize, steps, ops),
         Err(Failure::Fault(refusal)) => refusal_reply(alloc, refusal),
         Err(Failure::Memory) => Err(AllocError),
     }

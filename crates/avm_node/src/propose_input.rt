@@ -8,7 +8,7 @@ ghost use Rattle.avm_node.specs.ProposeInputs.{calls_of, first_header, header_of
 ghost use Rattle.avm_node.specs.CallLines.{checked_call};
 ghost use Rattle.avm_node.specs.ProposeShown.{seen};
 
-use crate::block_commands::{needed_bytes, next_ledger};
+use crate::block_commands::{needed_bytes, next_base};
 use crate::call_line::checked_call;
 use crate::digit_lines::DigitLines;
 use crate::refusal::Refusal;
@@ -32,7 +32,7 @@ pub fn propose_input(alloc: Global, input: &[u8]) -> Result<ProposeInput, Failur
     ensures profile { IfOk result (λ read. read.header.profile ≡ Three) }
 {
     let mut lines = DigitLines::new(input);
-    let base = next_ledger(alloc, &mut lines)?;
+    let base = next_base(alloc, &mut lines)?.into_ledger();
     let header = next_header(alloc, &mut lines)?;
     let calls = calls_of(alloc, lines)?;
     Ok(ProposeInput {
