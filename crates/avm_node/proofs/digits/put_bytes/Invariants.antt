@@ -1,4 +1,3 @@
-use Rattle.std.proofs.Common.{◌≡◌}
 use Rattle.avm_node.proofs.ReadPairs.{AreRead}
 use Rattle.avm_node.proofs.digits.put_bytes.Given as goal
 
