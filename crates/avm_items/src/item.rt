@@ -130,9 +130,10 @@ impl Ord for Item {
             (Item::App(id), Item::App(other)) | (Item::Counts(id), Item::Counts(other)) => id.cmp(
                 other,
             ),
-            (Item::Key(id, key), Item::Key(other, other_key)) => id
-                .cmp(other)
-                .then(key.cmp(other_key)),
+            (Item::Key(id, key), Item::Key(other, other_key)) => match id.cmp(other) {
+                Ordering::Equal => key.cmp(other_key),
+                order => order,
+            },
             (Item::Local(who, id), Item::Local(other_who, other)) => local_cmp(
                 &who.0,
                 *id,
