@@ -4,6 +4,7 @@ ghost use Rattle.std.specs.Prelude.{◌≡◌, ◌<◌, ◌≤◌, IfSome, lengt
 ghost use Rattle.avm_pool.specs.Holding.{Works};
 ghost use Rattle.avm_pool.specs.declared.holding.Work.TheVariants.{Commit};
 
+use crate::waiting::lock_soon;
 use avm_run::Finished;
 use mv_parts::{Journal, RefusedCommit};
 use mv_shards::{Attempt, Held, Shard};
@@ -113,7 +114,7 @@ fn work_from<R: Wait>(
     let Some(lock) = locks.get(index) else {
         return work.not_done();
     };
-    let mut guard = lock.lock(rt);
+    let mut guard = lock_soon(rt, lock);
     let Some(shard) = guard.take() else {
         return work.not_done();
     };

@@ -15,6 +15,7 @@ mod proposing;
 mod refusals;
 mod rest;
 mod running;
+mod waiting;
 mod worker;
 mod workers;
 

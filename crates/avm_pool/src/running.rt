@@ -6,6 +6,7 @@ ghost use Rattle.avm_pool.specs.Running.{IsSameAttempt};
 
 use crate::gate::{Gate, GateEvent};
 use crate::holding::ShardLock;
+use crate::waiting::lock_soon;
 use avm_call::Call;
 use avm_cpu::Cpu;
 use avm_items::{Item, ItemValue};
@@ -131,7 +132,7 @@ impl<'a, G: Gate> Shared<'a, G> {
         let Some(lock) = self.shards.get(usize::from(index)) else {
             return Err(Stopped::Again);
         };
-        let mut guard = lock.lock(rt);
+        let mut guard = lock_soon(rt, lock);
         let shard = &mut *guard;
         let Some(shard) = shard else {
             return Err(Stopped::Again);

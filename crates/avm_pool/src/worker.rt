@@ -7,6 +7,7 @@ ghost use Rattle.call_numbers.specs.Passes.{IsWith, view};
 use crate::gate::{Gate, GateEvent};
 use crate::holding::{Work, Worked, work_with};
 use crate::running::{Shared, Stopped};
+use crate::waiting::{lock_soon, stand_back};
 use avm_call::Call;
 use avm_cpu::Cpu;
 use avm_ops::{BoxedOp, Op, OpSet};
@@ -15,14 +16,10 @@ use call_numbers::{NumberPass, Numbers};
 use mv_parts::{BeginFault, Journal};
 use mv_shards::{Attempt, SHARD_COUNT, shard_of};
 use std::sync::{Mutex, Wait};
-use std::thread;
 use teal_value::Failure;
 
 /// How many commits a worker makes between two prunes.
 const COMMITS_A_PRUNE: u32 = 64;
-
-/// How often a worker lets others go first, at most, before a further attempt.
-const MOST_YIELDS: u32 = 16;
 
 /// A set of objects, and a pass of the queue.
 #[derive(Drop)]
@@ -129,9 +126,7 @@ fn run_call<G: Gate, R: Wait>(
         match run_attempt(rt, journal, shared, ops, spare, call, number, tries) {
             Tried::Over(end) => return end,
             Tried::Again => {
-                for _ in 0..tries.min(MOST_YIELDS) {
-                    thread::yield_now();
-                }
+                stand_back(tries);
                 tries = tries.saturating_add(1);
             }
         }
@@ -152,7 +147,7 @@ fn run_attempt<G: Gate, R: Wait>(
 ) -> Tried
     requires full { IsFull ⟦<BoxedOp as Op>⟧.opcode ops.now }
 {
-    let begun = journal.lock(rt).begin(number);
+    let begun = lock_soon(rt, journal).begin(number);
     let mut attempt = match begun {
         Ok(attempt) => attempt,
         Err(Failure::Fault(BeginFault::ClockEnd)) => return Tried::Over(CallEnd::ClockEnd),
@@ -202,13 +197,13 @@ fn under_locks<G: Gate, R: Wait>(
     wanted: &[bool],
     work: Work,
 ) -> Worked {
-    let mut guard = journal.lock(rt);
+    let mut guard = lock_soon(rt, journal);
     work_with(rt, shared.shards, wanted, &mut guard, work)
 }
 
 /// Ends an attempt without a commit.
 fn abandon<R: Wait>(rt: &R, journal: &Mutex<Journal>, attempt: Attempt, stopped: Stopped) -> Tried {
-    let _abandoned = journal.lock(rt).abandon(attempt);
+    let _abandoned = lock_soon(rt, journal).abandon(attempt);
     match stopped {
         Stopped::Again => Tried::Again,
         Stopped::Memory => Tried::Over(CallEnd::Left),
