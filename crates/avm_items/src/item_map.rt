@@ -1,6 +1,6 @@
 //! Maps from items to their values.
 
-ghost use Rattle.std.specs.Prelude.{◌≡◌, ◌↔◌, [], IfErr, IfOk, IsTrue, filter, is_some, length, not};
+ghost use Rattle.std.specs.Prelude.{◌≡◌, ◌↔◌, ◌∷◌, [], IfErr, IfNone, IfOk, IfSome, IsTrue, filter, is_some, length, not};
 ghost use Rattle.std.specs.Map.Iter.{GivesInOrder, ShowsInOrder, deref_pair};
 ghost use Rattle.std.specs.Option.{option_copied};
 ghost use Rattle.avm_items.specs.declared.item.Item.{Item as ItemOf};
@@ -82,6 +82,14 @@ impl ItemMap {
         ensures order { IsInItemOrder self }
     {
         self.values.into_iter()
+    }
+
+    /// Takes the first item out, with its value.
+    pub fn take_first(&mut self) -> Option<(Item, ItemValue)>
+        ensures first { IfSome result (λ first. self.old ≡ first ∷ self.new) }
+        ensures none { IfNone result (self.old ≡ []) }
+    {
+        self.values.pop_first()
     }
 
     /// Whether these are the same items with the same values. Nothing is copied.

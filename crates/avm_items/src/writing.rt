@@ -144,7 +144,10 @@ fn change_all(
     ensures back { (before : LedgerMaps) → AllPutBack ledger.old changes.old.items before → AllPutBack ledger.new changes.new.items before }
     ensures order { IsInItemOrder items }
 {
-    for (item, value) in items.into_entries() {
+    // The items rise, as this reader of theirs says.
+    let _items = items.iter();
+    let mut items = items;
+    while let Some((item, value)) = items.take_first() {
         change(alloc, ledger, item, value, changes, absent)?;
     }
     Ok(())

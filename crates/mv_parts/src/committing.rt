@@ -77,9 +77,12 @@ fn moved_to(room: KeptItems, items: ItemMap) -> KeptItems
     ensures same { result.items ≡ items }
     ensures order { IsInItemOrder items }
 {
+    // The items rise, as this reader of theirs says.
+    let _items = items.iter();
+    let mut items = items;
     let mut kept = room;
-    for (item, value) in items.into_entries() {
-        match kept.push((item, value)) {
+    while let Some(item) = items.take_first() {
+        match kept.push(item) {
             Ok(()) => {}
             Err(_refused) => unreachable!(),
         }
