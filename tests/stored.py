@@ -57,6 +57,33 @@ def commands():
     return found
 
 
+def rows_below(heading):
+    """The rows below a heading that answer in a line of their own, and what they print, but for those whose bytes are cut short."""
+    rows, printed, inside = [], [], False
+    answers = iter(read("rows/stdout").split("\n"))
+    for line in read("rows/stdin").split("\n"):
+        if line.startswith("# "):
+            inside = line[2:] == heading
+        if line.split(" ")[0] in ("$", "ledger", "bytes", "call", "call3", "calldata", "block"):
+            while next(answers) != line:
+                pass
+            answer = next(answers) if inside else "= Truncated"
+            if answer != "= Truncated":
+                rows.append(line)
+                printed += [line, answer]
+    return rows, printed
+
+
+def store_runs():
+    """The lines of each scenario of crates/store_runs; the first is its name, a word alone in front of the lines of steps."""
+    found = []
+    for line in read("store_runs/stdout").encode().splitlines():
+        if b" " not in line:
+            found.append([])
+        found[-1].append(line)
+    return found
+
+
 def digits(*parts):
     """Lines of digits."""
     return b"".join(part.hex().encode() + b"\n" for part in parts)

@@ -1,0 +1,190 @@
+//! Calls on a ledger, and lists of events: what gives a value, and changes nothing that is there.
+
+ghost use Rattle.avm_ops.specs.Objects.{IsFull};
+
+use avm_call::Call;
+use avm_items::Completion;
+use avm_ledger::Ledger;
+use avm_ops::{BoxedOp, Op, OpSet};
+use avm_run::call_plain;
+use mv_core::{Event, Store, run_events};
+use sample_calls::rows::{HEADER, Row, X, call_of, calls_of, ledger_of};
+use sample_calls::worked::{SKEW, SKEW_CALLS};
+use std::alloc::{AllocError, Global};
+use std::sync::Arc;
+use std::test::Fail;
+
+/// The ledger without applications.
+const NOTHING: &str = "00000000000000010000000000000000";
+
+/// Application 1 rejects an opting in, behind a put of a local number:
+/// `int 0; byte "n"; int 1; app_local_put; int 0`.
+const REJECTS: &str =
+    "00000000000000020000000100000000000000010000000000000000000000000000000000000000000000000000000000000000000e02200200012601016e222823662200050220010122020002000000000000";
+
+/// Application 1, in which X is, errs where it is cleared, behind a put of a global number:
+/// `byte "n"; int 1; app_global_put; err`.
+const CLEARS: &str =
+    "0000000000000002000000010000000000000001000000000000000000000000000000000000000000000000000000000000000000050220010122000c022001012601016e282267000200020000000000010101010101010101010101010101010101010101010101010101010101010101000000000000000100";
+
+/// `byte "n"; byte "n"; app_global_get; int 1; +; app_global_put; int 1`.
+const COUNTER: &str = "022001012601016e28286422086722";
+
+/// A creation by X of that application, with room for its number.
+const CREATION: Row = Row {
+    sender: X,
+    application: 0,
+    completion: Completion::NoOp,
+    arguments: 0,
+    account: X,
+    foreign: 1,
+    program: COUNTER,
+    uints: 1,
+};
+
+/// A further call of application 1.
+const CALL: Row = Row {
+    application: 1,
+    program: "",
+    uints: 0,
+    ..CREATION
+};
+
+/// Ledgers, and calls on them: a creation, one without room, an opting in that is rejected, and a clear state program that
+/// faults.
+const CALLS: [(&str, Row); 4] = [
+    (NOTHING, CREATION),
+    (
+        NOTHING,
+        Row {
+            uints: 0,
+            ..CREATION
+        },
+    ),
+    (
+        REJECTS,
+        Row {
+            completion: Completion::OptIn,
+            ..CALL
+        },
+    ),
+    (
+        CLEARS,
+        Row {
+            completion: Completion::ClearState,
+            ..CALL
+        },
+    ),
+];
+
+/// The write skew, with a prune behind the abandoned attempt and one at the end. Each call reads the application and both
+/// local states.
+const EVENTS: [Event; 17] = [
+    Event::Begin(0, 1),
+    Event::Read(0),
+    Event::Read(0),
+    Event::Read(0),
+    Event::Begin(1, 2),
+    Event::Read(1),
+    Event::Read(1),
+    Event::Read(1),
+    Event::Commit(0),
+    Event::Abandon(0),
+    Event::Commit(1),
+    Event::Prune(9),
+    Event::Begin(0, 1),
+    Event::Read(0),
+    Event::Read(0),
+    Event::Read(0),
+    Event::Commit(0),
+];
+
+/// What gives a value.
+#[derive(Drop)]
+enum Case {
+    Call(Ledger, Call),
+    Events(Ledger, Arc<Vec<Call>>),
+}
+
+/// All of them, one after another.
+pub fn show_all(rt: &HostRuntime, ops: &OpSet) -> Result<(), Fail>
+    requires full { IsFull ⟦<BoxedOp as Op>⟧.opcode ops.now }
+{
+    for case in cases(rt.alloc())? {
+        show(rt, ops, &case)?;
+    }
+    Ok(())
+}
+
+fn cases(alloc: Global) -> Result<Vec<Case>, Fail> {
+    let mut cases = Vec::new(alloc);
+    for (base, row) in CALLS {
+        cases.push(Case::Call(ledger_of(alloc, base)?, call_of(alloc, &row)?))?;
+    }
+    let calls = Arc::new(alloc, calls_of(alloc, &SKEW_CALLS)?)?;
+    cases.push(Case::Events(ledger_of(alloc, SKEW)?, calls))?;
+    Ok(cases)
+}
+
+/// Prints what a case gives, at the second try if memory is refused in the first.
+fn show(rt: &HostRuntime, ops: &OpSet, case: &Case) -> Result<(), Fail>
+    requires full { IsFull ⟦<BoxedOp as Op>⟧.opcode ops.now }
+{
+    for _time in 0..2 {
+        match line(rt.alloc(), ops, case) {
+            Ok(line) => {
+                println!(rt; "{line}")?;
+                return Ok(());
+            }
+            Err(_) => println!(rt; "memory")?,
+        }
+    }
+    Err("memory is refused twice".into())
+}
+
+fn line(alloc: Global, ops: &OpSet, case: &Case) -> Result<String, AllocError>
+    requires full { IsFull ⟦<BoxedOp as Op>⟧.opcode ops.now }
+{
+    match case {
+        Case::Call(base, call) => {
+            let (outcome, after) = call_plain(alloc, base, call, &HEADER, ops)?;
+            let digits = digits_of(alloc, &after)?;
+            format!(in alloc; "{outcome:?} {digits}")
+        }
+        Case::Events(base, calls) => after_events(alloc, ops, base, calls),
+    }
+}
+
+/// The bytes of a ledger.
+pub fn digits_of(alloc: Global, ledger: &Ledger) -> Result<String, AllocError> {
+    hex::encode(alloc, ledger.canonical(alloc)?.as_slice())
+}
+
+/// How many calls are committed after the events, the low mark, and the last ledger.
+fn after_events(
+    alloc: Global,
+    ops: &OpSet,
+    base: &Ledger,
+    calls: &Arc<Vec<Call>>,
+) -> Result<String, AllocError>
+    requires full { IsFull ⟦<BoxedOp as Op>⟧.opcode ops.now }
+{
+    // That a store is opened says that there are few calls, each of the header's profile.
+    match Store::open(alloc, base.clone()?, HEADER, Arc::try_clone(calls)?) {
+        Ok(_store) => {
+            let base = base.clone()?;
+            let calls = Arc::try_clone(calls)?;
+            let store = run_events(alloc, base, HEADER, calls, ops, &EVENTS)?.store;
+            let digits = match store.state_at(alloc, 3) {
+                Ok(ledger) => digits_of(alloc, &ledger)?,
+                Err(_) => return Err(AllocError),
+            };
+            format!(in alloc;
+                "entries {} low {} {digits}",
+                store.entries().len(),
+                store.low()
+            )
+        }
+        Err(_) => Err(AllocError),
+    }
+}
