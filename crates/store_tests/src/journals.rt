@@ -1,23 +1,19 @@
 //! A creation that begins, reads, ends and is committed, and what a store answers before any commit.
 
-ghost use Rattle.std.specs.Prelude.{◌≡◌, [], IfOk};
-ghost use Rattle.avm_items.specs.declared.item_value.ItemValue.TheVariants.{Absent};
-ghost use Rattle.avm_items.specs.Items.{with_item};
 ghost use Rattle.avm_ops.specs.Objects.{IsFull};
 
-use crate::examples::{
-    BOTH_IN, CREATION, FIVE_IN_Y, HEADER, Y, call_of, crossed_calls, full_set, ledger_of,
-};
+use crate::examples::{BOTH_IN, CREATION, FIVE_IN_Y, HEADER, Y, call_of, crossed_calls, full_set};
+use crate::parts::{attempted, committed, finished, parts_of};
 use avm_call::{Call, Outcome};
-use avm_items::{Item, ItemMap, ItemValue};
+use avm_items::{Item, ItemValue};
 use avm_ledger::Ledger;
 use avm_ops::{BoxedOp, Op, OpSet};
 use avm_replay::{Verdict, replay};
-use avm_run::{Advance, CallRun, Finished};
+use avm_run::Finished;
 use mv_core::{ReadFault, StateFault, Store, Ticket};
 use mv_parts::{CommitFault, Journal, RefusedCommit, open_parts};
 use mv_shards::{Attempt, Held};
-use std::alloc::{AllocError, Global};
+use std::alloc::Global;
 use std::sync::Arc;
 use std::test::Fail;
 use teal_value::Failure;
@@ -25,58 +21,6 @@ use teal_value::Failure;
 // The calls: one creation.
 fn one_creation(alloc: Global) -> Result<Arc<Vec<Call>>, Fail> {
     Ok(Arc::new(alloc, vec![in alloc; call_of(alloc, &CREATION)?]?)?)
-}
-
-// An item alone.
-fn alone(alloc: Global, item: Item) -> Result<ItemMap, AllocError>
-    ensures { IfOk result (λ items. items ≡ with_item [] item Absent) }
-{
-    let mut items = ItemMap::new(alloc);
-    items.insert(item, ItemValue::Absent)?;
-    Ok(items)
-}
-
-// Reads an item of the shards, if its shard is held.
-fn read_of(
-    alloc: Global,
-    held: &mut Held,
-    attempt: &mut Attempt,
-    item: Item,
-) -> Result<ItemValue, Fail> {
-    let wanted = alone(alloc, item.copied())?;
-    if !held.covers(&wanted) {
-        return Err("all shards are held".into());
-    }
-    match held.read(attempt, item) {
-        Ok(value) => Ok(value),
-        Err(_) => Err("an item is read".into()),
-    }
-}
-
-// A run of a call to its end, over what an attempt reads.
-fn finished(
-    alloc: Global,
-    ops: &OpSet,
-    call: &Call,
-    held: &mut Held,
-    attempt: &mut Attempt,
-) -> Result<Finished, Fail>
-    requires full { IsFull ⟦<BoxedOp as Op>⟧.opcode ops.now }
-{
-    let mut run = CallRun::start(alloc, call, &HEADER, None)?;
-    for _ in 0..16 {
-        match run.advance(alloc, ops) {
-            Ok(Advance::Done(finished)) => return Ok(finished),
-            Ok(Advance::Need(item)) => {
-                let value = read_of(alloc, held, attempt, item.copied())?;
-                if run.supply(item, value).is_err() {
-                    return Err("what is asked for is taken".into());
-                }
-            }
-            Err(_) => return Err("a call ends".into()),
-        }
-    }
-    Err("a call asks for few items".into())
 }
 
 // Whether the shards take a commit, and the call ends approved at timestamp 1; committed once more, it is unknown.
@@ -88,15 +32,8 @@ fn is_committed(
 ) -> Result<bool, Fail>
     requires full { IsFull ⟦<BoxedOp as Op>⟧.opcode ops.now }
 {
-    let mut attempt = match journal.begin(1) {
-        Ok(attempt) => attempt,
-        Err(_) => return Err("an idle call begins".into()),
-    };
-    let done = finished(alloc, ops, &call_of(alloc, &CREATION)?, held, &mut attempt)?;
-    if !held.covers(attempt.reads()) || !held.covers(done.writes()) {
-        return Err("all shards are held".into());
-    }
-    match journal.commit(held, attempt, done) {
+    let (attempt, done) = attempted(alloc, ops, journal, held, 1)?;
+    match committed(journal, held, attempt, done)? {
         Ok(timestamp) => Ok(timestamp == 1),
         Err(_) => Ok(false),
     }
@@ -113,10 +50,7 @@ fn is_unknown(
 {
     let mut attempt = Attempt::new(alloc, 1, 7);
     let done = finished(alloc, ops, &call_of(alloc, &CREATION)?, held, &mut attempt)?;
-    if !held.covers(attempt.reads()) || !held.covers(done.writes()) {
-        return Err("all shards are held".into());
-    }
-    match journal.commit(held, attempt, done) {
+    match committed(journal, held, attempt, done)? {
         Ok(_timestamp) => Ok(false),
         Err(refused) => Ok(matches!(refused.error, Failure::Fault(CommitFault::Unknown))),
     }
@@ -177,41 +111,6 @@ fn a_creation_is_committed(rt: HostRuntime) -> Result<(), Fail> {
     }
 }
 
-// A journal of the two calls that read both accounts over the ledger of these digits, with all its shards.
-fn crossed_parts(alloc: Global, digits: &str) -> Result<(Journal, Held), Fail> {
-    match open_parts(
-        alloc,
-        ledger_of(alloc, digits)?,
-        HEADER,
-        crossed_calls(alloc)?,
-    ) {
-        Ok(parts) => Ok(parts),
-        Err(_) => Err("two calls make a journal".into()),
-    }
-}
-
-// Call 1 begins, and reads all that it asks for.
-fn first_attempt(
-    alloc: Global,
-    ops: &OpSet,
-    journal: &mut Journal,
-    held: &mut Held,
-) -> Result<(Attempt, Finished), Fail>
-    requires full { IsFull ⟦<BoxedOp as Op>⟧.opcode ops.now }
-{
-    let mut attempt = match journal.begin(1) {
-        Ok(attempt) => attempt,
-        Err(_) => return Err("an idle call begins".into()),
-    };
-    match journal.call(1) {
-        Some(call) => {
-            let done = finished(alloc, ops, call, held, &mut attempt)?;
-            Ok((attempt, done))
-        }
-        None => Err("the number is a call's".into()),
-    }
-}
-
 // The item of which a journal has another value than an attempt has read, where that is why it does not commit.
 fn moved_item(
     journal: &mut Journal,
@@ -219,10 +118,7 @@ fn moved_item(
     attempt: Attempt,
     done: Finished,
 ) -> Result<Item, Fail> {
-    if !held.covers(attempt.reads()) || !held.covers(done.writes()) {
-        return Err("all shards are held".into());
-    }
-    match journal.commit(held, attempt, done) {
+    match committed(journal, held, attempt, done)? {
         Ok(_timestamp) => Err("a read has moved".into()),
         Err(refused) => {
             let RefusedCommit {
@@ -243,10 +139,10 @@ fn moved_item(
 fn reads_of_another_ledger_have_moved(rt: HostRuntime) -> Result<(), Fail> {
     let alloc = rt.alloc();
     let ops = full_set(alloc)?;
-    let (mut journal, mut held) = crossed_parts(alloc, BOTH_IN)?;
-    let (attempt, done) = first_attempt(alloc, &ops, &mut journal, &mut held)?;
-    let (mut other, mut other_held) = crossed_parts(alloc, FIVE_IN_Y)?;
-    let (own, _own_done) = first_attempt(alloc, &ops, &mut other, &mut other_held)?;
+    let (mut journal, mut held) = parts_of(alloc, BOTH_IN, crossed_calls(alloc)?)?;
+    let (attempt, done) = attempted(alloc, &ops, &mut journal, &mut held, 1)?;
+    let (mut other, mut other_held) = parts_of(alloc, FIVE_IN_Y, crossed_calls(alloc)?)?;
+    let (own, _own_done) = attempted(alloc, &ops, &mut other, &mut other_held, 1)?;
     assert!(rt; own.timestamp() == attempt.timestamp());
     let item = moved_item(&mut other, &mut other_held, attempt, done)?;
     assert!(rt; item == Item::Local(Y, 1));

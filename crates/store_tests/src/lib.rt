@@ -12,6 +12,10 @@ mod journals;
 #[cfg(test)]
 mod keys;
 #[cfg(test)]
+mod parts;
+#[cfg(test)]
+mod pruned;
+#[cfg(test)]
 mod skew;
 #[cfg(test)]
 mod steps;
