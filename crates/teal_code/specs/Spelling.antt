@@ -1,5 +1,5 @@
 -- The spelling of an instruction with each varuint as short as it can be.
-use Rattle.std.specs.Prelude.{ℕ, List, [], ◌∷◌, ◌++◌, length}
+use Rattle.std.specs.Prelude.{◌≡◌, ℕ, List, [], ◌∷◌, ◌++◌, length}
 use Rattle.std.specs.List.{flat_map}
 use Rattle.std.specs.Int.{w16, to_be_bytes}
 use Rattle.teal_table.specs.Table.{code_of}
@@ -28,3 +28,7 @@ immediates_spelling (is.Bytes s) = prefixed s
 
 abbrev pub instr_spelling : Instr → List ℕ
 instr_spelling i = code_of i.opcode ∷ immediates_spelling i.immediates
+
+-- the second list begins with the first
+abbrev pub Continues : List ℕ → List ℕ → Type 0
+Continues old new = (rest : List ℕ) × (new ≡ old ++ rest)

@@ -1,9 +1,9 @@
 //! Instructions written as bytes.
 
-ghost use Rattle.std.specs.Prelude.{◌≡◌, ◌++◌, ◌≤◌, length, OnOk};
+ghost use Rattle.std.specs.Prelude.{◌≡◌, ◌++◌, ◌≤◌, length, OnOk, OnErr};
 ghost use Rattle.std.specs.List.{flat_map};
 ghost use Rattle.teal_code.specs.Varuint.{varuint};
-ghost use Rattle.teal_code.specs.Spelling.{prefixed, immediates_spelling, instr_spelling};
+ghost use Rattle.teal_code.specs.Spelling.{Continues, prefixed, immediates_spelling, instr_spelling};
 
 use crate::instr::{Immediates, Instr};
 use arrayvec::ArrayVec;
@@ -11,13 +11,16 @@ use std::alloc::AllocError;
 use teal_value::ByteString;
 
 /// Appends an instruction's spelling, each varuint as short as it can be.
-///
-/// At want of memory a part of it may have been appended.
 pub fn encode_into(instr: &Instr, code: &mut Vec<u8>) -> Result<(), AllocError>
-    ensures { OnOk result (code.new.items ≡ code.old.items ++ instr_spelling instr.now) }
+    ensures written { OnOk result (code.new.items ≡ code.old.items ++ instr_spelling instr.now) }
+    ensures unchanged { OnErr result (code.new.items ≡ code.old.items) }
 {
-    code.push(instr.code())?;
-    push_immediates(&instr.immediates, code)
+    let start = code.len();
+    if let Err(refusal) = push_instr(instr, code) {
+        code.truncate(start);
+        return Err(refusal);
+    }
+    Ok(())
 }
 
 /// The shortest spelling of a number in base 128: seven bits a byte, the low ones first, the top bit of a byte saying
@@ -35,8 +38,18 @@ pub fn varuint_bytes(number: u64) -> ArrayVec<u8, 10>
     bytes
 }
 
+// Where memory is refused, a part of the spelling may stand behind what was there. So it is with all that follow.
+fn push_instr(instr: &Instr, code: &mut Vec<u8>) -> Result<(), AllocError>
+    ensures written { OnOk result (code.new.items ≡ code.old.items ++ instr_spelling instr.now) }
+    ensures kept { Continues code.old.items code.new.items }
+{
+    code.push(instr.code())?;
+    push_immediates(&instr.immediates, code)
+}
+
 fn push_immediates(immediates: &Immediates, code: &mut Vec<u8>) -> Result<(), AllocError>
-    ensures { OnOk result (code.new.items ≡ code.old.items ++ immediates_spelling immediates.now) }
+    ensures written { OnOk result (code.new.items ≡ code.old.items ++ immediates_spelling immediates.now) }
+    ensures kept { Continues code.old.items code.new.items }
 {
     match immediates {
         Immediates::Nothing => Ok(()),
@@ -56,20 +69,23 @@ fn push_immediates(immediates: &Immediates, code: &mut Vec<u8>) -> Result<(), Al
 }
 
 fn push_varuint(number: u64, code: &mut Vec<u8>) -> Result<(), AllocError>
-    ensures { OnOk result (code.new.items ≡ code.old.items ++ varuint number) }
+    ensures written { OnOk result (code.new.items ≡ code.old.items ++ varuint number) }
+    ensures kept { Continues code.old.items code.new.items }
 {
     code.extend_from_slice(varuint_bytes(number).as_slice())
 }
 
 fn push_prefixed(bytes: &[u8], code: &mut Vec<u8>) -> Result<(), AllocError>
-    ensures { OnOk result (code.new.items ≡ code.old.items ++ prefixed bytes.now) }
+    ensures written { OnOk result (code.new.items ≡ code.old.items ++ prefixed bytes.now) }
+    ensures kept { Continues code.old.items code.new.items }
 {
     push_varuint(bytes.len() as u64, code)?;
     code.extend_from_slice(bytes)
 }
 
 fn push_uints(numbers: &[u64], code: &mut Vec<u8>) -> Result<(), AllocError>
-    ensures { OnOk result (code.new.items ≡ code.old.items ++ (varuint (length numbers.now) ++ flat_map varuint numbers.now)) }
+    ensures written { OnOk result (code.new.items ≡ code.old.items ++ (varuint (length numbers.now) ++ flat_map varuint numbers.now)) }
+    ensures kept { Continues code.old.items code.new.items }
 {
     push_varuint(numbers.len() as u64, code)?;
     for number in numbers {
@@ -79,7 +95,8 @@ fn push_uints(numbers: &[u64], code: &mut Vec<u8>) -> Result<(), AllocError>
 }
 
 fn push_strings(strings: &[ByteString], code: &mut Vec<u8>) -> Result<(), AllocError>
-    ensures { OnOk result (code.new.items ≡ code.old.items ++ (varuint (length strings.now) ++ flat_map prefixed strings.now)) }
+    ensures written { OnOk result (code.new.items ≡ code.old.items ++ (varuint (length strings.now) ++ flat_map prefixed strings.now)) }
+    ensures kept { Continues code.old.items code.new.items }
 {
     push_varuint(strings.len() as u64, code)?;
     for string in strings {

@@ -17,7 +17,7 @@ pub loop-number-preserved : goal.loop-number-preserved
 loop-number-preserved c =
     elim c.match-instruction.branch [
       | in-Straight+in_ok-encode_into-in-Straight w ↦ writes_on c.args.instructions.now c.loop-number.number c.index-instructions-number.result c.loop-number.code.items _ _ c.loop-number-test.true c.index-instructions-number.is c.loop-number.invariant
-          (ap (λ v. v.items) w.code-is ∙ w.in_ok-encode_into-in-Straight.ensures ∙ ap (λ i. c.loop-number.code.items ++ instruction_spelling c.loop-number.number (meant i) (drop (c.loop-number.number + 1) (all_meant c.args.instructions.now))) (sym w.in-Straight.is))
+          (ap (λ v. v.items) w.code-is ∙ w.in_ok-encode_into-in-Straight.ensures.written ∙ ap (λ i. c.loop-number.code.items ++ instruction_spelling c.loop-number.number (meant i) (drop (c.loop-number.number + 1) (all_meant c.args.instructions.now))) (sym w.in-Straight.is))
       | in-Branch+in_ok-push_branch-in-Branch w ↦ writes_on c.args.instructions.now c.loop-number.number c.index-instructions-number.result c.loop-number.code.items _ _ c.loop-number-test.true c.index-instructions-number.is c.loop-number.invariant
           (let inside : c.loop-number.number < length (all_meant c.args.instructions.now) = omega (arith, length-meant c.args.instructions.now) in
           let offset = w.offset_to-offset.ensures ∙ branch_offset (all_meant c.args.instructions.now) c.args.places.now c.loop-number.number w.in-Branch.target c.requires inside in
