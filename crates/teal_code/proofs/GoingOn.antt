@@ -2,7 +2,8 @@
 use Rattle.std.proofs.Common.{◌≡◌, ℕ, zero, suc, ◌+◌, ◌-◌, ◌*◌, ◌^◌, ◌<◌, ◌≤◌, Bool, true, false, cond, List, [], ◌∷◌, ◌++◌, length, take, drop, replicate, refl, sym, ap, subst, ◌∙◌, arith, append_assoc, length-append, length-drop, inl, inr}
 use Rattle.std.specs.Prelude.{Result, Ok, Err, nat_lt, Option, Some, None, ◌⊎◌, ◌↔◌, IfSome, slice_get, ◌≢◌}
 use Rattle.std.specs.List.{All}
-use Rattle.std.proofs.lemmas.Bool.{ltb-true, ltb-false, lt-ltb, le-ltb}
+use Rattle.std.proofs.lemmas.Bool.{ltb-true, ltb-false, lt-ltb, le-ltb, cases_lt}
+use Rattle.std.proofs.Math.Seq.{drop-append_seam}
 use Rattle.std.proofs.lemmas.List.{take-append-drop, take-append-le, drop-append-le, drop_all, length-replicate, append-nil}
 use Rattle.teal_table.specs.declared.shape.Shape.{Shape}
 use Rattle.teal_table.specs.declared.shape.Shape.TheVariants as shape
@@ -441,5 +442,44 @@ faulted version bytes place BadVaruint all within h (Err UnknownOp) e =
 faulted version bytes place BadVaruint all within h (Err Truncated) e = absurd (h.1 (goes_on version bytes place all within e))
 faulted version bytes place BadVaruint all within h (Err BadVaruint) e = refl
 
-pub faults_are : (version : Version) (bytes : List ℕ) (place : ℕ) (f : CodeFault) → All (λ b. b < 256) bytes → place ≤ length bytes → (read_at version bytes place ≡ Err f) ↔ Faults version bytes place f
-faults_are version bytes place f all within = (faults version bytes place f (all_bytes bytes all) within, λ h. faulted version bytes place f (all_bytes bytes all) within h (read_at version bytes place) refl)
+-- ---- past the end
+
+read_past_end : (version : Version) (bytes : List ℕ) (place : ℕ) → length bytes < place → read_at version bytes place ≡ Err Truncated
+read_past_end version bytes place past = ap (λ bs. instr_at version bs >>= λ i. Ok (i.0, length bytes - length i.1)) (drop_all place bytes (omega (arith, past)))
+
+-- an instruction stands at any place behind the end of some longer input
+goes_on_past_end : (version : Version) (bytes : List ℕ) (place : ℕ) → length bytes < place → GoesOn version bytes place
+goes_on_past_end version bytes place past =
+    let (i, is) = zero_reads version in
+    let filling = replicate (place - length bytes) 0 in
+    let reach : length (bytes ++ filling) ≡ place = omega (arith, past, length-append bytes filling, length-replicate {A = ℕ} (place - length bytes) 0) in
+    let there : drop place (bytes ++ (filling ++ 0 ∷ [])) ≡ 0 ∷ [] =
+    subst (λ n. drop n (bytes ++ (filling ++ 0 ∷ [])) ≡ 0 ∷ []) reach (ap (drop (length (bytes ++ filling))) (sym (append_assoc bytes filling (0 ∷ []))) ∙ drop-append_seam (bytes ++ filling) (0 ∷ [])) in
+    let all = bytes ++ (filling ++ 0 ∷ []) in
+    let inside : place ≤ length all = omega (arith, reach, ap length (append_assoc bytes filling (0 ∷ [])), length-append (bytes ++ filling) (0 ∷ [])) in
+    let read : read_at version all place ≡ Ok (i, length all - 0) = ap (λ bs. instr_at version bs >>= λ j. Ok (j.0, length all - length j.1)) there ∙ ap (λ r. r >>= λ j. Ok (j.0, length all - length j.1)) is in
+    (filling ++ 0 ∷ [], i, length all - 0, read_is version all place i (length all - 0) inside read)
+
+faults_past_end : (version : Version) (bytes : List ℕ) (place : ℕ) (f : CodeFault) → length bytes < place → read_at version bytes place ≡ Err f → Faults version bytes place f
+faults_past_end version bytes place UnknownOp past e = let other = read_past_end version bytes place past in absurd cc
+faults_past_end version bytes place Truncated past e = (goes_on_past_end version bytes place past, not_read version bytes place Truncated e)
+faults_past_end version bytes place BadVaruint past e = let other = read_past_end version bytes place past in absurd cc
+
+faulted_past_end : (version : Version) (bytes : List ℕ) (place : ℕ) (f : CodeFault) → length bytes < place → Faults version bytes place f → read_at version bytes place ≡ Err f
+faulted_past_end version bytes place UnknownOp past h = absurd (omega (arith, past, h.1))
+faulted_past_end version bytes place Truncated past h = read_past_end version bytes place past
+faulted_past_end version bytes place BadVaruint past h = absurd (h.1 (goes_on_past_end version bytes place past))
+
+-- ---- the laws
+
+pub faults_are : (version : Version) (bytes : List ℕ) (place : ℕ) (f : CodeFault) → All (λ b. b < 256) bytes → (read_at version bytes place ≡ Err f) ↔ Faults version bytes place f
+faults_are version bytes place f all = elim (cases_lt (length bytes) place) [
+  | inl past ↦ (faults_past_end version bytes place f past, faulted_past_end version bytes place f past)
+  | inr within ↦ (faults version bytes place f (all_bytes bytes all) within, λ h. faulted version bytes place f (all_bytes bytes all) within h (read_at version bytes place) refl)
+]
+
+pub read_anywhere : (version : Version) (bytes : List ℕ) (place : ℕ) (i : Instr) (next : ℕ) → read_at version bytes place ≡ Ok (i, next) → Reads version bytes place i next
+read_anywhere version bytes place i next e = elim (cases_lt (length bytes) place) [
+  | inl past ↦ let fault = read_past_end version bytes place past in absurd cc
+  | inr within ↦ read_is version bytes place i next within e
+]

@@ -1,6 +1,6 @@
 //! What holds of the definitions, each law the contract of a function without work.
 
-ghost use Rattle.std.specs.Prelude.{◌≡◌, ℕ, List, ◌∷◌, ◌++◌, [], Ok, Err, length, ◌≤◌};
+ghost use Rattle.std.specs.Prelude.{◌≡◌, ℕ, List, ◌∷◌, ◌++◌, [], Ok, Err};
 ghost use Rattle.teal_table.specs.declared.opcode.Opcode.TheVariants as op;
 ghost use Rattle.teal_table.specs.declared.shape.Version.{Version};
 ghost use Rattle.teal_table.specs.declared.shape.Version.TheVariants.{Two};
@@ -17,7 +17,7 @@ pub fn no_spelling_begins_another()
 
 /// Reading is what the grammar says.
 pub fn reading_is_the_grammar()
-    ensures read { (version : Version) (bytes : List ℕ) (place : ℕ) (i : Instr) (next : ℕ) → place ≤ length bytes
+    ensures read { (version : Version) (bytes : List ℕ) (place : ℕ) (i : Instr) (next : ℕ)
         → read_at version bytes place ≡ Ok (i, next) → Reads version bytes place i next }
     ensures reads { (version : Version) (bytes : List ℕ) (place : ℕ) (i : Instr) (next : ℕ)
         → Reads version bytes place i next → read_at version bytes place ≡ Ok (i, next) }
