@@ -29,6 +29,7 @@ use Rattle.teal_asm.specs.Program.{size, total_size, program, short_program, lin
 use Rattle.teal_laws.specs.Listed.{HasShape, offset, IsOf, AreOf, IsAimed, AreAimed}
 use Rattle.teal_laws.specs.ListedMeaning.{IsNoOffset, meant_with, meant_of, program_meaning, IsMeant, AreMeant}
 use Rattle.teal_laws.specs.AssembledListing.{AssemblesBack}
+use Rattle.teal_laws.specs.TextCost.{meant_cost}
 use Rattle.teal_laws.proofs.Bytes.{AreBytes, are_each, bytes_behind}
 use Rattle.teal_laws.proofs.PlacedInstructions.{afforded, coded_ok, is_listed, placed_is_of, version_within}
 use Rattle.teal_laws.proofs.Spellings.{front_bytes, spelled_shortest}
@@ -185,16 +186,11 @@ it_fits bytes w are e =
 
 -- ---- costs
 
-abbrev meant_cost : List Meant → ℕ
-meant_cost [] = 0
-meant_cost (Straight o m ∷ ms) = (row_of o).cost + meant_cost ms
-meant_cost (Branch o t ∷ ms) = (row_of o).cost + meant_cost ms
-
 one_cost : (t : Option ℕ) (o : Opcode) (m : Immediates) (ms : List Meant) → meant_cost (meant_with t o m ∷ ms) ≡ (row_of o).cost + meant_cost ms
 one_cost None o m ms = refl
 one_cost (Some t) o m ms = refl
 
-placed_cost : (ps : List Placed) → meant_cost (map meant_of ps) ≡ cost_of ps
+pub placed_cost : (ps : List Placed) → meant_cost (map meant_of ps) ≡ cost_of ps
 placed_cost [] = refl
 placed_cost (p ∷ ps) = one_cost p.target p.instr.opcode p.instr.immediates (map meant_of ps) ∙ ap (λ n. (row_of p.instr.opcode).cost + n) (placed_cost ps)
 

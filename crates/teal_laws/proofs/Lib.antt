@@ -14,3 +14,4 @@ pub mod AssembledListing
 pub mod Forms
 pub mod TextCommands
 pub mod TextMeaning
+pub mod ShortestSpellings

@@ -22,7 +22,8 @@ use Rattle.teal_asm.specs.Program.{size, total_size, instruction_spelling, spell
 use Rattle.teal_laws.specs.Listed.{IsOf}
 use Rattle.teal_laws.specs.ListedMeaning.{meant_of, AreMeant, IsMeant, IsNoOffset}
 use Rattle.teal_laws.proofs.Names.{not_left_out}
-use Rattle.teal_laws.proofs.Spellings.{IsShortOffset, is_spelled, field_is_known}
+use Rattle.teal_laws.specs.ShortestSpelling.{IsShortOffset}
+use Rattle.teal_laws.proofs.Spellings.{is_spelled, field_is_known}
 
 -- ---- where the instructions stand
 

@@ -8,13 +8,13 @@ use Rattle.teal_table.specs.declared.shape.Version.{Version}
 use Rattle.teal_table.specs.Table.{code_of, opcode_in}
 use Rattle.teal_table.proofs.Codes.{opcode_at-code_of}
 use Rattle.teal_code.specs.declared.instr.Immediates.{Immediates}
-use Rattle.teal_code.specs.declared.instr.Immediates.TheVariants as is
 use Rattle.teal_code.specs.declared.instr.Instr.{Instr}
 use Rattle.teal_code.specs.Varuint.{IsBase128, IsVaruint, varuint, varuint_in}
 use Rattle.teal_code.specs.Grammar.{IsString, Each, AreImmediates, Spells}
 use Rattle.teal_code.specs.Spelling.{prefixed, immediates_spelling, instr_spelling}
 use Rattle.teal_check.specs.WellFormed.{has_field}
 use Rattle.teal_laws.specs.Listed.{AreUints, HasShape, nothing, index, txn, stack, global, group, array, stack_array, group_array, bounds, offset, uints, strings, uint, string, IsOf}
+use Rattle.teal_laws.specs.ShortestSpelling.{IsShortOffset}
 use Rattle.teal_laws.proofs.Bytes.{AreBytes}
 
 -- ---- varuints
@@ -39,7 +39,7 @@ in_base128 (suc d) n small =
           rw test (more_digits (n % 128 + 128) (varuint_in (suc d) (n / 128)) (n / 128) n (omega arith) (omega arith) more.0, omega (arith, more.1), omega arith)
     ]
 
-varuint_spelled : (n : ℕ) → n < 2 ^ 64 → IsVaruint (varuint n) n
+pub varuint_spelled : (n : ℕ) → n < 2 ^ 64 → IsVaruint (varuint n) n
 unfolding varuint
 varuint_spelled n lt = let h = in_base128 9 n (omega (arith, lt)) in record { digits = h.0; short = h.1; fits = lt }
 
@@ -64,18 +64,13 @@ shortest (b ∷ c ∷ bytes) (suc d) n are h =
       | inr ge ↦ let test : ltb n 128 ≡ false = le-ltb n 128 ge in rw (test, up) (omega (arith, later))
     ]
 
-varuint_shortest : (bytes : List ℕ) (n : ℕ) → AreBytes bytes → IsVaruint bytes n → length (varuint n) ≤ length bytes
+pub varuint_shortest : (bytes : List ℕ) (n : ℕ) → AreBytes bytes → IsVaruint bytes n → length (varuint n) ≤ length bytes
 unfolding varuint
 varuint_shortest bytes n are h = shortest bytes 10 n are h.digits
 
 -- ---- immediates
 
--- an offset has two bytes
-abbrev pub IsShortOffset : Immediates → Type 0
-IsShortOffset (is.Offset n) = n < 65536
-IsShortOffset _ = Unit {0}
-
-uints_spelled : (ns : List ℕ) → AreUints ns → Each IsVaruint ns (flat_map varuint ns)
+pub uints_spelled : (ns : List ℕ) → AreUints ns → Each IsVaruint ns (flat_map varuint ns)
 uints_spelled [] h = refl
 uints_spelled (n ∷ ns) h = (varuint n, flat_map varuint ns, refl, varuint_spelled n h.0, uints_spelled ns h.1)
 
@@ -83,7 +78,7 @@ few_uints : (ns : List ℕ) → length ns ≤ length (flat_map varuint ns)
 few_uints [] = omega arith
 few_uints (n ∷ ns) = omega (arith, length-append (varuint n) (flat_map varuint ns), varuint_some n, few_uints ns)
 
-string_spelled : (s : List ℕ) → length s < 2 ^ 64 → IsString (prefixed s) s
+pub string_spelled : (s : List ℕ) → length s < 2 ^ 64 → IsString (prefixed s) s
 string_spelled s lt = (varuint (length s), refl, varuint_spelled (length s) lt)
 
 long_string : (s : List ℕ) → length s < length (prefixed s)
@@ -149,18 +144,18 @@ pub front_bytes : (a b : List ℕ) → AreBytes (a ++ b) → AreBytes a × AreBy
 front_bytes [] b h = (tt, h)
 front_bytes (x ∷ a) b h = let more = front_bytes a b h.1 in ((h.0, more.0), more.1)
 
-uints_shortest : (ns bytes : List ℕ) → AreBytes bytes → Each IsVaruint ns bytes → length (flat_map varuint ns) ≤ length bytes
+pub uints_shortest : (ns bytes : List ℕ) → AreBytes bytes → Each IsVaruint ns bytes → length (flat_map varuint ns) ≤ length bytes
 uints_shortest [] bytes are e = omega arith
 uints_shortest (n ∷ ns) bytes are (front, rest, parts, first, more) =
     let each = front_bytes front rest (subst AreBytes parts are) in
     omega (arith, length-append (varuint n) (flat_map varuint ns), ap length parts ∙ length-append front rest, varuint_shortest front n each.0 first, uints_shortest ns rest each.1 more)
 
-string_shortest : (s bytes : List ℕ) → AreBytes bytes → IsString bytes s → length (prefixed s) ≤ length bytes
+pub string_shortest : (s bytes : List ℕ) → AreBytes bytes → IsString bytes s → length (prefixed s) ≤ length bytes
 string_shortest s bytes are (front, parts, count) =
     let each = front_bytes front s (subst AreBytes parts are) in
     omega (arith, length-append (varuint (length s)) s, ap length parts ∙ length-append front s, varuint_shortest front (length s) each.0 count)
 
-strings_shortest : (ss : List (List ℕ)) (bytes : List ℕ) → AreBytes bytes → Each IsString ss bytes → length (flat_map prefixed ss) ≤ length bytes
+pub strings_shortest : (ss : List (List ℕ)) (bytes : List ℕ) → AreBytes bytes → Each IsString ss bytes → length (flat_map prefixed ss) ≤ length bytes
 strings_shortest [] bytes are e = omega arith
 strings_shortest (s ∷ ss) bytes are (front, rest, parts, first, more) =
     let each = front_bytes front rest (subst AreBytes parts are) in

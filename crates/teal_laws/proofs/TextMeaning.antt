@@ -1,10 +1,10 @@
 -- What a text means is instructions of its version, and a program that it spells means the same.
 use Rattle.std.proofs.Common.{◌≡◌, ◌∙◌, refl, sym, ap, subst, ℕ, suc, ◌+◌, ◌<◌, ◌≤◌, ◌^◌, Bool, true, false, cond, eqb, ltb, List, [], ◌∷◌, ◌++◌, length, length-append, Option, Some, None, Result, Ok, Err, inl, inr, arith}
-use Rattle.std.specs.Prelude.{nat_le, nat_eq}
+use Rattle.std.specs.Prelude.{◌↔◌, IfErr, nat_le, nat_eq}
 use Rattle.std.specs.List.{list_any, flat_map, position_or_len}
 use Rattle.std.specs.Map.{lookup}
 use Rattle.std.specs.Str.{bytes_eq}
-use Rattle.std.proofs.lemmas.Bool.{ltb-false}
+use Rattle.std.proofs.lemmas.Bool.{ltb-true, ltb-false, lt-ltb}
 use Rattle.std.proofs.lemmas.Bool.Decides.{nat_tests}
 use Rattle.base64.specs.GeneralPurpose.{IsBytes}
 use Rattle.teal_value.proofs.Binding.{bind_ok, chosen}
@@ -14,6 +14,9 @@ use Rattle.teal_table.specs.declared.opcode.Opcode.{Opcode}
 use Rattle.teal_table.specs.declared.opcode.Opcode.TheVariants as op
 use Rattle.teal_table.specs.Table.{row_of, has}
 use Rattle.teal_code.specs.declared.instr.Immediates.TheVariants as is
+use Rattle.teal_check.specs.declared.fault.CheckFault.{CheckFault}
+use Rattle.teal_check.specs.declared.fault.CheckFault.TheVariants as fault
+use Rattle.teal_check.specs.declared.program.Placed.{Placed}
 use Rattle.teal_check.specs.WellFormed.{WellFormed, cost_of, affordable, checked}
 use Rattle.teal_dis.specs.Listing.{listing}
 use Rattle.teal_text.specs.Lines.{lines_of}
@@ -30,6 +33,7 @@ use Rattle.teal_asm.specs.Program.{total_size, instruction_spelling, spelling, p
 use Rattle.teal_laws.specs.Listed.{AreUints, HasShape, IsOf}
 use Rattle.teal_laws.specs.Listed as listed
 use Rattle.teal_laws.specs.ListedMeaning.{IsNoOffset, program_meaning, IsMeant, AreMeant}
+use Rattle.teal_laws.specs.TextCost.{meant_cost}
 use Rattle.teal_laws.proofs.Bytes.{AreBytes, are_each}
 use Rattle.teal_laws.proofs.Forms.{HasForm}
 use Rattle.teal_laws.proofs.Forms as form
@@ -37,7 +41,7 @@ use Rattle.teal_laws.proofs.TextCommands.{IsAsked, command_asked, ok_same, shape
 use Rattle.teal_laws.proofs.PlacedInstructions.{is_listed}
 use Rattle.teal_laws.proofs.Spellings.{front_bytes}
 use Rattle.teal_laws.proofs.SpelledPrograms.{aimed_at, program_checks, meant_back}
-use Rattle.teal_laws.proofs.AssembledListing.{program_length}
+use Rattle.teal_laws.proofs.AssembledListing.{placed_cost, program_length}
 use Rattle.teal_laws.proofs.ListingMeaning.{listing_means}
 
 -- ---- statements
@@ -288,16 +292,48 @@ afforded_meaning m w e =
       | inr (cheap, one) ↦ ap program_meaning (sym (ok_same one)) ∙ ap (λ is. record { version = m.version; instructions = is }) (meant_back 1 0 m.instructions)
     ]
 
-pub text_means : (text bytes : List ℕ) (w : WellFormed) → IsBytes bytes → assembled text ≡ Ok bytes → checked bytes ≡ Ok w → meaning text ≡ Ok (program_meaning w)
+-- what the assembler gives is checked as the program that the text means
+assembled_checks : (text bytes : List ℕ) → IsBytes bytes → assembled text ≡ Ok bytes → (m : Meaning) × (meaning text ≡ Ok m) × (checked bytes ≡ affordable m.version (program m) (aimed_at 1 0 m.instructions))
 unfolding assembled
-text_means text bytes w are e c =
+assembled_checks text bytes are e =
     let (m, means, last) = bind_ok (meaning text) _ _ e in
     let s = short_is (line_count text) (program m) bytes last in
     let in_bytes : AreBytes (program m) = subst AreBytes (sym s.0) (are_each bytes are) in
     let meant = all_meant m.version (length m.instructions) 0 m.instructions (meaning_loose text m means) (spelled_bytes m in_bytes) in
     let short : 1 + total_size m.instructions ≤ 1024 = omega (arith, program_length m, s.1) in
-    let checks : affordable m.version (program m) (aimed_at 1 0 m.instructions) ≡ Ok w = sym (program_checks m meant short) ∙ ap checked s.0 ∙ c in
-    means ∙ ap (λ x. Ok x) (sym (afforded_meaning m w checks))
+    (m, means, ap checked (sym s.0) ∙ program_checks m meant short)
+
+pub text_means : (text bytes : List ℕ) (w : WellFormed) → IsBytes bytes → assembled text ≡ Ok bytes → checked bytes ≡ Ok w → meaning text ≡ Ok (program_meaning w)
+text_means text bytes w are e c =
+    let (m, means, checks) = assembled_checks text bytes are e in
+    means ∙ ap (λ x. Ok x) (sym (afforded_meaning m w (sym checks ∙ c)))
 
 pub same_meaning : (text bytes : List ℕ) (w : WellFormed) → IsBytes bytes → assembled text ≡ Ok bytes → checked bytes ≡ Ok w → meaning (listing w) ≡ meaning text
 same_meaning text bytes w are e c = listing_means w (is_listed bytes w are c) ∙ sym (text_means text bytes w are e c)
+
+-- ---- its cost
+
+aimed_cost : (m : Meaning) → cost_of (aimed_at 1 0 m.instructions) ≡ meant_cost m.instructions
+aimed_cost m = sym (placed_cost (aimed_at 1 0 m.instructions)) ∙ ap meant_cost (meant_back 1 0 m.instructions)
+
+only_dear : (version : Version) (bytes : List ℕ) (ps : List Placed) → IfErr (affordable version bytes ps) (λ f. f ≡ fault.Cost)
+only_dear version bytes ps = elim (ltb 700 (cost_of ps)) as (λ b. IfErr {T = WellFormed} {E = CheckFault} (cond b (Err fault.Cost) (Ok (record { version = version; bytes = bytes; placed = ps; cost = cost_of ps }))) (λ f. f ≡ fault.Cost)) [ true ↦ refl | false ↦ tt ]
+
+pub only_cost : (text bytes : List ℕ) → IsBytes bytes → assembled text ≡ Ok bytes → IfErr (checked bytes) (λ f. f ≡ fault.Cost)
+only_cost text bytes are e =
+    let (m, means, checks) = assembled_checks text bytes are e in
+    subst (λ (r : Result WellFormed CheckFault). IfErr r (λ f. f ≡ fault.Cost)) (sym checks) (only_dear m.version (program m) (aimed_at 1 0 m.instructions))
+
+dear_is : (version : Version) (bytes : List ℕ) (ps : List Placed) → (affordable version bytes ps ≡ Err fault.Cost) ↔ (700 < cost_of ps)
+dear_is version bytes ps = (
+  λ e. elim (chosen (ltb 700 (cost_of ps)) _ _ _ e) [ inl (more, bad) ↦ ltb-true 700 (cost_of ps) more | inr (fits, one) ↦ absurd cc ],
+  λ more. let test : ltb 700 (cost_of ps) ≡ true = lt-ltb 700 (cost_of ps) more in rw test refl,
+)
+
+pub dear : (text bytes : List ℕ) (m : Meaning) → IsBytes bytes → assembled text ≡ Ok bytes → meaning text ≡ Ok m → (checked bytes ≡ Err fault.Cost) ↔ (700 < meant_cost m.instructions)
+dear text bytes m are e means =
+    let (n, meant, checks) = assembled_checks text bytes are e in
+    let same : n ≡ m = ok_same (sym meant ∙ means) in
+    let is = dear_is n.version (program n) (aimed_at 1 0 n.instructions) in
+    let cost : cost_of (aimed_at 1 0 n.instructions) ≡ meant_cost m.instructions = aimed_cost n ∙ ap (λ (x : Meaning). meant_cost x.instructions) same in
+    (λ fault. subst (λ k. 700 < k) cost (is.0 (sym checks ∙ fault)), λ more. checks ∙ is.1 (subst (λ k. 700 < k) (sym cost) more))

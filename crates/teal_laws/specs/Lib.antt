@@ -1,3 +1,5 @@
 pub mod Listed
 pub mod ListedMeaning
 pub mod AssembledListing
+pub mod ShortestSpelling
+pub mod TextCost

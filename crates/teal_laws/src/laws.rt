@@ -1,18 +1,32 @@
 //! What a listing means, step by step.
 
-ghost use Rattle.std.specs.Prelude.{◌≡◌, Ok, List, ℕ};
+ghost use Rattle.std.specs.Prelude.{◌≡◌, ◌↔◌, ◌<◌, ◌^◌, Ok, Err, List, ℕ, length, IfErr};
 ghost use Rattle.base64.specs.GeneralPurpose.{IsBytes};
 ghost use Rattle.teal_table.specs.declared.shape.Version.{Version};
 ghost use Rattle.teal_table.specs.Table.{name_of, row_of};
 ghost use Rattle.teal_code.specs.declared.instr.Instr.{Instr};
+ghost use Rattle.teal_code.specs.Grammar.{Spells};
+ghost use Rattle.teal_code.specs.Reader.{read_at};
+ghost use Rattle.teal_code.specs.Spelling.{instr_spelling};
+ghost use Rattle.teal_check.specs.declared.fault.CheckFault.TheVariants.{Cost};
 ghost use Rattle.teal_check.specs.WellFormed.{WellFormed, checked};
 ghost use Rattle.teal_dis.specs.Listing.{listing, operands};
 ghost use Rattle.teal_source.specs.Commands.{command};
-ghost use Rattle.teal_asm.specs.Meaning.{meaning};
+ghost use Rattle.teal_asm.specs.Meaning.{Meaning, meaning};
 ghost use Rattle.teal_asm.specs.Program.{assembled};
 ghost use Rattle.teal_laws.specs.AssembledListing.{AssemblesBack};
 ghost use Rattle.teal_laws.specs.Listed.{IsListed, IsOf, command_of};
 ghost use Rattle.teal_laws.specs.ListedMeaning.{program_meaning};
+ghost use Rattle.teal_laws.specs.ShortestSpelling.{IsShortOffset, IsShortest};
+ghost use Rattle.teal_laws.specs.TextCost.{meant_cost};
+
+/// What `encode_into` writes of an instruction is its shortest spelling, where bytes spell it at all: so it is for one that
+/// was read, and for one of the version whose numbers are in their range.
+pub fn encodings_are_shortest()
+    ensures spelled { (version : Version) (text : List ℕ) (i : Instr) → IsBytes text → Spells version text i → IsShortest version i (instr_spelling i) }
+    ensures read { (version : Version) (bytes : List ℕ) (place : ℕ) (i : Instr) (next : ℕ) → IsBytes bytes → read_at version bytes place ≡ Ok (i, next) → IsShortest version i (instr_spelling i) }
+    ensures of_version { (version : Version) (i : Instr) → IsOf version i → IsShortOffset i.immediates → length (instr_spelling i) < 2 ^ 64 → IsShortest version i (instr_spelling i) }
+{}
 
 /// The words of an instruction's line ask for the instruction, whatever its shape and in both versions; those of a branch
 /// ask for a branch to the label that is given.
@@ -43,4 +57,11 @@ pub fn listings_assemble_back()
 pub fn listings_keep_the_meaning()
     ensures program { (text bytes : List ℕ) (program : WellFormed) → IsBytes bytes → assembled text ≡ Ok bytes → checked bytes ≡ Ok program → meaning text ≡ Ok (program_meaning program) }
     ensures listing { (text bytes : List ℕ) (program : WellFormed) → IsBytes bytes → assembled text ≡ Ok bytes → checked bytes ≡ Ok program → meaning (listing program) ≡ meaning text }
+{}
+
+/// What the assembler gives of a text breaks no rule of programs but the one of the cost, and breaks that exactly where the
+/// instructions of the text cost more than 700.
+pub fn assembled_programs_break_no_other_rule()
+    ensures only_cost { (text bytes : List ℕ) → IsBytes bytes → assembled text ≡ Ok bytes → IfErr (checked bytes) (λ f. f ≡ Cost) }
+    ensures dear { (text bytes : List ℕ) (m : Meaning) → IsBytes bytes → assembled text ≡ Ok bytes → meaning text ≡ Ok m → (checked bytes ≡ Err Cost) ↔ (700 < meant_cost m.instructions) }
 {}

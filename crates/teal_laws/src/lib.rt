@@ -3,12 +3,13 @@
 //!
 //! `specs/Listed.antt` says what a program's instructions have in common, and `specs/ListedMeaning.antt` what a program
 //! means, in the words in which `teal_asm` says what a text means. `specs/AssembledListing.antt` says what it is for a
-//! listing to assemble back.
+//! listing to assemble back, `specs/ShortestSpelling.antt` for a spelling to be the shortest.
 #![tactic(auto)]
 
 mod laws;
 
 pub use laws::{
-    instruction_words_read_back, listings_assemble_back, listings_keep_the_meaning,
-    listings_mean_their_programs, programs_have_known_instructions,
+    assembled_programs_break_no_other_rule, encodings_are_shortest, instruction_words_read_back,
+    listings_assemble_back, listings_keep_the_meaning, listings_mean_their_programs,
+    programs_have_known_instructions,
 };
