@@ -98,7 +98,7 @@ known version place (i, next) p e =
       | inr (unknown, bad) ↦ absurd cc
     ]
 
-placed_reads : (version : Version) (bytes : List ℕ) (place : ℕ) (p : Placed) → place ≤ length bytes → placed_at version bytes place ≡ Ok p → Reads version bytes place p.instr p.next
+pub placed_reads : (version : Version) (bytes : List ℕ) (place : ℕ) (p : Placed) → place ≤ length bytes → placed_at version bytes place ≡ Ok p → Reads version bytes place p.instr p.next
 unfolding placed_at
 placed_reads version bytes place p within e =
     elim (chosen (is_some (left_out_at (get_or bytes place 0))) _ _ _ e) [
@@ -150,7 +150,7 @@ version_some bytes v e =
       some_digits [] k h = absurd h
       some_digits (b ∷ front) k h = omega arith
 
-or_false : (a b : Bool) → (a || b) ≡ false → b ≡ false
+pub or_false : (a b : Bool) → (a || b) ≡ false → b ≡ false
 or_false true b e = absurd cc
 or_false false b e = e
 
@@ -158,7 +158,7 @@ or_false false b e = e
 abbrev Fits : List ℕ → WellFormed → Type 0
 Fits bytes w = (1 + spelled_size w.placed ≤ length bytes) × (length bytes ≤ 1024) × (cost_of w.placed ≤ 700) × (w.cost ≡ cost_of w.placed)
 
-paid : (version : Version) (bytes : List ℕ) (ps : List Placed) (w : WellFormed) → affordable version bytes ps ≡ Ok w → (cost_of ps ≤ 700) × (w.cost ≡ cost_of ps)
+pub paid : (version : Version) (bytes : List ℕ) (ps : List Placed) (w : WellFormed) → affordable version bytes ps ≡ Ok w → (cost_of ps ≤ 700) × (w.cost ≡ cost_of ps)
 paid version bytes ps w e =
     elim (chosen (ltb 700 (cost_of ps)) _ _ _ e) [
       | inl (more, bad) ↦ absurd cc

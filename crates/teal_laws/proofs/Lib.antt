@@ -15,3 +15,4 @@ pub mod Forms
 pub mod TextCommands
 pub mod TextMeaning
 pub mod ShortestSpellings
+pub mod ProgramRules

@@ -115,7 +115,7 @@ pub coded_ok : {A : Type 0} (place : ℕ) (r : Result A CodeFault) (x : A) → o
 coded_ok place (Ok y) x e = let same : y ≡ x = cc in ap (λ z. Ok z) same
 coded_ok place (Err f) x e = absurd cc
 
-known_field : (version : Version) (place : ℕ) (x : Instr × ℕ) (p : Placed) → with_known_field version place x ≡ Ok p → (x.0 ≡ p.instr) × (has_field version (row_of x.0.opcode).immediates x.0.immediates ≡ true)
+pub known_field : (version : Version) (place : ℕ) (x : Instr × ℕ) (p : Placed) → with_known_field version place x ≡ Ok p → (x.0 ≡ p.instr) × (has_field version (row_of x.0.opcode).immediates x.0.immediates ≡ true)
 known_field version place (i, next) p e =
     elim (chosen (has_field version (row_of i.opcode).immediates i.immediates) _ _ _ e) [
       | inl (present, one) ↦
@@ -168,7 +168,7 @@ index_later x y ys n (Some k) found e =
     let i = found k refl in
     subst (λ j. (j < length (y ∷ ys)) × (get_or (y ∷ ys) j 0 ≡ x)) next (omega (arith, i.0), i.1)
 
-index_is : (x : ℕ) (xs : List ℕ) (n : ℕ) → index_of x xs ≡ Some n → (n < length xs) × (get_or xs n 0 ≡ x)
+pub index_is : (x : ℕ) (xs : List ℕ) (n : ℕ) → index_of x xs ≡ Some n → (n < length xs) × (get_or xs n 0 ≡ x)
 index_is x [] n e = absurd cc
 index_is x (y ∷ ys) n e =
     elim (chosen (eqb x y) _ _ _ e) [
@@ -192,7 +192,7 @@ number_is starts end number place target n r within stands behind e =
 no_target : {t : Option ℕ} → ◌≡◌ {A = Result (Option ℕ) CheckFault} (Ok None) (Ok t) → t ≡ None
 no_target {t} e = let same : None ≡ t = cc in sym same
 
-some_number : (r : Option ℕ) (place : ℕ) (t : Option ℕ) → (ok_or r (fault.NotAligned place) >>= λ n. Ok (Some n)) ≡ Ok t → (n : ℕ) × (r ≡ Some n) × (t ≡ Some n)
+pub some_number : (r : Option ℕ) (place : ℕ) (t : Option ℕ) → (ok_or r (fault.NotAligned place) >>= λ n. Ok (Some n)) ≡ Ok t → (n : ℕ) × (r ≡ Some n) × (t ≡ Some n)
 some_number None place t e = absurd cc
 some_number (Some n) place t e = let same : Some n ≡ t = cc in (n, refl, sym same)
 

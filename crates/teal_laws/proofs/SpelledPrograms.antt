@@ -91,7 +91,7 @@ instr_is_of version count number (Straight o (is.Uint n)) rest few h = (h.0, tt)
 instr_is_of version count number (Straight o (is.Bytes s)) rest few h = (h.0, tt)
 instr_is_of version count number (Branch o target) rest few h = (h.0 (total_size (take (target - (number + 1)) rest)), omega (arith, few, size_front (target - (number + 1)) rest))
 
-first_of : (place : ℕ) (bytes : List ℕ) (b : ℕ) (rest : List ℕ) → drop place bytes ≡ b ∷ rest → get_or bytes place 0 ≡ b
+pub first_of : (place : ℕ) (bytes : List ℕ) (b : ℕ) (rest : List ℕ) → drop place bytes ≡ b ∷ rest → get_or bytes place 0 ≡ b
 first_of zero [] b rest e = absurd cc
 first_of zero (c ∷ bytes) b rest e = cc
 first_of (suc place) [] b rest e = absurd cc

@@ -3,3 +3,4 @@ pub mod ListedMeaning
 pub mod AssembledListing
 pub mod ShortestSpelling
 pub mod TextCost
+pub mod ProgramRules

@@ -1,6 +1,6 @@
 //! What a listing means, step by step.
 
-ghost use Rattle.std.specs.Prelude.{◌≡◌, ◌↔◌, ◌<◌, ◌^◌, Ok, Err, List, ℕ, length, IfErr};
+ghost use Rattle.std.specs.Prelude.{◌≡◌, ◌↔◌, ◌<◌, ◌^◌, Ok, Err, List, ℕ, length, IsOk, IfErr};
 ghost use Rattle.base64.specs.GeneralPurpose.{IsBytes};
 ghost use Rattle.teal_table.specs.declared.shape.Version.{Version};
 ghost use Rattle.teal_table.specs.Table.{name_of, row_of};
@@ -17,6 +17,7 @@ ghost use Rattle.teal_asm.specs.Program.{assembled};
 ghost use Rattle.teal_laws.specs.AssembledListing.{AssemblesBack};
 ghost use Rattle.teal_laws.specs.Listed.{IsListed, IsOf, command_of};
 ghost use Rattle.teal_laws.specs.ListedMeaning.{program_meaning};
+ghost use Rattle.teal_laws.specs.ProgramRules.{IsProgram};
 ghost use Rattle.teal_laws.specs.ShortestSpelling.{IsShortOffset, IsShortest};
 ghost use Rattle.teal_laws.specs.TextCost.{meant_cost};
 
@@ -26,6 +27,15 @@ pub fn encodings_are_shortest()
     ensures spelled { (version : Version) (text : List ℕ) (i : Instr) → IsBytes text → Spells version text i → IsShortest version i (instr_spelling i) }
     ensures read { (version : Version) (bytes : List ℕ) (place : ℕ) (i : Instr) (next : ℕ) → IsBytes bytes → read_at version bytes place ≡ Ok (i, next) → IsShortest version i (instr_spelling i) }
     ensures of_version { (version : Version) (i : Instr) → IsOf version i → IsShortOffset i.immediates → length (instr_spelling i) < 2 ^ 64 → IsShortest version i (instr_spelling i) }
+{}
+
+/// Bytes are accepted exactly where the rules of programs hold of them and a program: the version's number in front, then
+/// instructions of the grammar one behind another up to the end, with fields that their opcodes read, each branch over its
+/// offset to the place of an instruction or to the end, and costs of at most 700 in 1024 bytes. There is one such program.
+pub fn checked_programs_keep_the_rules()
+    ensures checked { (bytes : List ℕ) (program : WellFormed) → (checked bytes ≡ Ok program) ↔ IsProgram bytes program }
+    ensures accepted { (bytes : List ℕ) → IsOk (checked bytes) ↔ ((program : WellFormed) × IsProgram bytes program) }
+    ensures one { (bytes : List ℕ) (program other : WellFormed) → IsProgram bytes program → IsProgram bytes other → program ≡ other }
 {}
 
 /// The words of an instruction's line ask for the instruction, whatever its shape and in both versions; those of a branch
