@@ -2,8 +2,7 @@
 //! - `ledger DIGITS` puts a ledger in place, `bytes` and `digest` tell its bytes and their digest;
 //! - `call ID COMPLETION APPROVAL CLEAR UINTS BYTES ARGUMENT` makes a call by the zero address on it, in the profile that its
 //!   programs need, and `call3` in profile 3;
-//! - `calldata DIGITS` and `block DIGITS` read a call and a block, and write them again;
-//! - `base32 TEXT` and `nobody` tell texts of bytes and of the zero address.
+//! - `calldata DIGITS` and `block DIGITS` read a call and a block, and write them again.
 //! `-` stands for no digits.
 
 ghost use Rattle.avm_ops.specs.Objects.{IsFull};
@@ -18,7 +17,7 @@ use avm_ops::{BoxedOp, Op, OpSet};
 use avm_run::call_on;
 use std::alloc::{AllocError, Global};
 use std::io::{self, ErrorKind};
-use teal_value::{Address, ByteString, ByteStrings, Failure, Uints, address_text, base32_encode};
+use teal_value::{Address, ByteString, ByteStrings, Failure, Uints};
 
 const NOBODY: Address = Address([0; 32]);
 
@@ -40,8 +39,6 @@ pub fn reply(
         "digest" => Ok(Some(hex::encode(alloc, ledger.digest(alloc)?.as_slice())?)),
         "calldata" => Ok(Some(call_data_again(alloc, rest)?)),
         "block" => Ok(Some(block_again(alloc, rest)?)),
-        "base32" => Ok(Some(base32_encode(alloc, rest.as_bytes())?)),
-        "nobody" => Ok(Some(address_text(alloc, &NOBODY)?)),
         _ => Ok(None),
     }
 }

@@ -5,7 +5,8 @@
 //! - `fail` has the reader fail where the input ends, and `interrupt` has it interrupted there;
 //! - `room NUMBER` has the writer fail behind so many bytes;
 //! - `$ WORDS` answers the words of a command line to the input, and begins anew;
-//! - the rows of `ledgers`, which make calls on a ledger and read and write bytes.
+//! - the rows of `ledgers`, which make calls on a ledger and read and write bytes;
+//! - the rows of `texts`, which spell bytes as texts and read them.
 //! Others, as `# TEXT`, say nothing.
 #![tactic(auto)]
 
@@ -13,6 +14,7 @@ ghost use Rattle.avm_ops.specs.Objects.{IsFull};
 
 mod ledgers;
 mod streams;
+mod texts;
 
 use crate::streams::{Input, Output};
 use avm_arith::ArithOp;
@@ -84,6 +86,8 @@ fn all_rows(rt: &HostRuntime, ops: &OpSet) -> io::Result<()>
             }
             row = Row::new(alloc);
         } else if let Some(text) = ledgers::reply(alloc, ops, &mut ledger, head, rest)? {
+            println!(rt; "{line}\n= {text}")?;
+        } else if let Some(text) = texts::reply(alloc, head, rest)? {
             println!(rt; "{line}\n= {text}")?;
         } else {
             add_to(alloc, &mut row, head, rest)?;
