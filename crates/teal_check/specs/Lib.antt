@@ -1,2 +1,3 @@
 pub mod WellFormed
 pub mod Shown
+pub mod FaultNames

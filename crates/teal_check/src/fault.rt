@@ -1,10 +1,15 @@
 //! Why bytes are no program.
 
+ghost use Rattle.std.specs.Prelude.{◌≡◌};
+ghost use Rattle.teal_check.specs.FaultNames.{check_fault_name};
+
 use teal_code::CodeFault;
 use teal_value::Failure;
+use thiserror::Error;
 
 /// The first rule of programs that bytes break. A place is that of the instruction that breaks it.
-#[derive(Clone, Copy, Debug, PartialEq, Eq)]
+#[derive(Clone, Copy, Debug, PartialEq, Eq, Error)]
+#[error("{name}", name = self.name())]
 pub enum CheckFault {
     /// The version is neither 2 nor 3.
     Version,
@@ -24,6 +29,25 @@ pub enum CheckFault {
     Cost,
     /// The opcode has no such field.
     UnknownField { place: u16 },
+}
+
+impl CheckFault {
+    /// Its name, as commands print it: of a fault of reading, that fault's.
+    pub fn name(self) -> &'static str
+        ensures { result.now ≡ check_fault_name self }
+    {
+        match self {
+            CheckFault::Version => "Version",
+            CheckFault::Length => "Length",
+            CheckFault::Code { fault, .. } => fault.name(),
+            CheckFault::OutOfProfile { .. } => "OutOfProfile",
+            CheckFault::Backward { .. } => "Backward",
+            CheckFault::NotAligned { .. } => "NotAligned",
+            CheckFault::PastEnd { .. } => "PastEnd",
+            CheckFault::Cost => "Cost",
+            CheckFault::UnknownField { .. } => "UnknownField",
+        }
+    }
 }
 
 /// A [`CheckFault`], or want of memory.

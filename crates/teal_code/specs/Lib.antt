@@ -3,3 +3,4 @@ pub mod Grammar
 pub mod Reader
 pub mod Spelling
 pub mod FaultLaws
+pub mod FaultNames

@@ -3,15 +3,18 @@
 ghost use Rattle.std.specs.Prelude.{◌≡◌, ◌≤◌, ◌<◌, ◌*◌, ◌^◌, length, IfOk};
 ghost use Rattle.teal_value.specs.Answer.{Gives};
 ghost use Rattle.teal_table.specs.Table.{row_of};
+ghost use Rattle.teal_code.specs.FaultNames.{code_fault_name};
 ghost use Rattle.teal_code.specs.Reader.{byte_at, digits_at, varuint_at, string_at, many_at, counted_at, immediates_at, instr_at, read_at};
 
 use crate::instr::{Immediates, Instr};
 use std::alloc::Global;
 use teal_table::{Shape, Version, opcode_in};
 use teal_value::{ByteString, ByteStrings, Failure, Uints};
+use thiserror::Error;
 
 /// Why no instruction is read at a place.
-#[derive(Clone, Copy, Debug, PartialEq, Eq)]
+#[derive(Clone, Copy, Debug, PartialEq, Eq, Error)]
+#[error("{name}", name = self.name())]
 pub enum CodeFault {
     /// The byte is no opcode of the program's version.
     UnknownOp,
@@ -19,6 +22,19 @@ pub enum CodeFault {
     Truncated,
     /// A varuint has more than ten bytes, or a number of more than 64 bits.
     BadVaruint,
+}
+
+impl CodeFault {
+    /// Its name, as commands print it.
+    pub fn name(self) -> &'static str
+        ensures { result.now ≡ code_fault_name self }
+    {
+        match self {
+            CodeFault::UnknownOp => "UnknownOp",
+            CodeFault::Truncated => "Truncated",
+            CodeFault::BadVaruint => "BadVaruint",
+        }
+    }
 }
 
 /// A [`CodeFault`], or want of memory.

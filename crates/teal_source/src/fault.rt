@@ -1,9 +1,14 @@
 //! Why a text has no meaning.
 
+ghost use Rattle.std.specs.Prelude.{◌≡◌};
+ghost use Rattle.teal_source.specs.FaultNames.{asm_fault_name};
+
 use teal_value::Failure;
+use thiserror::Error;
 
 /// What is wrong with a line of source text.
-#[derive(Clone, Copy, Debug, PartialEq, Eq)]
+#[derive(Clone, Copy, Debug, PartialEq, Eq, Error)]
+#[error("{name}", name = self.name())]
 pub enum AsmFaultKind {
     /// A string or its escapes.
     Text,
@@ -33,8 +38,32 @@ pub enum AsmFaultKind {
     TooLong,
 }
 
+impl AsmFaultKind {
+    /// Its name, as commands print it.
+    pub fn name(self) -> &'static str
+        ensures { result.now ≡ asm_fault_name self }
+    {
+        match self {
+            AsmFaultKind::Text => "Text",
+            AsmFaultKind::NoPragma => "NoPragma",
+            AsmFaultKind::Version => "Version",
+            AsmFaultKind::UnknownName => "UnknownName",
+            AsmFaultKind::Operands => "Operands",
+            AsmFaultKind::BadNumber => "BadNumber",
+            AsmFaultKind::BadBytes => "BadBytes",
+            AsmFaultKind::LabelTwice => "LabelTwice",
+            AsmFaultKind::LabelMissing => "LabelMissing",
+            AsmFaultKind::LabelBehind => "LabelBehind",
+            AsmFaultKind::TooManyConstants => "TooManyConstants",
+            AsmFaultKind::MixedBlock => "MixedBlock",
+            AsmFaultKind::TooLong => "TooLong",
+        }
+    }
+}
+
 /// The fault of a text, and its line, counted from 1.
-#[derive(Clone, Copy, Debug, PartialEq, Eq)]
+#[derive(Clone, Copy, Debug, PartialEq, Eq, Error)]
+#[error("{line} {kind}")]
 pub struct AsmFault {
     pub line: usize,
     pub kind: AsmFaultKind,

@@ -6,3 +6,4 @@ pub mod Unread
 pub mod Numbers
 pub mod Literals
 pub mod PlainWords
+pub mod FaultNames

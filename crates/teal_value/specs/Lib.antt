@@ -3,3 +3,4 @@ pub mod Base32
 pub mod AddressText
 pub mod SameValues
 pub mod SameValueLaws
+pub mod FaultNames

@@ -4,20 +4,35 @@ ghost use Rattle.std.specs.Prelude.{◌≡◌, ℕ, List, Ok, IfOk, length, take
 ghost use Rattle.std.specs.String.{string_bytes};
 ghost use Rattle.teal_value.specs.Answer.{Gives};
 ghost use Rattle.teal_value.specs.AddressText.{address_text, address_of, checked, checksum};
+ghost use Rattle.teal_value.specs.FaultNames.{address_fault_name};
 
 use crate::address::Address;
 use crate::base32::{base32_decode_bytes, base32_encode};
 use crate::failure::Failure;
 use sha2::{Digest, Sha512_256};
 use std::alloc::{AllocError, Global};
+use thiserror::Error;
 
 /// Why a text is no address.
-#[derive(Clone, Copy, Debug, PartialEq, Eq)]
+#[derive(Clone, Copy, Debug, PartialEq, Eq, Error)]
+#[error("{name}", name = self.name())]
 pub enum AddressFault {
     /// It is not 58 characters of base32 with spare bits 0.
     BadText = 1,
     /// Its last 4 bytes are not the checksum of the others.
     BadChecksum,
+}
+
+impl AddressFault {
+    /// Its name.
+    pub fn name(self) -> &'static str
+        ensures { result.now ≡ address_fault_name self }
+    {
+        match self {
+            AddressFault::BadText => "BadText",
+            AddressFault::BadChecksum => "BadChecksum",
+        }
+    }
 }
 
 /// The text of an address: 58 characters, the last of which hold a checksum.

@@ -7,9 +7,11 @@ ghost use Rattle.teal_value.specs.Base32.{base32, symbol, groups, group_of, byte
 
 use crate::failure::Failure;
 use std::alloc::{AllocError, Global};
+use thiserror::Error;
 
 /// The fault of a text that is no base32.
-#[derive(Clone, Copy, Debug, PartialEq, Eq)]
+#[derive(Clone, Copy, Debug, PartialEq, Eq, Error)]
+#[error("BadText")]
 pub struct BadText;
 
 /// The text of bytes in base32, without padding.

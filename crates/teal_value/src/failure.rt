@@ -4,13 +4,18 @@ ghost use Rattle.std.specs.Prelude.{◌≡◌};
 ghost use Rattle.teal_value.specs.declared.failure.Failure.TheVariants.{Memory};
 
 use std::alloc::{AllocError, AllocFailed};
+use std::fmt::Display;
+use thiserror::Error;
 
 /// A fault of the input, or an allocation that was refused.
-#[derive(Clone, Copy, Debug, PartialEq, Eq, Drop)]
+#[derive(Clone, Copy, Debug, PartialEq, Eq, Drop, Error)]
+#[error_bound(F: Display)]
 pub enum Failure<F> {
     /// The allocator refused memory.
+    #[error("out of memory")]
     Memory,
     /// The input is refused.
+    #[error("{0}")]
     Fault(F),
 }
 

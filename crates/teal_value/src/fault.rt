@@ -1,9 +1,15 @@
 //! What stops a program.
 
+ghost use Rattle.std.specs.Prelude.{◌≡◌};
+ghost use Rattle.teal_value.specs.FaultNames.{fault_name};
+
+use thiserror::Error;
+
 /// The fault of an instruction or of a program's end, by its number in the block format.
 ///
 /// The rules that raise each are those of the opcode table (AVM specification, version 2 and 3 opcodes, application mode).
-#[derive(Clone, Copy, Debug, PartialEq, Eq)]
+#[derive(Clone, Copy, Debug, PartialEq, Eq, Error)]
+#[error("{name}", name = self.name())]
 pub enum Fault {
     /// `err` was executed.
     Err = 1,
@@ -53,4 +59,38 @@ pub enum Fault {
     FinalBytes,
     /// `assert` was given 0.
     Assert,
+}
+
+impl Fault {
+    /// Its name, as commands print it.
+    pub fn name(self) -> &'static str
+        ensures { result.now ≡ fault_name self }
+    {
+        match self {
+            Fault::Err => "Err",
+            Fault::Underflow => "Underflow",
+            Fault::WrongType => "WrongType",
+            Fault::Compare => "Compare",
+            Fault::Overflow => "Overflow",
+            Fault::Negative => "Negative",
+            Fault::DivZero => "DivZero",
+            Fault::TooLong => "TooLong",
+            Fault::Range => "Range",
+            Fault::BtoiLength => "BtoiLength",
+            Fault::StackFull => "StackFull",
+            Fault::NoConstant => "NoConstant",
+            Fault::BadField => "BadField",
+            Fault::NoTxn => "NoTxn",
+            Fault::NoArg => "NoArg",
+            Fault::NoAccount => "NoAccount",
+            Fault::NoForeign => "NoForeign",
+            Fault::NotOptedIn => "NotOptedIn",
+            Fault::NoSuchApp => "NoSuchApp",
+            Fault::Schema => "Schema",
+            Fault::KeyLength => "KeyLength",
+            Fault::FinalDepth => "FinalDepth",
+            Fault::FinalBytes => "FinalBytes",
+            Fault::Assert => "Assert",
+        }
+    }
 }
