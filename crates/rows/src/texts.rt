@@ -29,7 +29,7 @@ pub fn reply(alloc: Global, head: &str, rest: &str) -> io::Result<Option<String>
 fn base32_bytes(alloc: Global, text: &str) -> io::Result<String> {
     match base32_decode(alloc, text) {
         Ok(bytes) => digits_of(alloc, bytes.as_slice()),
-        Err(Failure::Fault(fault)) => Ok(format!(in alloc; "{fault:?}")?),
+        Err(Failure::Fault(fault)) => Ok(format!(in alloc; "{fault}")?),
         Err(Failure::Memory) => Err(io::Error::from(AllocError)),
     }
 }
@@ -37,7 +37,7 @@ fn base32_bytes(alloc: Global, text: &str) -> io::Result<String> {
 fn address_bytes(alloc: Global, text: &str) -> io::Result<String> {
     match address_of_text(alloc, text) {
         Ok(address) => digits_of(alloc, &address.0),
-        Err(Failure::Fault(fault)) => Ok(format!(in alloc; "{fault:?}")?),
+        Err(Failure::Fault(fault)) => Ok(format!(in alloc; "{fault}")?),
         Err(Failure::Memory) => Err(io::Error::from(AllocError)),
     }
 }
