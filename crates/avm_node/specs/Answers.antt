@@ -4,8 +4,7 @@ use Rattle.std.specs.Str.{is_utf8}
 use Rattle.std.specs.Io.KnownBytes.{Appends}
 use Rattle.hex.specs.Hex.{encode_lower}
 use Rattle.teal_source.specs.declared.fault.AsmFault.{AsmFault}
-use Rattle.teal_source.specs.declared.fault.AsmFaultKind.{AsmFaultKind}
-use Rattle.teal_source.specs.declared.fault.AsmFaultKind.TheVariants as kind
+use Rattle.teal_source.specs.FaultNames.{asm_fault_name}
 use Rattle.teal_asm.specs.Program.{assembled}
 use Rattle.avm_node.specs.declared.command_line.NodeCommand.{NodeCommand}
 use Rattle.avm_node.specs.declared.command_line.NodeCommand.TheVariants.{Asm, Check, Debug, Dis, Propose, Replay, State}
@@ -19,26 +18,11 @@ use Rattle.avm_node.specs.DebugCommands.{IsDebugReply}
 abbrev pub input_limit : ℕ
 input_limit = 16777216
 
-abbrev pub name_of : AsmFaultKind → List ℕ
-name_of kind.Text = codes "Text"
-name_of kind.NoPragma = codes "NoPragma"
-name_of kind.Version = codes "Version"
-name_of kind.UnknownName = codes "UnknownName"
-name_of kind.Operands = codes "Operands"
-name_of kind.BadNumber = codes "BadNumber"
-name_of kind.BadBytes = codes "BadBytes"
-name_of kind.LabelTwice = codes "LabelTwice"
-name_of kind.LabelMissing = codes "LabelMissing"
-name_of kind.LabelBehind = codes "LabelBehind"
-name_of kind.TooManyConstants = codes "TooManyConstants"
-name_of kind.MixedBlock = codes "MixedBlock"
-name_of kind.TooLong = codes "TooLong"
-
 -- the program in lower-case digits, or the line and the name of the fault
 abbrev pub assembly_reply : Result (List ℕ) AsmFault → Reply
 assembly_reply (Ok program) = record { text = encode_lower program ++ codes "\n"; status = done }
 assembly_reply (Err fault) = record {
-  text = codes "refused asm " ++ (decimal fault.line ++ (codes " " ++ (name_of fault.kind ++ codes "\n")));
+  text = codes "refused asm " ++ (decimal fault.line ++ (codes " " ++ (asm_fault_name fault.kind ++ codes "\n")));
   status = refused;
 }
 

@@ -1,9 +1,8 @@
 -- What is answered to a refused input of lines of digits.
 use Rattle.std.specs.Prelude.{ℕ, ◌++◌, List, Option, Some, None, codes, decimal}
-use Rattle.teal_code.specs.declared.decode.CodeFault.{CodeFault}
-use Rattle.teal_code.specs.declared.decode.CodeFault.TheVariants as code
 use Rattle.teal_check.specs.declared.fault.CheckFault.{CheckFault}
 use Rattle.teal_check.specs.declared.fault.CheckFault.TheVariants as check
+use Rattle.teal_check.specs.FaultNames.{check_fault_name}
 use Rattle.avm_ledger.specs.declared.ledger_fault.LedgerFault.{LedgerFault}
 use Rattle.avm_ledger.specs.declared.ledger_fault.LedgerFault.TheVariants as ledger
 use Rattle.avm_block.specs.declared.block_fault.BlockFault.{BlockFault}
@@ -16,22 +15,6 @@ use Rattle.avm_node.specs.declared.refusal.Refusal.{Refusal}
 use Rattle.avm_node.specs.declared.refusal.Refusal.TheVariants as refusal
 use Rattle.avm_node.specs.CallLines.{call_line_name}
 use Rattle.avm_node.specs.Replies.{Reply, refused}
-
-abbrev pub code_name : CodeFault → List ℕ
-code_name code.UnknownOp = codes "UnknownOp"
-code_name code.Truncated = codes "Truncated"
-code_name code.BadVaruint = codes "BadVaruint"
-
-abbrev pub check_name : CheckFault → List ℕ
-check_name check.Version = codes "Version"
-check_name check.Length = codes "Length"
-check_name (check.Code place fault) = code_name fault
-check_name (check.OutOfProfile place) = codes "OutOfProfile"
-check_name (check.Backward place) = codes "Backward"
-check_name (check.NotAligned place) = codes "NotAligned"
-check_name (check.PastEnd place) = codes "PastEnd"
-check_name check.Cost = codes "Cost"
-check_name (check.UnknownField place) = codes "UnknownField"
 
 -- the place of the instruction that breaks a rule of instructions
 abbrev pub check_place : CheckFault → Option ℕ
@@ -50,7 +33,7 @@ behind_name None = codes "\n"
 behind_name (Some place) = codes " " ++ (decimal place ++ codes "\n")
 
 abbrev pub check_text : CheckFault → List ℕ
-check_text fault = codes "refused check " ++ (check_name fault ++ behind_name (check_place fault))
+check_text fault = codes "refused check " ++ (check_fault_name fault ++ behind_name (check_place fault))
 
 abbrev pub ledger_name : LedgerFault → List ℕ
 ledger_name ledger.Malformed = codes "Malformed"

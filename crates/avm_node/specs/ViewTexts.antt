@@ -6,7 +6,7 @@ use Rattle.teal_value.specs.declared.value.Value.TheVariants.{Uint, Bytes}
 use Rattle.teal_value.specs.AddressText.{address_text}
 use Rattle.teal_dis.specs.Listing.{line_of}
 use Rattle.avm_call.specs.Views.{AtEnd, Faults, KeyChange, LocalChange, NextStep, Runs, View}
-use Rattle.avm_node.specs.Outcomes.{fault_name}
+use Rattle.teal_value.specs.FaultNames.{fault_name}
 
 -- ---- lines
 

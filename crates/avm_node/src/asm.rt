@@ -1,14 +1,14 @@
 //! The command `asm`: source text becomes a program in hexadecimal digits.
 
 ghost use Rattle.std.specs.Prelude.{◌≡◌, IfOk};
-ghost use Rattle.avm_node.specs.Answers.{asm_reply, assembly_reply, name_of};
+ghost use Rattle.avm_node.specs.Answers.{asm_reply, assembly_reply};
 ghost use Rattle.avm_node.specs.Replies.{input_refusal};
 ghost use Rattle.avm_node.specs.Shown.{shown};
 
 use crate::output::{DONE, REFUSED, Reply};
 use std::alloc::{AllocError, Global};
 use std::str;
-use teal_asm::{AsmFault, AsmFaultKind, assemble};
+use teal_asm::{AsmFault, assemble};
 use teal_value::Failure;
 
 /// What `asm` answers to its input.
@@ -48,30 +48,10 @@ fn fault_reply(alloc: Global, fault: AsmFault) -> Result<Reply, AllocError>
     ensures { IfOk result (λ reply. shown reply ≡ assembly_reply (Err fault)) }
 {
     let line = fault.line;
-    let name = name_of(fault.kind);
+    let name = fault.kind.name();
     let text = format!(in alloc; "refused asm {line} {name}\n")?;
     Ok(Reply {
         text,
         status: REFUSED,
     })
-}
-
-fn name_of(kind: AsmFaultKind) -> &'static str
-    ensures { result.now ≡ name_of kind }
-{
-    match kind {
-        AsmFaultKind::Text => "Text",
-        AsmFaultKind::NoPragma => "NoPragma",
-        AsmFaultKind::Version => "Version",
-        AsmFaultKind::UnknownName => "UnknownName",
-        AsmFaultKind::Operands => "Operands",
-        AsmFaultKind::BadNumber => "BadNumber",
-        AsmFaultKind::BadBytes => "BadBytes",
-        AsmFaultKind::LabelTwice => "LabelTwice",
-        AsmFaultKind::LabelMissing => "LabelMissing",
-        AsmFaultKind::LabelBehind => "LabelBehind",
-        AsmFaultKind::TooManyConstants => "TooManyConstants",
-        AsmFaultKind::MixedBlock => "MixedBlock",
-        AsmFaultKind::TooLong => "TooLong",
-    }
 }

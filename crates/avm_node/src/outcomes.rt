@@ -1,7 +1,7 @@
 //! Outcomes in words.
 
 ghost use Rattle.std.specs.Prelude.{◌≡◌, IfOk, string_bytes};
-ghost use Rattle.avm_node.specs.Outcomes.{cause_text, fault_name, faulted_text, outcome_text, why_name};
+ghost use Rattle.avm_node.specs.Outcomes.{cause_text, faulted_text, outcome_text, why_name};
 
 use avm_call::{Cause, Outcome, Why};
 use std::alloc::{AllocError, Global};
@@ -39,7 +39,7 @@ fn cause_text(alloc: Global, cause: Cause) -> Result<String, AllocError>
 fn faulted_text(alloc: Global, fault: Fault, place: u16) -> Result<String, AllocError>
     ensures { IfOk result (λ text. string_bytes text ≡ faulted_text fault place) }
 {
-    let name = fault_name(fault);
+    let name = fault.name();
     format!(in alloc; "faulted {name} {place}")
 }
 
@@ -51,37 +51,5 @@ fn why_name(why: Why) -> &'static str
         Why::AlreadyIn => "AlreadyIn",
         Why::NotIn => "NotIn",
         Why::IdsEnd => "IdsEnd",
-    }
-}
-
-/// The name of a fault.
-pub fn fault_name(fault: Fault) -> &'static str
-    ensures { result.now ≡ fault_name fault }
-{
-    match fault {
-        Fault::Err => "Err",
-        Fault::Underflow => "Underflow",
-        Fault::WrongType => "WrongType",
-        Fault::Compare => "Compare",
-        Fault::Overflow => "Overflow",
-        Fault::Negative => "Negative",
-        Fault::DivZero => "DivZero",
-        Fault::TooLong => "TooLong",
-        Fault::Range => "Range",
-        Fault::BtoiLength => "BtoiLength",
-        Fault::StackFull => "StackFull",
-        Fault::NoConstant => "NoConstant",
-        Fault::BadField => "BadField",
-        Fault::NoTxn => "NoTxn",
-        Fault::NoArg => "NoArg",
-        Fault::NoAccount => "NoAccount",
-        Fault::NoForeign => "NoForeign",
-        Fault::NotOptedIn => "NotOptedIn",
-        Fault::NoSuchApp => "NoSuchApp",
-        Fault::Schema => "Schema",
-        Fault::KeyLength => "KeyLength",
-        Fault::FinalDepth => "FinalDepth",
-        Fault::FinalBytes => "FinalBytes",
-        Fault::Assert => "Assert",
     }
 }

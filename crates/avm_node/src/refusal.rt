@@ -1,7 +1,7 @@
 //! Why an input of lines of digits is refused, and what is answered to it.
 
 ghost use Rattle.std.specs.Prelude.{◌≡◌, IfOk, string_bytes};
-ghost use Rattle.avm_node.specs.Refusals.{block_text, call_text, check_name, check_place, check_text, code_name, ledger_text, opening_text, refusal_reply};
+ghost use Rattle.avm_node.specs.Refusals.{block_text, call_text, check_place, check_text, ledger_text, opening_text, refusal_reply};
 ghost use Rattle.avm_node.specs.Shown.{shown};
 
 use crate::call_line::{CallLineFault, call_line_name};
@@ -12,7 +12,6 @@ use avm_ledger::LedgerFault;
 use avm_replay::StateFault;
 use std::alloc::{AllocError, Global};
 use teal_check::CheckFault;
-use teal_code::CodeFault;
 
 /// Why an input of lines of digits is refused.
 #[derive(Clone, Copy, Debug, PartialEq, Eq)]
@@ -67,7 +66,7 @@ pub fn refusal_reply(alloc: Global, refusal: Refusal) -> Result<Reply, AllocErro
 fn check_text(alloc: Global, fault: CheckFault) -> Result<String, AllocError>
     ensures { IfOk result (λ text. string_bytes text ≡ check_text fault) }
 {
-    let name = check_name(fault);
+    let name = fault.name();
     match check_place(fault) {
         Some(place) => format!(in alloc; "refused check {name} {place}\n"),
         None => format!(in alloc; "refused check {name}\n"),
@@ -117,32 +116,6 @@ fn opening_text(alloc: Global, fault: OpenFault) -> Result<String, AllocError>
         OpenFault::Pruned => "Pruned",
     };
     format!(in alloc; "refused debug {name}\n")
-}
-
-fn check_name(fault: CheckFault) -> &'static str
-    ensures { result.now ≡ check_name fault }
-{
-    match fault {
-        CheckFault::Version => "Version",
-        CheckFault::Length => "Length",
-        CheckFault::Code { fault, .. } => code_name(fault),
-        CheckFault::OutOfProfile { .. } => "OutOfProfile",
-        CheckFault::Backward { .. } => "Backward",
-        CheckFault::NotAligned { .. } => "NotAligned",
-        CheckFault::PastEnd { .. } => "PastEnd",
-        CheckFault::Cost => "Cost",
-        CheckFault::UnknownField { .. } => "UnknownField",
-    }
-}
-
-fn code_name(fault: CodeFault) -> &'static str
-    ensures { result.now ≡ code_name fault }
-{
-    match fault {
-        CodeFault::UnknownOp => "UnknownOp",
-        CodeFault::Truncated => "Truncated",
-        CodeFault::BadVaruint => "BadVaruint",
-    }
 }
 
 // The place of the instruction that breaks the rule, where the rule is one of instructions.

@@ -8,7 +8,6 @@ ghost use Rattle.avm_debug.specs.Shown.{next_seen, view_seen};
 ghost use Rattle.avm_node.specs.Shown.{texts};
 ghost use Rattle.avm_node.specs.ViewTexts.{bytes_text, change_texts, global_text, key_text, lines_text, local_text, next_text, now_text, part_text, place_text, scratch_text, value_text, view_text};
 
-use crate::outcomes::fault_name;
 use avm_debug::{KeyChange, LocalChange, Next, ScratchPlace, View};
 use std::alloc::{AllocError, Global};
 use teal_dis::line;
@@ -46,7 +45,7 @@ fn next_text(alloc: Global, place: u16, next: &Next<'_>) -> Result<String, Alloc
     match next {
         Next::Instruction(instruction) => line(alloc, place, instruction),
         Next::Fault(fault) => {
-            let name = fault_name(*fault);
+            let name = fault.name();
             format!(in alloc; "fault {name}")
         }
         Next::End => String::from_str(alloc, "end"),
