@@ -1,5 +1,6 @@
 pub mod Reading
 pub mod LineReading
+mod LineLengths
 pub mod Numerals
 mod Rows
 pub mod TokenOrder

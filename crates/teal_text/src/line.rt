@@ -13,7 +13,11 @@ ghost use Rattle.teal_text.specs.Lines.{lines_of, on_line, line_len, line_text};
 use crate::fault::{TextError, TextFault};
 use crate::scan::{announces_base64, blank_len, first_token};
 use crate::token::Token;
+use memchr::memchr;
 use teal_value::Failure;
+
+/// How many bytes of a line are looked at one by one: most lines have no more.
+const SHORT: usize = 32;
 
 /// A line, with its number from 1 and its tokens from left to right.
 #[derive(Debug, Drop)]
@@ -54,12 +58,35 @@ fn line_len(bytes: &[u8]) -> usize
     ensures value { result ≡ line_len bytes.now }
     ensures within { result ≤ length bytes.now }
 {
+    let (front, behind) = bytes.split_at(bytes.len().min(SHORT));
+    let len = short_line_len(front);
+    if len < front.len() {
+        len
+    } else {
+        front.len() + long_line_len(behind)
+    }
+}
+
+fn short_line_len(bytes: &[u8]) -> usize
+    ensures value { result ≡ line_len bytes.now }
+    ensures within { result ≤ length bytes.now }
+{
     for (i, byte) in bytes.iter().enumerate() {
         if *byte == b'\n' {
             return i;
         }
     }
     bytes.len()
+}
+
+fn long_line_len(bytes: &[u8]) -> usize
+    ensures value { result ≡ line_len bytes.now }
+    ensures within { result ≤ length bytes.now }
+{
+    match memchr(b'\n', bytes) {
+        Some(place) => place,
+        None => bytes.len(),
+    }
 }
 
 fn without_carriage_return(line: &[u8]) -> &[u8]
