@@ -5,3 +5,6 @@ pub mod LineByLine
 pub mod Assembled
 pub mod Pragma
 pub mod Resolving
+mod Thinning
+mod Branches
+mod ThinReading

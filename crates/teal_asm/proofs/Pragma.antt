@@ -14,7 +14,7 @@ use Rattle.teal_text.specs.Unread.{Unread, IsBehind}
 use Rattle.teal_source.specs.declared.statement.Statement.{Statement}
 use Rattle.teal_source.specs.declared.fault.AsmFault.{AsmFault}
 use Rattle.teal_source.specs.Statements.{on_text, pragma_of, statements, word_at, words_on, words_of_line, words_of_lines}
-use Rattle.teal_asm.specs.Meaning.{Meant, Meaning, all_instructions, meaning_of_lines, meaning_with}
+use Rattle.teal_asm.specs.Meaning.{Meant, all_instructions, meaning_of_lines, meaning_with}
 use Rattle.teal_asm.specs.Reading.{IsLater, meaning_behind, unread_meaning, unread_statements}
 use Rattle.teal_asm.proofs.LineByLine.{late, then_then}
 

@@ -4,3 +4,4 @@ pub mod Program
 pub mod Instructions
 pub mod Bodies
 pub mod Constants
+pub mod Thinned

@@ -1,14 +1,15 @@
 //! The statements of a text, one behind another, with what they gather.
 
-ghost use Rattle.std.specs.Prelude.{◌≡◌, ◌≤◌, ◌++◌, ◌&&◌, ◌||◌, [], None, false, length, nat_lt, nat_eq, OnOk};
+ghost use Rattle.std.specs.Prelude.{◌≡◌, ◌≤◌, ◌++◌, ◌&&◌, ◌||◌, [], None, false, length, nat_lt, nat_eq, IsTrue, OnOk};
 ghost use Rattle.std.specs.List.{list_any};
 ghost use Rattle.std.specs.Map.{lookup};
 ghost use Rattle.std.specs.Option.{ForSome};
 ghost use Rattle.std.specs.Str.{bytes_eq};
-ghost use Rattle.teal_value.specs.Answer.{Leaves};
 ghost use Rattle.teal_source.specs.Statements.{appended, behind, distinct, gathered_uint, gathered_string, has_label, is_uint_block, is_byte_block};
 ghost use Rattle.teal_asm.specs.Meaning.{commands_in, label_entry};
+ghost use Rattle.teal_asm.specs.Thinned.{IsIdle, LeavesThinned};
 
+use crate::emit::MOST;
 use crate::gathered::{Labels, Strings};
 use indexmap::IndexSet;
 use std::alloc::{AllocError, Global};
@@ -22,12 +23,13 @@ const MOST_CONSTANTS: usize = 256;
 /// The statements so far.
 #[derive(Drop)]
 pub(crate) struct Body {
+    /// All of them, or so many that the program is too long, among them those that a later fault may need.
     pub statements: Vec<Statement>,
     /// The gathered constants, each once, in the order of first use.
     pub uints: IndexSet<u64>,
     pub strings: Strings,
     pub labels: Labels,
-    /// How many statements have a command.
+    /// How many of `statements` have a command.
     pub commands: usize,
     pub has_uint_block: bool,
     pub has_byte_block: bool,
@@ -51,13 +53,18 @@ impl Body {
         }
     }
 
-    /// Adds a statement whose label is new. After a refusal the body is of no more use.
+    /// Adds a statement whose label is new, or drops it where no later fault needs it: as soon as the program is too long,
+    /// only branches, labels and what gathers a constant count. After a refusal the body is of no more use.
     pub fn add(&mut self, alloc: Global, statement: Statement) -> Result<(), LineError>
         requires body { IsBody self.old }
         requires fresh { ForSome statement.label (λ name. list_any (has_label name) self.old.statements.items ≡ false) }
-        ensures leaves { Leaves result self.new.statements.items (appended self.old.statements.items (behind self.old.statements.items statement)) }
+        ensures leaves { LeavesThinned result self.new.statements.items (appended self.old.statements.items (behind self.old.statements.items statement)) }
         ensures kept { OnOk result (IsBody self.new) }
     {
+        let uints = self.uints.len();
+        let strings = self.strings.len();
+        let uint_block = self.has_uint_block;
+        let byte_block = self.has_byte_block;
         gather(
             alloc,
             &statement.command,
@@ -71,6 +78,15 @@ impl Body {
         }
         if self.gathers_too_many() {
             return Err(Failure::Fault(AsmFaultKind::TooManyConstants));
+        }
+        if self.commands > MOST
+            && is_idle(&statement)
+            && self.uints.len() == uints
+            && self.strings.len() == strings
+            && self.has_uint_block == uint_block
+            && self.has_byte_block == byte_block
+        {
+            return Ok(());
         }
         note_label(alloc, &statement.label, self.commands, &mut self.labels)?;
         self.commands += commands_in(&statement.command);
@@ -97,6 +113,18 @@ impl Body {
         ensures { result ≡ (nat_lt 256 (length self.now.uints.keys) || nat_lt 256 (length self.now.strings)) }
     {
         self.uints.len() > MOST_CONSTANTS || self.strings.len() > MOST_CONSTANTS
+    }
+}
+
+fn is_idle(statement: &Statement) -> bool
+    ensures { IsTrue result → IsIdle statement.now }
+{
+    if statement.label.is_some() {
+        return false;
+    }
+    match &statement.command {
+        Some(Command::Jump(_, _)) => false,
+        _ => true,
     }
 }
 

@@ -22,7 +22,7 @@ pub(crate) enum Instruction {
 }
 
 /// The most bytes that a program may have behind its version.
-const MOST: usize = 1023;
+pub(crate) const MOST: usize = 1023;
 
 /// The program of instructions, unless it has more than 1024 bytes.
 #[tactic(auto, unfolding(crate::specs::Program::program))]

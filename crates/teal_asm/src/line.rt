@@ -1,10 +1,10 @@
 //! The statement of a line.
 
 ghost use Rattle.std.specs.Prelude.{None, OnOk};
-ghost use Rattle.teal_value.specs.Answer.{Leaves};
 ghost use Rattle.teal_source.specs.Statements.{appended, labelled, statement, with_label};
 ghost use Rattle.teal_source.specs.Shown.{words};
 ghost use Rattle.teal_asm.specs.Bodies.{IsBody};
+ghost use Rattle.teal_asm.specs.Thinned.{LeavesThinned};
 
 use crate::body::Body;
 use std::alloc::Global;
@@ -25,7 +25,7 @@ pub(crate) fn add_line(
     body: &mut Body,
 ) -> Result<(), LineError>
     requires { IsBody body.old }
-    ensures leaves { Leaves result body.new.statements.items
+    ensures leaves { LeavesThinned result body.new.statements.items
         (appended body.old.statements.items (statement version body.old.statements.items (record { line = line; first = first.now; more = words more.now }))) }
     ensures kept { OnOk result (IsBody body.new) }
 {
@@ -48,7 +48,7 @@ fn add_plain(
     body: &mut Body,
 ) -> Result<(), LineError>
     requires { IsBody body.old }
-    ensures leaves { Leaves result body.new.statements.items
+    ensures leaves { LeavesThinned result body.new.statements.items
         (appended body.old.statements.items (labelled version body.old.statements.items line None first.now (words more.now))) }
     ensures kept { OnOk result (IsBody body.new) }
 {
@@ -71,7 +71,7 @@ fn add_labelled(
     body: &mut Body,
 ) -> Result<(), LineError>
     requires { IsBody body.old }
-    ensures leaves { Leaves result body.new.statements.items
+    ensures leaves { LeavesThinned result body.new.statements.items
         (appended body.old.statements.items (with_label version body.old.statements.items line name.now (words more.now))) }
     ensures kept { OnOk result (IsBody body.new) }
 {

@@ -1,12 +1,13 @@
 //! The lines of a text, one behind another.
 
 ghost use Rattle.std.specs.Prelude.{◌≡◌, ◌∷◌, [], Ok, length, map, All, OnOk, IfOk};
-ghost use Rattle.teal_value.specs.Answer.{Gives, Leaves};
+ghost use Rattle.teal_value.specs.Answer.{Gives};
 ghost use Rattle.teal_text.specs.Tokens.{LiesWithin};
 ghost use Rattle.teal_text.specs.Lines.{view};
 ghost use Rattle.teal_source.specs.Statements.{failure_on_line, pragma_in, pragma_of, statements, word_at, words_of_line, words_on};
 ghost use Rattle.teal_asm.specs.Bodies.{IsBody};
 ghost use Rattle.teal_asm.specs.Reading.{FindsFirst, IsLater, IsNext, all_tokens, line_total, unread_statements};
+ghost use Rattle.teal_asm.specs.Thinned.{GivesThinned, LeavesThinned};
 ghost use Rattle.teal_source.specs.Shown.{words};
 
 use crate::body::Body;
@@ -24,7 +25,7 @@ pub(crate) fn body_of(
     lines: &mut Lines<'_>,
     spare: Vec<Token>,
 ) -> Result<Body, AsmError>
-    ensures statements { Gives (λ body. body.statements.items) result (unread_statements version [] lines.old) }
+    ensures statements { GivesThinned (λ body. body.statements.items) result (unread_statements version [] lines.old) }
     ensures kept { IfOk result IsBody }
     ensures read { IfOk result (λ body. line_total lines.old ≡ Ok lines.new.read) }
 {
@@ -100,7 +101,7 @@ fn add_tokens(
 ) -> Result<(), AsmError>
     requires tokens { All (LiesWithin 0 (length text.now)) line.now.tokens.items }
     requires body { IsBody body.old }
-    ensures leaves { Leaves result body.new.statements.items (statements version body.old.statements.items (words_of_line text.now (view line.now))) }
+    ensures leaves { LeavesThinned result body.new.statements.items (statements version body.old.statements.items (words_of_line text.now (view line.now))) }
     ensures kept { OnOk result (IsBody body.new) }
 {
     let words = words_of(alloc, text, &line.tokens)?;
@@ -116,7 +117,7 @@ fn add_words(
     body: &mut Body,
 ) -> Result<(), AsmError>
     requires { IsBody body.old }
-    ensures leaves { Leaves result body.new.statements.items (statements version body.old.statements.items (words_on line (words line_words.now))) }
+    ensures leaves { LeavesThinned result body.new.statements.items (statements version body.old.statements.items (words_on line (words line_words.now))) }
     ensures kept { OnOk result (IsBody body.new) }
 {
     match line_words {
@@ -134,7 +135,7 @@ fn add_first(
     body: &mut Body,
 ) -> Result<(), AsmError>
     requires { IsBody body.old }
-    ensures leaves { Leaves result body.new.statements.items (statements version body.old.statements.items (record { line = line; first = first.now; more = words more.now } ∷ [])) }
+    ensures leaves { LeavesThinned result body.new.statements.items (statements version body.old.statements.items (record { line = line; first = first.now; more = words more.now } ∷ [])) }
     ensures kept { OnOk result (IsBody body.new) }
 {
     match add_line(alloc, version, line, first, more, body) {

@@ -5,6 +5,7 @@ use Rattle.teal_text.specs.Unread.{all_lines}
 use Rattle.teal_asm.specs.Instructions.{meaning_in}
 use Rattle.teal_asm.specs.Reading.{line_total, unread_meaning}
 use Rattle.teal_asm.proofs.Assembled.{no_meaning, its_program}
+use Rattle.teal_asm.proofs.ThinReading.{same_program}
 use Rattle.teal_asm.proofs.assembler.assemble.Goals as goal
 
 pub returns-in_err-meaning : goal.returns-in_err-meaning
@@ -16,7 +17,8 @@ returns-in_err-meaning c =
 pub returns : goal.returns
 returns c =
     let text = c.args.text.now in
-    let means : unread_meaning (all_lines text) ≡ Ok (meaning_in c.in_ok-meaning.meaning) = rw c.of-lines.ensures at c.in_ok-meaning.ensures.meaning in
+    let found = c.in_ok-meaning.ensures.meaning in
+    let means : unread_meaning (all_lines text) ≡ Ok found.0 = rw c.of-lines.ensures at found.1 in
     let total : line_total (all_lines text) ≡ Ok c.read.result = rw (c.of-lines.ensures, sym c.read.ensures) at c.in_ok-meaning.ensures.read in
-    let whole = its_program text (meaning_in c.in_ok-meaning.meaning) c.read.result means total in
+    let whole = its_program text found.0 c.read.result means total ∙ sym (same_program c.read.result (meaning_in c.in_ok-meaning.meaning) found.0 found.2) in
     subst (λ r. Gives (λ code. code.items) c.short_program.result r) (sym whole) (rw c.deref.ensures.value at c.short_program.ensures)

@@ -5,7 +5,9 @@ use Rattle.teal_asm.proofs.LineByLine.{one_line, fails_on_line}
 use Rattle.teal_asm.proofs.lines.add_first.Goals as goal
 
 pub returns-in-Ok-clause-leaves : goal.returns-in-Ok-clause-leaves
-returns-in-Ok-clause-leaves c = one_line _ _ _ ∙ ap (on_line c.args.line) c.in-Ok.ensures.leaves
+returns-in-Ok-clause-leaves c =
+    let left = c.in-Ok.ensures.leaves in
+    (left.0, one_line _ _ _ ∙ ap (on_line c.args.line) left.1, left.2)
 
 pub returns-in-Err-clause-leaves : goal.returns-in-Err-clause-leaves
 returns-in-Err-clause-leaves c = rw (c.on_line.ensures, one_line c.args.version c.args.body.now.statements.items (record { line = c.args.line; first = c.args.first.now; more = words c.args.more.now })) (fails_on_line c.args.line c.in-Err.error _ c.in-Err.ensures.leaves)
