@@ -57,7 +57,7 @@ fn push_change(
 fn gather(keys: &mut BTreeMap<StateKey, ()>, state: &State) -> Result<(), AllocError>
     ensures { OnOk result (keys.new.entries ≡ gathered state.now keys.old.entries) }
 {
-    for (key, _value) in state.iter() {
+    for (key, _value) in state.as_slice() {
         keys.insert(key.copied(), ())?;
     }
     Ok(())

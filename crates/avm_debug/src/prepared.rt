@@ -14,7 +14,7 @@ fn copied(alloc: Global, items: &ItemMap) -> Result<ItemMap, AllocError>
     ensures { IfOk result (λ copy. copy ≡ items.now) }
 {
     let mut copy = ItemMap::new(alloc);
-    for (item, value) in items.iter() {
+    for (item, value) in items.as_slice() {
         copy.insert(item.copied(), value.clone()?)?;
     }
     Ok(copy)

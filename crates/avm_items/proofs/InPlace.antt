@@ -1,23 +1,20 @@
 -- The value of an item changed in place.
-use Rattle.std.proofs.Common.{◌≡◌, ◌∙◌, Some, sym, ap}
-use Rattle.std.specs.Cmp.{IsTotalOrder, on_total}
-use Rattle.std.specs.Map.{set_value}
-use Rattle.std.specs.BTreeMap.{is_at}
-use Rattle.std.proofs.lemmas.Cmp.{nat_list_cmp_total}
-use Rattle.std.proofs.lemmas.Map.Steps.{set_value_same}
+use Rattle.std.proofs.Common.{◌≡◌, ◌∙◌, ℕ, Some, get_or, set, sym, ap, subst}
 use Rattle.avm_ledger.specs.Entries.{Entries}
-use Rattle.avm_ledger.proofs.Maps.{set_value-there}
+use Rattle.avm_ledger.proofs.Maps.{sorted-inserted}
+use Rattle.sorted_entries.specs.Places.{StandsAt}
 use Rattle.avm_items.specs.declared.item.Item.{Item}
 use Rattle.avm_items.specs.declared.item_value.ItemValue.{ItemValue}
-use Rattle.avm_items.specs.Items.{ItemMap, IsInItemOrder, item_cmp, sort_key, value_in, with_item, with_state, with_state_changed}
+use Rattle.avm_items.specs.Items.{ItemMap, IsInItemOrder, item_cmp, value_in, with_item, with_state, with_state_changed}
+use Rattle.avm_items.proofs.Puts.{item_total}
 
-item_total : IsTotalOrder item_cmp
-item_total = on_total sort_key nat_list_cmp_total
+module _ (items : ItemMap) (x : Item) (place : ℕ) (stands : StandsAt item_cmp x items place) (e : Item × ItemValue) (read : e ≡ get_or items place e) where
+  set_is : (w : ItemValue) → set items place (e.0, w) ≡ with_item items x w
+  set_is w = ap (λ (f : Item × ItemValue). set items place (f.0, w)) read ∙ sym (stands.set e w)
 
-pub changed_state : (items new : ItemMap) (x : Item) (v w : ItemValue) (change : Entries → Entries) → IsInItemOrder items → Some v ≡ value_in items x → new ≡ set_value (is_at (item_cmp x)) items w
-    → w ≡ with_state change v → new ≡ with_state_changed change items x (value_in items x)
-changed_state items new x v w change o found is e =
-    is ∙ set_value-there item_total x w v items o (sym found) ∙ ap (with_item items x) e ∙ ap (with_state_changed change items x) found
+  pub set_in_order : (w : ItemValue) → IsInItemOrder items → IsInItemOrder (set items place (e.0, w))
+  set_in_order w o = subst IsInItemOrder (sym (set_is w)) (sorted-inserted item_total x w items o)
 
-pub kept_value : (items new : ItemMap) (x : Item) (v w : ItemValue) → Some v ≡ value_in items x → new ≡ set_value (is_at (item_cmp x)) items w → w ≡ v → new ≡ items
-kept_value items new x v w found is e = is ∙ ap (set_value (is_at (item_cmp x)) items) e ∙ set_value_same (is_at (item_cmp x)) items v (sym found)
+  pub changed_state : (w : ItemValue) (change : Entries → Entries) → w ≡ with_state change e.1 → set items place (e.0, w) ≡ with_state_changed change items x (value_in items x)
+  changed_state w change is =
+      set_is w ∙ ap (with_item items x) is ∙ ap (with_state_changed change items x) (ap (λ (f : Item × ItemValue). Some f.1) read ∙ sym (stands.value e))

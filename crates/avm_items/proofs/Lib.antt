@@ -9,5 +9,6 @@ pub mod CallBack
 pub mod CallSpelled
 pub mod RulesKept
 pub mod InPlace
+pub mod MapOrders
 pub mod CallRead
 pub mod Appending

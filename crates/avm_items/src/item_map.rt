@@ -1,10 +1,7 @@
 //! Maps from items to their values.
 
 ghost use Rattle.std.specs.Prelude.{◌≡◌, ◌↔◌, ◌∷◌, [], IfErr, IfNone, IfOk, IfSome, IsTrue, filter, is_some, length, not};
-ghost use Rattle.std.specs.Map.Iter.{GivesInOrder, ShowsInOrder, deref_pair};
 ghost use Rattle.std.specs.Option.{option_copied};
-ghost use Rattle.avm_items.specs.declared.item.Item.{Item as ItemOf};
-ghost use Rattle.avm_items.specs.declared.item_value.ItemValue.{ItemValue as ValueOf};
 ghost use Rattle.avm_ledger.specs.Entries.{with_entry, without_entry};
 ghost use Rattle.avm_items.specs.Items.{IsInItemOrder, is_global_of, state_of, value_in, with_item, with_state_changed};
 ghost use Rattle.avm_items.specs.LedgerItems.{at, pruned, value_before};
@@ -14,25 +11,28 @@ use crate::item::Item;
 use crate::item_value::ItemValue;
 use crate::ledger_items::is_value_in;
 use avm_ledger::Ledger;
+use sorted_entries::{place_of, put, value_of};
 use std::alloc::{AllocError, Global};
 use std::cmp::Ordering;
-use std::collections::BTreeMap;
-use std::collections::btree_map::{IntoIter, Iter};
 use std::marker::Model;
 use teal_value::{StateKey, Value};
 
 /// The values of some items, which contracts see as the list of them by rising item.
+///
+/// They lie in one list: a program of 1024 bytes asks for some 200 items at the most, and most calls for less than ten.
 #[derive(Drop)]
 pub struct ItemMap {
-    values: BTreeMap<Item, ItemValue>,
+    values: Vec<(Item, ItemValue)>,
 }
 
 impl Model for ItemMap {
-    ghost use Rattle.avm_items.specs.Items.{ItemMap};
+    ghost use Rattle.avm_items.specs.Items.{IsInItemOrder, ItemMap};
 
     ghost Value = { ItemMap };
 
-    ghost view = { λ m. m.values.entries };
+    ghost view = { λ m. m.values.items };
+
+    ghost invariant = { λ m. IsInItemOrder m.values.items };
 }
 
 impl ItemMap {
@@ -41,7 +41,7 @@ impl ItemMap {
         ensures { result ≡ [] }
     {
         ItemMap {
-            values: BTreeMap::new(alloc),
+            values: Vec::new(alloc),
         }
     }
 
@@ -56,58 +56,37 @@ impl ItemMap {
     pub fn get(&self, item: &Item) -> Option<&ItemValue>
         ensures { option_copied result ≡ value_in self.now item.now }
     {
-        self.values.get(item)
+        value_of(self.values.as_slice(), item)
     }
 
     /// Whether an item has a local state here.
     pub fn has_state(&self, item: &Item) -> bool
         ensures { result ≡ is_some (state_of (value_in self.now item.now)) }
     {
-        matches!(self.values.get(item), Some(ItemValue::Local(_)))
+        matches!(self.get(item), Some(ItemValue::Local(_)))
     }
 
     /// The items with their values, by rising item.
-    pub fn iter(&self) -> Iter<'_, Item, ItemValue>
-        ensures rest { result ≡ self.now }
-        ensures runs { ShowsInOrder (deref_pair {K = ItemOf} {X = ValueOf}) }
+    pub fn as_slice(&self) -> &[(Item, ItemValue)]
+        ensures all { result.now ≡ self.now }
         ensures order { IsInItemOrder self.now }
     {
-        self.values.iter()
+        self.values.as_slice()
     }
 
     /// The items with their values, by rising item, without a copy.
-    pub fn into_entries(self) -> IntoIter<Item, ItemValue>
-        ensures rest { result ≡ self }
-        ensures runs { GivesInOrder (ItemOf × ValueOf) }
+    pub fn into_vec(self) -> Vec<(Item, ItemValue)>
+        ensures all { result.items ≡ self }
         ensures order { IsInItemOrder self }
     {
-        self.values.into_iter()
-    }
-
-    /// Takes the first item out, with its value.
-    pub fn take_first(&mut self) -> Option<(Item, ItemValue)>
-        ensures first { IfSome result (λ first. self.old ≡ first ∷ self.new) }
-        ensures none { IfNone result (self.old ≡ []) }
-    {
-        self.values.pop_first()
+        self.values
     }
 
     /// Whether these are the same items with the same values. Nothing is copied.
     pub fn is_same(&self, other: &ItemMap) -> bool
         ensures { IsTrue result ↔ (self.now ≡ other.now) }
     {
-        let mut others = other.values.iter();
-        for (item, value) in self.values.iter() {
-            match others.next() {
-                Some((other_item, other_value)) => {
-                    if !is_same_entry(item, value, other_item, other_value) {
-                        return false;
-                    }
-                }
-                None => return false,
-            }
-        }
-        others.next().is_none()
+        are_same_entries(self.values.as_slice(), other.values.as_slice())
     }
 
     /// Takes the items out whose values are those of before; what has no value in `before` was absent.
@@ -115,7 +94,7 @@ impl ItemMap {
         ensures { self.new ≡ pruned (value_before (value_in before.now)) self.old }
     {
         self.values
-            .retain(|item, value| !before.is_before(item, value));
+            .retain(|entry| !before.is_before(&entry.0, &entry.1));
     }
 
     /// Whether an item had this value; one without a value here was absent.
@@ -133,14 +112,14 @@ impl ItemMap {
         ensures { self.new ≡ pruned (at ledger.now) self.old }
     {
         self.values
-            .retain(|item, value| !is_value_in(ledger, item, value));
+            .retain(|entry| !is_value_in(ledger, &entry.0, &entry.1));
     }
 
     /// Takes the counts and the keys of an application's global state out.
     pub fn remove_global_state(&mut self, id: u64)
         ensures { self.new ≡ filter (λ e. not (is_global_of id e.0)) self.old }
     {
-        self.values.retain(|item, _value| !item.is_global_of(id));
+        self.values.retain(|entry| !entry.0.is_global_of(id));
     }
 
     /// Gives an item a value, in place of the one that it may have had.
@@ -148,7 +127,7 @@ impl ItemMap {
         ensures ok { IfOk result (λ _. self.new ≡ with_item self.old item value) }
         ensures memory { IfErr result (λ _. self.new ≡ self.old) }
     {
-        self.values.insert(item, value)?;
+        put(&mut self.values, item, value)?;
         Ok(())
     }
 
@@ -158,28 +137,42 @@ impl ItemMap {
         ensures ok { IfOk result (λ _. self.new ≡ with_state_changed (λ state. with_entry state key value) self.old item.now (value_in self.old item.now)) }
         ensures memory { IfErr result (λ _. self.new ≡ self.old) }
     {
-        let Some(found) = self.values.get_mut(item) else {
-            return Ok(());
-        };
-        found.put_entry(key, value)
+        match place_of(self.values.as_slice(), item) {
+            Ok(place) => self.values[place].1.put_entry(key, value),
+            Err(_) => Ok(()),
+        }
     }
 
     /// Takes a key out of the local state that an item has here, in place. Where it has none, nothing changes.
     pub fn remove_entry(&mut self, item: &Item, key: &StateKey)
         ensures { self.new ≡ with_state_changed (λ state. without_entry state key.now) self.old item.now (value_in self.old item.now) }
     {
-        let Some(found) = self.values.get_mut(item) else {
-            return;
-        };
-        found.remove_entry(key);
+        if let Ok(place) = place_of(self.values.as_slice(), item) {
+            self.values[place].1.remove_entry(key);
+        }
     }
 }
 
-/// Whether an item with its value is the same as another.
-fn is_same_entry(item: &Item, value: &ItemValue, other_item: &Item, other_value: &ItemValue) -> bool
-    ensures { IsTrue result ↔ ((item.now ≡ other_item.now) × (value.now ≡ other_value.now)) }
+/// Whether two lists have the same items with the same values.
+fn are_same_entries(entries: &[(Item, ItemValue)], others: &[(Item, ItemValue)]) -> bool
+    ensures { IsTrue result ↔ (entries.now ≡ others.now) }
 {
-    is_same_item(item, other_item) && value.is_same(other_value)
+    if entries.len() != others.len() {
+        return false;
+    }
+    for index in 0..entries.len() {
+        if !is_same_entry(&entries[index], &others[index]) {
+            return false;
+        }
+    }
+    true
+}
+
+/// Whether an item with its value is the same as another.
+fn is_same_entry(entry: &(Item, ItemValue), other: &(Item, ItemValue)) -> bool
+    ensures { IsTrue result ↔ (entry.now ≡ other.now) }
+{
+    is_same_item(&entry.0, &other.0) && entry.1.is_same(&other.1)
 }
 
 /// Whether two items are the same.

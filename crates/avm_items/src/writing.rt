@@ -144,10 +144,9 @@ fn change_all(
     ensures back { (before : LedgerMaps) → AllPutBack ledger.old changes.old.items before → AllPutBack ledger.new changes.new.items before }
     ensures order { IsInItemOrder items }
 {
-    // The items rise, as this reader of theirs says.
-    let _items = items.iter();
-    let mut items = items;
-    while let Some((item, value)) = items.take_first() {
+    let mut rest = items.into_vec();
+    rest.reverse();
+    while let Some((item, value)) = rest.pop() {
         change(alloc, ledger, item, value, changes, absent)?;
     }
     Ok(())

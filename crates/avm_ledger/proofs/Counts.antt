@@ -10,7 +10,7 @@ use Rattle.std.specs.Map.{keys_of}
 use Rattle.std.specs.List.{All, AllByRecursion}
 use Rattle.std.specs.BTreeMap.{is_at}
 use Rattle.std.specs.FinMap.{nat_cmp-IsAntisymmetric, slice_cmp-IsAntisymmetric}
-use Rattle.std.proofs.lemmas.List.Elements.{All-head, All-tail}
+use Rattle.std.proofs.lemmas.List.Elements.{All-head, All-nil, All-tail}
 use Rattle.std.proofs.lemmas.Map.Views.{All-keys-insert_entry, All-map-remove_entry}
 use Rattle.std.specs.List.Sorted.{IsStrictlySortedBy}
 use Rattle.teal_value.specs.declared.value.Value.{Value}
@@ -22,6 +22,10 @@ use Rattle.avm_ledger.proofs.Maps.{below_none, all_below, is_Equal}
 
 byte_total : IsTotalOrder byte_cmp
 byte_total = nat_list_cmp_total
+
+pub none_counted : IsCounted [] (record { uints = 0; bytes = 0 }) × IsInKeyOrder []
+unfolding IsStrictlySortedBy
+none_counted = (record { counts = refl; room = omega arith; keys = All-nil _ }, tt)
 
 -- ---- on counts alone
 

@@ -65,7 +65,7 @@ pub fn put_state(bytes: &mut Vec<u8>, state: &State) -> Result<(), AllocError>
     ensures { OnOk result (bytes.new.items ≡ bytes.old.items ++ state_bytes state.now) }
 {
     put_u8(bytes, state.len())?;
-    for (key, value) in state.iter() {
+    for (key, value) in state.as_slice() {
         put_entry(bytes, key, value)?;
     }
     Ok(())

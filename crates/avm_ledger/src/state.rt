@@ -1,16 +1,13 @@
 //! States of applications and accounts.
 
-ghost use Rattle.std.specs.Prelude.{◌≡◌, ◌+◌, ◌<◌, ◌≤◌, [], None, IfErr, IfOk, IfSome, length, List, ℕ};
-ghost use Rattle.std.specs.Map.Iter.{ShowsInOrder, deref_pair};
+ghost use Rattle.std.specs.Prelude.{◌≡◌, ◌+◌, ◌<◌, ◌≤◌, [], None, IfErr, IfOk, IfSome, is_some, length, List, ℕ};
 ghost use Rattle.std.specs.Option.{option_copied};
-ghost use Rattle.teal_value.specs.declared.value.Value.{Value};
 ghost use Rattle.avm_ledger.specs.Entries.{value_of_key, with_entry, without_entry, IsInKeyOrder};
 ghost use Rattle.avm_ledger.specs.Schemas.{count_with, counts_in, uncounted};
 
 use crate::schema::Schema;
+use sorted_entries::{put, take, value_of};
 use std::alloc::{AllocError, Global};
-use std::collections::BTreeMap;
-use std::collections::btree_map::Iter;
 use std::marker::Model;
 use teal_value::{StateKey, Value};
 
@@ -21,7 +18,7 @@ const MOST_ENTRIES: usize = 255;
 /// A global or local state: its entries by rising key, which contracts see as the list of them. It has room for 255.
 #[derive(Debug, Drop)]
 pub struct State {
-    entries: BTreeMap<StateKey, Value>,
+    entries: Vec<(StateKey, Value)>,
     /// How many of the entries are uints, and how many byte strings.
     counts: Schema,
 }
@@ -32,11 +29,12 @@ impl Model for State {
 
     ghost Value = { List (List ℕ × StateValue) };
 
+    ghost use Rattle.avm_ledger.specs.Entries.{IsInKeyOrder};
     ghost use Rattle.avm_ledger.specs.Schemas.{IsCounted};
 
-    ghost view = { λ s. s.entries.entries };
+    ghost view = { λ s. s.entries.items };
 
-    ghost invariant = { λ s. IsCounted s.entries.entries s.counts };
+    ghost invariant = { λ s. IsCounted s.entries.items s.counts × IsInKeyOrder s.entries.items };
 }
 
 /// The counts without a value, if one is there.
@@ -84,7 +82,7 @@ impl State {
         ensures { result ≡ [] }
     {
         State {
-            entries: BTreeMap::new(alloc),
+            entries: Vec::new(alloc),
             counts: Schema { uints: 0, bytes: 0 },
         }
     }
@@ -110,7 +108,13 @@ impl State {
     pub fn get(&self, key: &StateKey) -> Option<&Value>
         ensures { option_copied result ≡ value_of_key self.now key.now }
     {
-        self.entries.get(key)
+        value_of(self.entries.as_slice(), key)
+    }
+
+    fn contains_key(&self, key: &StateKey) -> bool
+        ensures { result ≡ is_some (value_of_key self.now key.now) }
+    {
+        self.get(key).is_some()
     }
 
     /// The value of the key of these bytes. No key has more than 64.
@@ -123,19 +127,18 @@ impl State {
         match StateKey::of(key) {
             Some(key) => {
                 let _bytes = key.as_slice();
-                self.entries.get(&key)
+                self.get(&key)
             }
             None => None,
         }
     }
 
     /// The entries by rising key.
-    pub fn iter(&self) -> Iter<'_, StateKey, Value>
-        ensures rest { result ≡ self.now }
-        ensures runs { ShowsInOrder (deref_pair {K = List ℕ} {X = Value}) }
+    pub fn as_slice(&self) -> &[(StateKey, Value)]
+        ensures all { result.now ≡ self.now }
         ensures order { IsInKeyOrder self.now }
     {
-        self.entries.iter()
+        self.entries.as_slice()
     }
 
     /// Gives a key a value, in place of the one that it may have had, which is answered. Only a new key can be refused:
@@ -148,11 +151,11 @@ impl State {
         ensures order { IsInKeyOrder self.new }
     {
         let _bytes = key.as_slice();
-        if self.entries.len() >= MOST_ENTRIES && !self.entries.contains_key(&key) {
+        if self.entries.len() >= MOST_ENTRIES && !self.contains_key(&key) {
             return Err(AllocError);
         }
         let count = count_of(&value);
-        let old = self.entries.insert(key, value)?;
+        let old = put(&mut self.entries, key, value)?;
         let rest = uncounted(self.counts, &old);
         self.counts = sum(rest, count);
         Ok(old)
@@ -164,7 +167,7 @@ impl State {
         ensures removed { self.new ≡ without_entry self.old key.now }
         ensures order { IsInKeyOrder self.new }
     {
-        let old = self.entries.remove(key);
+        let old = take(&mut self.entries, key);
         self.counts = uncounted(self.counts, &old);
         old
     }

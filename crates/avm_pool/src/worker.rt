@@ -219,10 +219,10 @@ fn prune<G: Gate, R: Wait>(rt: &R, journal: &Mutex<Journal>, shared: &Shared<G>)
 /// Which shards have an item that was read or is written, by index.
 pub(crate) fn shards_of(attempt: &Attempt, finished: &Finished) -> [bool; SHARD_COUNT] {
     let mut wanted = [false; SHARD_COUNT];
-    for (item, _value) in attempt.reads().iter() {
+    for (item, _value) in attempt.reads().as_slice() {
         wanted[usize::from(shard_of(item))] = true;
     }
-    for (item, _value) in finished.writes().iter() {
+    for (item, _value) in finished.writes().as_slice() {
         wanted[usize::from(shard_of(item))] = true;
     }
     wanted

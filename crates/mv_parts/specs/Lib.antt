@@ -1,7 +1,6 @@
 pub mod Opening
 pub mod Journals
 pub mod Commits
-pub mod Rooms
 pub mod Sealing
 pub mod Agreeing
 pub mod SameLedgers

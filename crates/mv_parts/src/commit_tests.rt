@@ -64,7 +64,7 @@ pub(crate) fn moved(versions: &Held, reads: &ItemMap, timestamp: u64) -> Option<
     requires low { AreLow timestamp versions.now }
     ensures { result ≡ moved_item (λ x. (newest_at timestamp (versions_for versions.now x) no_version).value) reads.now }
 {
-    for (item, value) in reads.iter() {
+    for (item, value) in reads.as_slice() {
         if !versions.has_value(item, timestamp, value) {
             return Some(item.copied());
         }
@@ -85,7 +85,7 @@ pub(crate) fn late(
     requires held_low { AreLow timestamp held.now }
     ensures { result ≡ late_write versions.now held.now timestamp writes.now }
 {
-    for (item, _value) in writes.iter() {
+    for (item, _value) in writes.as_slice() {
         if let Some(late) = late_at(versions, held, item, timestamp) {
             return Some(CommitFault::Late {
                 item: item.copied(),

@@ -252,10 +252,10 @@ impl Journal {
             &attempt,
             &finished,
         ) {
-            Ok(room) => {
+            Ok(()) => {
                 self.live.remove(&timestamp);
                 self.states[attempt.number() as usize - 1] = CallState::Committed;
-                insert_entry(&mut self.entries, entry_of(attempt, finished, room));
+                insert_entry(&mut self.entries, entry_of(attempt, finished));
                 Ok(timestamp)
             }
             Err(_) => Err(RefusedCommit {

@@ -12,3 +12,4 @@ pub mod PartReads
 pub mod Prunes
 pub mod SeenPrunes
 pub mod Foreign
+pub mod Left

@@ -85,7 +85,7 @@ impl Held {
     pub fn covers(&self, items: &ItemMap) -> bool
         ensures { IsTrue result ↔ AreHeld self.now items.now }
     {
-        for (item, _value) in items.iter() {
+        for (item, _value) in items.as_slice() {
             if self.parts[usize::from(shard_of(item))].is_none() {
                 return false;
             }

@@ -175,7 +175,7 @@ pub(crate) fn refuses(part: &Part, writes: &ItemMap, timestamp: u64) -> bool
     if timestamp < part.low {
         return true;
     }
-    for (item, _value) in writes.iter() {
+    for (item, _value) in writes.as_slice() {
         if has_own_version(part, item, timestamp) {
             return true;
         }

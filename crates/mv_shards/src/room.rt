@@ -63,7 +63,7 @@ fn place_reads(parts: &mut Parts, reads: &ItemMap) -> Result<(), AllocError>
     ensures there { OnOk result (AllByRecursion (λ e. IsSome (chain_in (chains_for parts.new e.0) e.0)) reads.now) }
     ensures order { OnOk result (IsInItemOrder reads.now) }
 {
-    for (item, _value) in reads.iter() {
+    for (item, _value) in reads.as_slice() {
         place_item(parts, item)?;
     }
     Ok(())
@@ -77,7 +77,7 @@ fn room_writes(parts: &mut Parts, writes: &ItemMap) -> Result<(), AllocError>
     ensures room { OnOk result (AllByRecursion (λ e. HasRoom (chains_for parts.new e.0) e.0) writes.now) }
     ensures order { OnOk result (IsInItemOrder writes.now) }
 {
-    for (item, _value) in writes.iter() {
+    for (item, _value) in writes.as_slice() {
         room_item(parts, item)?;
     }
     Ok(())
@@ -88,7 +88,7 @@ fn copies_of(alloc: Global, writes: &ItemMap) -> Result<Copies, AllocError>
     ensures { IfOk result (λ copies. copies.items ≡ writes.now) }
 {
     let mut copies = Vec::with_capacity(alloc, writes.len())?;
-    for (item, value) in writes.iter() {
+    for (item, value) in writes.as_slice() {
         copies.push((item.copied(), value.clone()?))?;
     }
     Ok(copies)

@@ -43,7 +43,7 @@ fn mark_all(parts: &mut Parts, reads: &ItemMap, timestamp: u64)
     requires positive { 0 < timestamp }
     ensures { AreMarkedAt timestamp reads.now parts.old parts.new }
 {
-    for (item, _value) in reads.iter() {
+    for (item, _value) in reads.as_slice() {
         mark_item(parts, item, timestamp);
     }
 }

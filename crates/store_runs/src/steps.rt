@@ -95,11 +95,7 @@ pub fn finished(
         let before = look_at(store);
         match finished_once(rt.alloc(), ops, store, ticket) {
             Ok(finished) => {
-                println!(rt;
-                    "{} reads {}",
-                    ticket.number,
-                    finished.reads().iter().count()
-                )?;
+                println!(rt; "{} reads {}", ticket.number, finished.reads().len())?;
                 return Ok(finished);
             }
             Err(_) => {

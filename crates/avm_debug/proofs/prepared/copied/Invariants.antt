@@ -1,4 +1,4 @@
-use Rattle.std.proofs.Common.{◌≡◌, ◌++◌}
+use Rattle.std.proofs.Common.{◌≡◌, ◌++◌, drop}
 use Rattle.avm_items.specs.Items.{IsInItemOrder}
 use Rattle.avm_debug.proofs.prepared.copied.Given as goal
 
@@ -6,5 +6,5 @@ use Rattle.avm_debug.proofs.prepared.copied.Given as goal
 abbrev pub invariant-loop-item : goal.invariant-loop-item
 invariant-loop-item l = record {
   order : IsInItemOrder l.items;
-  all : l.copy ++ l.item-iterator ≡ l.items;
+  all : l.copy ++ (drop l.item-index l.items) ≡ l.items;
 }

@@ -1,8 +1,14 @@
+use Rattle.std.proofs.Common.{subst}
 use Rattle.avm_ledger.specs.Entries.{without_entry}
-use Rattle.avm_items.proofs.InPlace.{changed_state}
+use Rattle.sorted_entries.specs.Places.{StandsAt}
+use Rattle.avm_items.specs.Items.{item_cmp}
+use Rattle.avm_items.proofs.InPlace.{changed_state, set_in_order}
 use Rattle.avm_items.proofs.item_map.ItemMap.remove_entry.Goals as goal
 
-pub returns : goal.returns
-returns c =
+pub invariant_of-self : goal.invariant_of-self
+invariant_of-self c = set_in_order c.self.inside.values.items c.args.item.now c.in-Ok.place (subst (λ es. StandsAt item_cmp c.args.item.now es c.in-Ok.place) c.as_slice.ensures.value c.in-Ok.ensures) c.index_mut.result.now c.index_mut.ensures.value _ c.self.invariant
+
+pub returns-in-Ok : goal.returns-in-Ok
+returns-in-Ok c =
     rw (← c.self.view_is)
-    (changed_state _ _ c.args.item.now c.in-Some.found.now _ (λ state. without_entry state c.args.key.now) c.get_mut.ensures.ordered c.in-Some.ensures.value (c.get_mut.follows.holds _).0 c.remove_entry.ensures)
+    (changed_state c.self.inside.values.items c.args.item.now c.in-Ok.place (subst (λ es. StandsAt item_cmp c.args.item.now es c.in-Ok.place) c.as_slice.ensures.value c.in-Ok.ensures) c.index_mut.result.now c.index_mut.ensures.value _ (λ state. without_entry state c.args.key.now) c.remove_entry.ensures)
