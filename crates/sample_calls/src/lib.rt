@@ -1,7 +1,10 @@
-//! Calls and ledgers by rows of data, for the tests of more than one crate.
+//! Calls and ledgers by rows of data, and what runs them, for the tests of more than one crate.
 #![tactic(auto)]
 
+pub mod counted;
 pub mod random;
 pub mod rows;
+pub mod running;
 pub mod samples;
+mod sets;
 pub mod worked;

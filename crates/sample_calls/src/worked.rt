@@ -49,18 +49,21 @@ pub const SKEW_CALLS: [Row; 2] = [
     },
 ];
 
+/// A creation whose programs are `int 1`.
+pub const CREATION: Row = Row {
+    sender: X,
+    application: 0,
+    completion: Completion::NoOp,
+    arguments: 0,
+    account: Y,
+    foreign: 1,
+    program: "0220010122",
+    uints: 0,
+};
+
 /// The creation of application 2, and a call that asks for it.
 pub const EARLY_CALLS: [Row; 2] = [
-    Row {
-        sender: X,
-        application: 0,
-        completion: Completion::NoOp,
-        arguments: 0,
-        account: Y,
-        foreign: 1,
-        program: "0220010122",
-        uints: 0,
-    },
+    CREATION,
     Row {
         sender: Y,
         application: 1,

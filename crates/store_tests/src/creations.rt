@@ -2,15 +2,15 @@
 
 ghost use Rattle.avm_ops.specs.Objects.{IsFull};
 
-use crate::examples::{CREATION, Chosen, LOOKS_ABROAD, PLAIN, both, full_set};
 use crate::steps::{
-    FinishedAttempt, attempted, begun, commits, commits_at, ends_late, finished_by, seals_to,
-    store_of,
+    FinishedAttempt, attempted, begun, commits, commits_at, ends_late, finished, full_ops,
+    seals_to, store_of,
 };
 use avm_call::Outcome;
 use avm_items::Item;
 use avm_ops::{BoxedOp, Op, OpSet};
 use mv_core::Store;
+use sample_calls::worked::{EARLY, EARLY_CALLS};
 use std::alloc::Global;
 use std::test::Fail;
 use teal_value::Fault;
@@ -32,7 +32,7 @@ fn creation_is_late(alloc: Global, ops: &OpSet, store: &mut Store) -> Result<boo
 {
     let ticket = begun(store, 1)?;
     let found = finds_none(alloc, ops, store)?;
-    let finished = finished_by(alloc, ops, store, &ticket)?;
+    let finished = finished(alloc, ops, store, &ticket)?;
     let late = FinishedAttempt { ticket, finished };
     Ok(ends_late(store, late, &Item::App(2), 2) && found && ticket.timestamp == 1)
 }
@@ -49,16 +49,12 @@ fn has_second(alloc: Global, store: &Store, timestamp: u64) -> bool {
 #[test]
 fn what_was_not_there_is_read(rt: HostRuntime) -> Result<(), Fail> {
     let alloc = rt.alloc();
-    let ops = full_set(alloc)?;
-    let looks = Chosen {
-        foreign: Some(2),
-        ..PLAIN
-    };
-    let mut store = store_of(alloc, LOOKS_ABROAD, both(alloc, &CREATION, &looks)?)?;
+    let ops = full_ops(alloc)?;
+    let mut store = store_of(alloc, EARLY, &EARLY_CALLS)?;
     assert!(rt; creation_is_late(alloc, &ops, &mut store)?);
     assert!(rt; commits_at(alloc, &ops, &mut store, 1, 3)?);
     assert!(rt; !has_second(alloc, &store, 2) && has_second(alloc, &store, 3));
     assert!(rt; store.entries().len() == 2 && store.entries()[0].outcome() == NOT_THERE);
-    assert!(rt; seals_to(alloc, &ops, store, LOOKS_ABROAD, [2, 3], [2, 1])?);
+    assert!(rt; seals_to(alloc, &ops, store, EARLY, [2, 3], [2, 1])?);
     Ok(())
 }

@@ -2,13 +2,14 @@
 
 ghost use Rattle.avm_ops.specs.Objects.{IsFull};
 
-use crate::examples::{BOTH_IN, X, Y, crossed_calls, full_set};
-use crate::steps::{attempted, commits, commits_at, ends_late, store_of, v_of};
+use crate::steps::{attempted, commits, commits_at, ends_late, full_ops, store_of, v_of};
 use avm_debug::{Debugger, OpenFault, PastError, PastFault, Source, state_of};
 use avm_items::Item;
 use avm_ledger::Ledger;
 use avm_ops::{BoxedOp, Op, OpSet};
 use mv_core::Store;
+use sample_calls::rows::{X, Y};
+use sample_calls::worked::{SKEW, SKEW_CALLS};
 use std::alloc::Global;
 use std::test::Fail;
 use teal_value::Failure;
@@ -17,7 +18,7 @@ use teal_value::Failure;
 fn store_of_two(alloc: Global, ops: &OpSet) -> Result<Store, Fail>
     requires full { IsFull ⟦<BoxedOp as Op>⟧.opcode ops.now }
 {
-    let mut store = store_of(alloc, BOTH_IN, crossed_calls(alloc)?)?;
+    let mut store = store_of(alloc, SKEW, &SKEW_CALLS)?;
     let first = attempted(alloc, ops, &mut store, 1)?;
     let second = attempted(alloc, ops, &mut store, 2)?;
     let late = ends_late(&mut store, first, &Item::Local(X, 1), 2);
@@ -83,7 +84,7 @@ fn has_state_of_store(alloc: Global, ops: &OpSet, store: &Store) -> bool
 #[test]
 fn calls_of_a_store_are_stepped_through(rt: HostRuntime) -> Result<(), Fail> {
     let alloc = rt.alloc();
-    let ops = full_set(alloc)?;
+    let ops = full_ops(alloc)?;
     let store = store_of_two(alloc, &ops)?;
     assert!(rt; has_numbers(state_of(alloc, Source::Live(&store), 1, &ops), 0, 0));
     assert!(rt; has_numbers(state_of(alloc, Source::Live(&store), 2, &ops), 0, 1));
@@ -100,7 +101,7 @@ fn calls_of_a_store_are_stepped_through(rt: HostRuntime) -> Result<(), Fail> {
 #[test]
 fn pruned_calls_are_not_opened(rt: HostRuntime) -> Result<(), Fail> {
     let alloc = rt.alloc();
-    let ops = full_set(alloc)?;
+    let ops = full_ops(alloc)?;
     let mut store = store_of_two(alloc, &ops)?;
     store.prune(2);
     assert!(rt; is_refused(alloc, &ops, &store, 1, OpenFault::Pruned));

@@ -2,28 +2,13 @@
 
 ghost use Rattle.avm_ops.specs.Objects.{IsFull};
 
-use crate::examples::{Chosen, NO_KEYS, PLAIN, TWO_KEYS, both, full_set};
-use crate::steps::{attempted, commits, ends_late, seals_to, store_of};
-use avm_call::Call;
+use crate::steps::{attempted, commits, ends_late, full_ops, seals_to, store_of};
 use avm_items::Item;
 use avm_ops::{BoxedOp, Op, OpSet};
 use mv_core::Store;
+use sample_calls::counted::{KEY_CALLS, NO_KEYS, TWO_KEYS};
 use std::alloc::Global;
-use std::sync::Arc;
 use std::test::Fail;
-
-// Call 1 adds 1 to the key a, call 2 to the key b.
-fn calls_on_two_keys(alloc: Global) -> Result<Arc<Vec<Call>>, Fail> {
-    let first = Chosen {
-        argument: Some("a"),
-        ..PLAIN
-    };
-    let second = Chosen {
-        argument: Some("b"),
-        ..PLAIN
-    };
-    both(alloc, &first, &second)
-}
 
 // Whether both calls read, and call 2 and then call 1 commits.
 fn both_commit(alloc: Global, ops: &OpSet, store: &mut Store) -> Result<bool, Fail>
@@ -49,8 +34,8 @@ fn counts_are_late(alloc: Global, ops: &OpSet, store: &mut Store) -> Result<bool
 #[test]
 fn calls_on_different_keys_both_commit(rt: HostRuntime) -> Result<(), Fail> {
     let alloc = rt.alloc();
-    let ops = full_set(alloc)?;
-    let mut store = store_of(alloc, TWO_KEYS, calls_on_two_keys(alloc)?)?;
+    let ops = full_ops(alloc)?;
+    let mut store = store_of(alloc, TWO_KEYS, &KEY_CALLS)?;
     assert!(rt; both_commit(alloc, &ops, &mut store)?);
     assert!(rt; store.versions(&Item::Counts(1)) == 1);
     assert!(rt; seals_to(alloc, &ops, store, TWO_KEYS, [1, 2], [1, 2])?);
@@ -61,8 +46,8 @@ fn calls_on_different_keys_both_commit(rt: HostRuntime) -> Result<(), Fail> {
 #[test]
 fn calls_that_add_keys_meet_at_the_counts(rt: HostRuntime) -> Result<(), Fail> {
     let alloc = rt.alloc();
-    let ops = full_set(alloc)?;
-    let mut store = store_of(alloc, NO_KEYS, calls_on_two_keys(alloc)?)?;
+    let ops = full_ops(alloc)?;
+    let mut store = store_of(alloc, NO_KEYS, &KEY_CALLS)?;
     assert!(rt; counts_are_late(alloc, &ops, &mut store)?);
     assert!(rt; store.versions(&Item::Counts(1)) == 2);
     Ok(())

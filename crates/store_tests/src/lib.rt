@@ -1,4 +1,4 @@
-//! Calls that a journal and a store carry out, through a set with an object of every opcode.
+//! Calls that a store carries out, through a set with an object of every opcode.
 #![tactic(auto)]
 
 #[cfg(test)]
@@ -6,13 +6,7 @@ mod creations;
 #[cfg(test)]
 mod debugged;
 #[cfg(test)]
-mod examples;
-#[cfg(test)]
-mod journals;
-#[cfg(test)]
 mod keys;
-#[cfg(test)]
-mod parts;
 #[cfg(test)]
 mod pruned;
 #[cfg(test)]

@@ -2,14 +2,15 @@
 
 ghost use Rattle.avm_ops.specs.Objects.{IsFull};
 
-use crate::examples::{BOTH_IN, HEADER, X, Y, crossed_calls, full_set, ledger_of};
 use crate::steps::{
-    attempted, commits, commits_at, ends_late, has_at, is_pruned, seals_to, store_of,
+    attempted, commits, commits_at, ends_late, full_ops, has_at, is_pruned, seals_to, store_of,
 };
 use avm_items::Item;
 use avm_ops::{BoxedOp, Op, OpSet};
 use mv_core::Store;
 use mv_parts::{BeginFault, SealFault};
+use sample_calls::rows::{HEADER, X, Y, calls_of, ledger_of};
+use sample_calls::worked::{SKEW, SKEW_CALLS};
 use std::alloc::Global;
 use std::test::Fail;
 use teal_value::Failure;
@@ -29,8 +30,8 @@ fn older_is_late(alloc: Global, ops: &OpSet, store: &mut Store) -> Result<bool, 
 #[test]
 fn the_older_of_two_that_have_read_is_late(rt: HostRuntime) -> Result<(), Fail> {
     let alloc = rt.alloc();
-    let ops = full_set(alloc)?;
-    let mut store = store_of(alloc, BOTH_IN, crossed_calls(alloc)?)?;
+    let ops = full_ops(alloc)?;
+    let mut store = store_of(alloc, SKEW, &SKEW_CALLS)?;
     assert!(rt; older_is_late(alloc, &ops, &mut store)?);
     assert!(rt; commits_at(alloc, &ops, &mut store, 1, 3)?);
     assert!(rt; store.versions(&Item::Local(X, 1)) == 2 && store.versions(&Item::Local(Y, 1)) == 2);
@@ -39,7 +40,7 @@ fn the_older_of_two_that_have_read_is_late(rt: HostRuntime) -> Result<(), Fail> 
         has_at(alloc, &store, 1, (X, 0), (Y, 0)) && has_at(alloc, &store, 2, (X, 0), (Y, 1))
     );
     assert!(rt; has_at(alloc, &store, 3, (X, 2), (Y, 1)));
-    assert!(rt; seals_to(alloc, &ops, store, BOTH_IN, [2, 3], [2, 1])?);
+    assert!(rt; seals_to(alloc, &ops, store, SKEW, [2, 3], [2, 1])?);
     Ok(())
 }
 
@@ -59,14 +60,14 @@ fn prune_stops(alloc: Global, ops: &OpSet, store: &mut Store) -> Result<bool, Fa
 #[test]
 fn a_prune_stops_at_the_live_attempt(rt: HostRuntime) -> Result<(), Fail> {
     let alloc = rt.alloc();
-    let ops = full_set(alloc)?;
-    let mut store = store_of(alloc, BOTH_IN, crossed_calls(alloc)?)?;
+    let ops = full_ops(alloc)?;
+    let mut store = store_of(alloc, SKEW, &SKEW_CALLS)?;
     assert!(rt; prune_stops(alloc, &ops, &mut store)?);
     assert!(rt; commits_at(alloc, &ops, &mut store, 1, 3)?);
     store.prune(3);
     assert!(rt; store.versions(&Item::Local(X, 1)) == 1 && store.versions(&Item::Local(Y, 1)) == 1);
     assert!(rt; is_pruned(alloc, &store, 2) && has_at(alloc, &store, 3, (X, 2), (Y, 1)));
-    assert!(rt; seals_to(alloc, &ops, store, BOTH_IN, [2, 3], [2, 1])?);
+    assert!(rt; seals_to(alloc, &ops, store, SKEW, [2, 3], [2, 1])?);
     Ok(())
 }
 
@@ -91,8 +92,8 @@ fn begins_once(alloc: Global, ops: &OpSet, store: &mut Store) -> Result<bool, Fa
 #[test]
 fn a_call_begins_where_it_is_idle(rt: HostRuntime) -> Result<(), Fail> {
     let alloc = rt.alloc();
-    let ops = full_set(alloc)?;
-    let mut store = store_of(alloc, BOTH_IN, crossed_calls(alloc)?)?;
+    let ops = full_ops(alloc)?;
+    let mut store = store_of(alloc, SKEW, &SKEW_CALLS)?;
     assert!(rt;
         is_refused(&mut store, 9, BeginFault::NoCall)
             && is_refused(&mut store, 0, BeginFault::NoCall)
@@ -104,8 +105,8 @@ fn a_call_begins_where_it_is_idle(rt: HostRuntime) -> Result<(), Fail> {
 
 // Whether a store is of the ledger and the calls that it was opened with.
 fn is_of_its_own(alloc: Global, store: &Store) -> Result<bool, Fail> {
-    let base = ledger_of(alloc, BOTH_IN)?;
-    let calls = crossed_calls(alloc)?;
+    let base = ledger_of(alloc, SKEW)?;
+    let calls = calls_of(alloc, &SKEW_CALLS)?;
     Ok(store.is_of(&base, &HEADER, &calls))
 }
 
@@ -124,7 +125,7 @@ fn not_sealed(alloc: Global, store: Store) -> Result<Store, Fail> {
 #[test]
 fn a_store_is_sealed_when_none_is_live(rt: HostRuntime) -> Result<(), Fail> {
     let alloc = rt.alloc();
-    let mut store = store_of(alloc, BOTH_IN, crossed_calls(alloc)?)?;
+    let mut store = store_of(alloc, SKEW, &SKEW_CALLS)?;
     assert!(rt; is_of_its_own(alloc, &store)? && !store.is_of(store.base(), store.header(), &[]));
     assert!(rt; store.begin(1).is_ok());
     assert!(rt; !is_of_its_own(alloc, &store)?);
@@ -137,11 +138,11 @@ fn a_store_is_sealed_when_none_is_live(rt: HostRuntime) -> Result<(), Fail> {
 #[test]
 fn calls_one_after_the_other_commit(rt: HostRuntime) -> Result<(), Fail> {
     let alloc = rt.alloc();
-    let ops = full_set(alloc)?;
-    let mut store = store_of(alloc, BOTH_IN, crossed_calls(alloc)?)?;
+    let ops = full_ops(alloc)?;
+    let mut store = store_of(alloc, SKEW, &SKEW_CALLS)?;
     assert!(rt; commits_at(alloc, &ops, &mut store, 1, 1)?);
     assert!(rt; commits_at(alloc, &ops, &mut store, 2, 2)?);
     assert!(rt; has_at(alloc, &store, 2, (X, 1), (Y, 2)));
-    assert!(rt; seals_to(alloc, &ops, store, BOTH_IN, [1, 2], [1, 2])?);
+    assert!(rt; seals_to(alloc, &ops, store, SKEW, [1, 2], [1, 2])?);
     Ok(())
 }

@@ -1,16 +1,21 @@
 //! Steps of stores that the tests make, and what they ask of them.
 
+ghost use Rattle.std.specs.Prelude.{IfOk};
 ghost use Rattle.avm_ops.specs.Objects.{IsFull};
 
-use crate::examples::{HEADER, ledger_of};
-use avm_call::Call;
+use avm_arith::ArithOp;
+use avm_flow_ops::FlowOp;
 use avm_items::Item;
 use avm_ledger::Ledger;
-use avm_ops::{BoxedOp, Op, OpSet};
+use avm_ops::{BoxedOp, Op, OpSet, Ops};
 use avm_replay::{Verdict, replay};
-use avm_run::{Advance, CallRun, Finished};
+use avm_run::{CallRun, Finished};
+use avm_state_ops::StateOp;
 use mv_core::{CommitError, CommitFault, ReadFault, StateFault, Store, Ticket};
 use mv_parts::Sealed;
+use sample_calls::full_set;
+use sample_calls::rows::{HEADER, Row, calls_of, ledger_of};
+use sample_calls::running::finished_by;
 use std::alloc::Global;
 use std::sync::Arc;
 use std::test::Fail;
@@ -23,8 +28,17 @@ pub struct FinishedAttempt {
     pub finished: Finished,
 }
 
-/// A store of calls over the ledger of these digits.
-pub fn store_of(alloc: Global, digits: &str, calls: Arc<Vec<Call>>) -> Result<Store, Fail> {
+/// A set with an object of every opcode.
+pub fn full_ops(alloc: Global) -> Result<OpSet, Fail>
+    ensures full { IfOk result (λ ops. IsFull ⟦<BoxedOp as Op>⟧.opcode ops) }
+{
+    let ops = full_set!(alloc);
+    Ok(ops)
+}
+
+/// A store of the calls of rows, over the ledger of these digits.
+pub fn store_of(alloc: Global, digits: &str, rows: &[Row]) -> Result<Store, Fail> {
+    let calls = Arc::new(alloc, calls_of(alloc, rows)?)?;
     match Store::open(alloc, ledger_of(alloc, digits)?, HEADER, calls) {
         Ok(store) => Ok(store),
         Err(_) => Err("few calls make a store".into()),
@@ -48,7 +62,7 @@ fn run_of(alloc: Global, store: &Store, number: u32) -> Result<CallRun, Fail> {
 }
 
 /// Runs a call to its end, over what its live attempt reads.
-pub fn finished_by(
+pub fn finished(
     alloc: Global,
     ops: &OpSet,
     store: &mut Store,
@@ -56,23 +70,11 @@ pub fn finished_by(
 ) -> Result<Finished, Fail>
     requires full { IsFull ⟦<BoxedOp as Op>⟧.opcode ops.now }
 {
-    let mut run = run_of(alloc, store, ticket.number)?;
-    for _ in 0..16 {
-        match run.advance(alloc, ops) {
-            Ok(Advance::Done(finished)) => return Ok(finished),
-            Ok(Advance::Need(item)) => {
-                let value = match store.read(ticket, item.copied()) {
-                    Ok(value) => value,
-                    Err(_) => return Err("a live attempt reads".into()),
-                };
-                if run.supply(item, value).is_err() {
-                    return Err("what is asked for is taken".into());
-                }
-            }
-            Err(_) => return Err("a call ends".into()),
-        }
-    }
-    Err("a call asks for few items".into())
+    let run = run_of(alloc, store, ticket.number)?;
+    finished_by(alloc, ops, run, |item| match store.read(ticket, item) {
+        Ok(value) => Ok(value),
+        Err(_) => Err("a live attempt reads".into()),
+    })
 }
 
 /// A call begins, and reads all that it asks for.
@@ -85,7 +87,7 @@ pub fn attempted(
     requires full { IsFull ⟦<BoxedOp as Op>⟧.opcode ops.now }
 {
     let ticket = begun(store, number)?;
-    let finished = finished_by(alloc, ops, store, &ticket)?;
+    let finished = finished(alloc, ops, store, &ticket)?;
     Ok(FinishedAttempt { ticket, finished })
 }
 

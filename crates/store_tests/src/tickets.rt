@@ -2,16 +2,21 @@
 
 ghost use Rattle.avm_ops.specs.Objects.{IsFull};
 
-use crate::examples::{BOTH_IN, FIVE_IN_Y, X, crossed_calls, full_set};
 use crate::steps::{
-    FinishedAttempt, attempted, back_as_stranger, commits, ends_late, store_of, unknown_back,
+    FinishedAttempt, attempted, back_as_stranger, commits, ends_late, full_ops, store_of,
+    unknown_back,
 };
-use avm_items::Item;
+use avm_items::{Item, ItemValue};
+use avm_ledger::Ledger;
 use avm_ops::{BoxedOp, Op, OpSet};
 use avm_run::Finished;
-use mv_core::{Store, Ticket};
+use mv_core::{ReadFault, StateFault, Store, Ticket};
+use sample_calls::rows::{HEADER, X, calls_of};
+use sample_calls::worked::{CREATION, SKEW, SKEW_AT_2, SKEW_CALLS};
 use std::alloc::Global;
+use std::sync::Arc;
 use std::test::Fail;
+use teal_value::Failure;
 
 // What shows of a store: the digest of its state at a timestamp, its low mark, and how many calls are committed.
 #[derive(Clone, Copy, Debug, PartialEq, Eq)]
@@ -96,8 +101,8 @@ fn are_unknown(store: &mut Store, finished: Finished) -> bool {
 #[test]
 fn ended_and_forged_tickets_are_unknown(rt: HostRuntime) -> Result<(), Fail> {
     let alloc = rt.alloc();
-    let ops = full_set(alloc)?;
-    let mut store = store_of(alloc, BOTH_IN, crossed_calls(alloc)?)?;
+    let ops = full_ops(alloc)?;
+    let mut store = store_of(alloc, SKEW, &SKEW_CALLS)?;
     let finished = both_ended(alloc, &ops, &mut store)?;
     let before = seen_at(alloc, &store, 2)?;
     assert!(rt; are_unknown(&mut store, finished));
@@ -146,17 +151,17 @@ fn is_a_stranger(alloc: Global, ops: &OpSet, store: &mut Store) -> Result<bool, 
 #[test]
 fn another_calls_end_is_a_stranger(rt: HostRuntime) -> Result<(), Fail> {
     let alloc = rt.alloc();
-    let ops = full_set(alloc)?;
-    let mut store = store_of(alloc, BOTH_IN, crossed_calls(alloc)?)?;
+    let ops = full_ops(alloc)?;
+    let mut store = store_of(alloc, SKEW, &SKEW_CALLS)?;
     assert!(rt; is_a_stranger(alloc, &ops, &mut store)?);
     Ok(())
 }
 
-// What call 1 comes to over the ledger where Y has 5.
+// What call 1 comes to over the ledger where Y has 1.
 fn elsewhere(alloc: Global, ops: &OpSet) -> Result<Finished, Fail>
     requires full { IsFull ⟦<BoxedOp as Op>⟧.opcode ops.now }
 {
-    let mut store = store_of(alloc, FIVE_IN_Y, crossed_calls(alloc)?)?;
+    let mut store = store_of(alloc, SKEW_AT_2, &SKEW_CALLS)?;
     let attempted = attempted(alloc, ops, &mut store, 1)?;
     Ok(attempted.finished)
 }
@@ -165,11 +170,70 @@ fn elsewhere(alloc: Global, ops: &OpSet) -> Result<Finished, Fail>
 #[test]
 fn other_reads_are_a_stranger(rt: HostRuntime) -> Result<(), Fail> {
     let alloc = rt.alloc();
-    let ops = full_set(alloc)?;
-    let mut store = store_of(alloc, BOTH_IN, crossed_calls(alloc)?)?;
+    let ops = full_ops(alloc)?;
+    let mut store = store_of(alloc, SKEW, &SKEW_CALLS)?;
     let first = attempted(alloc, &ops, &mut store, 1)?;
     let other = elsewhere(alloc, &ops)?;
     let _back = stranger_back(alloc, &mut store, &first.ticket, other)?;
     assert!(rt; commits(&mut store, first));
     Ok(())
+}
+
+// Whether an item is read by a ticket, as the next id of the ledger without applications.
+fn reads_next_id(store: &mut Store, ticket: &Ticket) -> bool {
+    matches!(store.read(ticket, Item::NextApp), Ok(ItemValue::NextApp(1)))
+}
+
+// Whether a ticket is of no live attempt.
+fn is_forged(store: &mut Store, ticket: &Ticket) -> bool {
+    matches!(
+        store.read(ticket, Item::NextApp),
+        Err(Failure::Fault(ReadFault::Unknown))
+    ) && store.abandon(ticket).is_err()
+}
+
+// Whether a call begins once, reads twice by its own ticket and by no other, and is abandoned once.
+fn knows_its_tickets(store: &mut Store) -> bool {
+    let ticket = match store.begin(1) {
+        Ok(ticket) => ticket,
+        Err(_) => return false,
+    };
+    let forged = Ticket {
+        number: 1,
+        timestamp: 2,
+    };
+    store.begin(1).is_err()
+        && reads_next_id(store, &ticket)
+        && reads_next_id(store, &ticket)
+        && is_forged(store, &forged)
+        && store.abandon(&ticket).is_ok()
+        && is_forged(store, &ticket)
+}
+
+// Whether the state below the low mark is gone, and that at it is the ledger without applications.
+fn drops_what_is_pruned(alloc: Global, store: &mut Store) -> bool {
+    store.prune(1);
+    let pruned = matches!(
+        store.state_at(alloc, 0),
+        Err(Failure::Fault(StateFault::Pruned))
+    );
+    match store.state_at(alloc, 1) {
+        Ok(ledger) => pruned && store.low() == 1 && ledger.next_id() == 1,
+        Err(_) => false,
+    }
+}
+
+// A call of a store begins, reads, and is abandoned; other tickets are of no attempt, and pruned states are gone.
+#[test]
+fn a_store_knows_its_tickets(rt: HostRuntime) -> Result<(), Fail> {
+    let alloc = rt.alloc();
+    let calls = Arc::new(alloc, calls_of(alloc, &[CREATION])?)?;
+    match Store::open(alloc, Ledger::new(alloc), HEADER, calls) {
+        Ok(mut store) => {
+            assert!(rt; knows_its_tickets(&mut store));
+            assert!(rt; drops_what_is_pruned(alloc, &mut store));
+            Ok(())
+        }
+        Err(_) => Err("one call makes a store".into()),
+    }
 }

@@ -5,24 +5,34 @@ ghost use Rattle.avm_items.specs.declared.item_value.ItemValue.TheVariants.{Abse
 ghost use Rattle.avm_items.specs.Items.{with_item};
 ghost use Rattle.avm_ops.specs.Objects.{IsFull};
 
-use crate::examples::{HEADER, ledger_of};
+use avm_arith::ArithOp;
 use avm_call::Call;
+use avm_flow_ops::FlowOp;
 use avm_items::{Item, ItemMap, ItemValue};
-use avm_ops::{BoxedOp, Op, OpSet};
-use avm_run::{Advance, CallRun, Finished};
+use avm_ops::{BoxedOp, Op, OpSet, Ops};
+use avm_run::{CallRun, Finished};
+use avm_state_ops::StateOp;
 use mv_parts::{Journal, RefusedCommit, open_parts};
 use mv_shards::{Attempt, Held, ReadFault};
+use sample_calls::full_set;
+use sample_calls::rows::{HEADER, Row, calls_of, ledger_of};
+use sample_calls::running::finished_by;
 use std::alloc::{AllocError, Global};
 use std::sync::Arc;
 use std::test::Fail;
 use teal_value::Failure;
 
-/// A journal of calls over the ledger of these digits, with all its shards.
-pub fn parts_of(
-    alloc: Global,
-    digits: &str,
-    calls: Arc<Vec<Call>>,
-) -> Result<(Journal, Held), Fail> {
+/// A set with an object of every opcode.
+pub fn full_ops(alloc: Global) -> Result<OpSet, Fail>
+    ensures full { IfOk result (λ ops. IsFull ⟦<BoxedOp as Op>⟧.opcode ops) }
+{
+    let ops = full_set!(alloc);
+    Ok(ops)
+}
+
+/// A journal of the calls of rows, over the ledger of these digits, with all its shards.
+pub fn parts_of(alloc: Global, digits: &str, rows: &[Row]) -> Result<(Journal, Held), Fail> {
+    let calls = Arc::new(alloc, calls_of(alloc, rows)?)?;
     match open_parts(alloc, ledger_of(alloc, digits)?, HEADER, calls) {
         Ok(parts) => Ok(parts),
         Err(_) => Err("few calls make a journal".into()),
@@ -83,22 +93,13 @@ pub fn finished(
 ) -> Result<Finished, Fail>
     requires full { IsFull ⟦<BoxedOp as Op>⟧.opcode ops.now }
 {
-    let mut run = CallRun::start(alloc, call, &HEADER, None)?;
-    for _ in 0..16 {
-        match run.advance(alloc, ops) {
-            Ok(Advance::Done(finished)) => return Ok(finished),
-            Ok(Advance::Need(item)) => {
-                let Some(value) = found(alloc, held, attempt, item.copied())? else {
-                    return Err("nothing was pruned".into());
-                };
-                if run.supply(item, value).is_err() {
-                    return Err("what is asked for is taken".into());
-                }
-            }
-            Err(_) => return Err("a call ends".into()),
+    let run = CallRun::start(alloc, call, &HEADER, None)?;
+    finished_by(alloc, ops, run, |item| {
+        match found(alloc, held, attempt, item)? {
+            Some(value) => Ok(value),
+            None => Err("nothing was pruned".into()),
         }
-    }
-    Err("a call asks for few items".into())
+    })
 }
 
 /// A call begins, and reads all that it asks for.

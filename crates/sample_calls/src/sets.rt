@@ -1,0 +1,28 @@
+//! Sets with an object of every opcode.
+
+/// A set with an object of every opcode. A library hands out no box of `dyn Op` that it makes, so this is a macro.
+#[macro_export]
+macro_rules! full_set {
+    ($alloc:expr) => {{
+        let mut ops: OpSet = Ops::new($alloc)?;
+        for code in 0..256usize {
+            let code = code as u8;
+            let op: Box<dyn Op> = if let Some(op) = ArithOp::of(code) {
+                Box::new($alloc, op)?
+            } else if let Some(op) = FlowOp::of(code) {
+                Box::new($alloc, op)?
+            } else if let Some(op) = StateOp::of(code) {
+                Box::new($alloc, op)?
+            } else {
+                continue;
+            };
+            if ops.push(BoxedOp { op }).is_err() {
+                return Err("an object of its code is there".into());
+            }
+        }
+        if ops.missing().is_some() {
+            return Err("an opcode has no object".into());
+        }
+        ops
+    }};
+}
