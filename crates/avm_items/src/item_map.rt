@@ -19,7 +19,7 @@ use teal_value::{StateKey, Value};
 
 /// The values of some items, which contracts see as the list of them by rising item.
 ///
-/// They lie in one list: a program of 1024 bytes asks for some 200 items at the most, and most calls for less than ten.
+/// They lie in one list, since a call mostly has a few: a new item moves those behind it.
 #[derive(Drop)]
 pub struct ItemMap {
     values: Vec<(Item, ItemValue)>,
