@@ -1,18 +1,16 @@
 -- The targets of a checked program's branches.
 use Rattle.std.proofs.Common.{◌≡◌, ℕ, zero, suc, ◌+◌, ◌<◌, ◌≤◌, eqb, ltb, List, [], ◌∷◌, length, Option, Some, None, Ok, refl, ap, ◌∙◌, inl, inr, arith}
-use Rattle.std.specs.Prelude.{◌||◌}
 use Rattle.std.specs.List.{slice_get}
 use Rattle.std.specs.Option.{option_map, ok_or}
 use Rattle.teal_value.specs.Answer.{◌>>=◌}
 use Rattle.teal_value.proofs.Binding.{bind_ok, chosen}
-use Rattle.teal_table.specs.declared.shape.Version.{Version}
 use Rattle.teal_code.specs.declared.instr.Immediates.{Immediates}
 use Rattle.teal_code.specs.declared.instr.Immediates.TheVariants as is
 use Rattle.teal_check.specs.declared.fault.CheckFault.{CheckFault}
 use Rattle.teal_check.specs.declared.fault.CheckFault.TheVariants as fault
 use Rattle.teal_check.specs.declared.program.Placed.{Placed}
-use Rattle.teal_check.specs.WellFormed.{WellFormed, version_at, placed_from, places, index_of, number_at, branch_target, immediates_target, target_of, with_targets, cost_of, affordable, checked}
-use Rattle.teal_check.proofs.CheckedPrograms.{targets_keep, length-places}
+use Rattle.teal_check.specs.WellFormed.{WellFormed, places, index_of, number_at, branch_target, immediates_target, target_of, with_targets, checked}
+use Rattle.teal_check.proofs.CheckedPrograms.{is_checked, length-places}
 
 found_within : (x n : ℕ) (xs : List ℕ) → index_of x xs ≡ Some n → n < length xs
 found_within x n [] e = absurd cc
@@ -69,23 +67,9 @@ in_list starts end (p ∷ ps) qs e (suc k) q at t is =
     let same : record p { target = target } ∷ rs ≡ qs = cc in
     in_list starts end ps rs rest k q (ap (λ (xs : List Placed). slice_get xs (suc k)) same ∙ at) t is
 
-afforded : (version : Version) (bytes : List ℕ) (ps : List Placed) (w : WellFormed) → affordable version bytes ps ≡ Ok w → ps ≡ w.placed
-afforded version bytes ps w e = elim (chosen (ltb 700 (cost_of ps)) _ _ _ e) [
-  | inl (more, bad) ↦ absurd cc
-  | inr (fits, one) ↦ let same : record { version = version; bytes = bytes; placed = ps; cost = cost_of ps } ≡ w = cc in ap (λ (v : WellFormed). v.placed) same
-]
-
 -- a branch of a checked program leads to an instruction or to the end
 pub targets_within : (bytes : List ℕ) (w : WellFormed) → checked bytes ≡ Ok w → (k : ℕ) (p : Placed) → slice_get w.placed k ≡ Some p → (t : ℕ) → p.target ≡ Some t → t ≤ length w.placed
-unfolding checked
-targets_within bytes w e k p at t is = elim (chosen (eqb (length bytes) 0 || ltb 1024 (length bytes)) _ _ _ e) [
-  | inl (outside, bad) ↦ absurd cc
-  | inr (inside, more) ↦
-      let (v, first, others) = bind_ok (version_at bytes) _ _ more in
-      let (ps, placed, later) = bind_ok (placed_from (length bytes) v.0 bytes v.1) _ _ others in
-      let (qs, resolved, last) = bind_ok (with_targets (places ps) (length bytes) ps) _ _ later in
-      let same = afforded v.0 bytes qs w last in
-      let keeps = targets_keep (places ps) (length bytes) ps qs resolved in
-      let le = in_list (places ps) (length bytes) ps qs resolved k p (ap (λ xs. slice_get xs k) same ∙ at) t is in
-      omega (arith, le, length-places ps, keeps.1, ap length same)
-]
+targets_within bytes w e k p at t is =
+    let c = is_checked bytes w e in
+    let le = in_list (places c.bare) (length bytes) c.bare w.placed c.targets k p at t is in
+    omega (arith, le, length-places c.bare, c.same_count)

@@ -1,8 +1,7 @@
 -- The listing of a checked program assembles to a program of the same instructions, which lists so again.
-use Rattle.std.proofs.Common.{◌≡◌, ◌∙◌, refl, sym, ap, subst, ℕ, zero, suc, ◌+◌, ◌-◌, ◌<◌, ◌≤◌, Bool, true, false, ◌||◌, eqb, ltb, List, [], ◌∷◌, ◌++◌, length, length-append, map, get_or, codes, Option, Some, None, Ok, inl, inr, arith}
-use Rattle.std.specs.Prelude.{if◌then◌else◌, is_some}
+use Rattle.std.proofs.Common.{◌≡◌, ◌∙◌, refl, sym, ap, subst, ℕ, zero, suc, ◌+◌, ◌-◌, ◌<◌, ◌≤◌, false, eqb, ltb, List, [], ◌∷◌, ◌++◌, length, length-append, map, codes, Option, Some, None, Ok, inl, inr, arith}
+use Rattle.std.specs.Prelude.{if◌then◌else◌}
 use Rattle.std.specs.Option.{option_map_or}
-use Rattle.std.proofs.lemmas.Bool.{ltb-false}
 use Rattle.std.proofs.lemmas.Bool.Decides.{nat_tests}
 use Rattle.base64.specs.GeneralPurpose.{IsBytes}
 use Rattle.teal_value.proofs.Binding.{bind_ok, chosen}
@@ -10,18 +9,16 @@ use Rattle.teal_table.specs.declared.shape.Shape.{Shape}
 use Rattle.teal_table.specs.declared.shape.Version.{Version}
 use Rattle.teal_table.specs.declared.opcode.Opcode.{Opcode}
 use Rattle.teal_table.specs.Table.{row_of, name_of}
-use Rattle.teal_table.specs.LeftOut.{left_out_at}
 use Rattle.teal_code.specs.declared.instr.Immediates.{Immediates}
 use Rattle.teal_code.specs.declared.instr.Immediates.TheVariants as is
-use Rattle.teal_code.specs.declared.instr.Instr.{Instr}
 use Rattle.teal_code.specs.Spelling.{instr_spelling}
 use Rattle.teal_code.specs.Grammar.{Reads}
-use Rattle.teal_code.specs.Reader.{read_at, varuint_at}
+use Rattle.teal_code.specs.Reader.{varuint_at}
 use Rattle.teal_code.specs.Varuint.{IsBase128}
 use Rattle.teal_code.proofs.Reading.{varuint_sound, read_is}
 use Rattle.teal_check.specs.declared.program.Placed.{Placed}
-use Rattle.teal_check.specs.WellFormed.{WellFormed, has_field, on_code, with_known_field, placed_at, placed_from, places, target_of, with_targets, version_at, version_of, cost_of, affordable, checked}
-use Rattle.teal_check.proofs.CheckedPrograms.{placed_forward}
+use Rattle.teal_check.specs.WellFormed.{WellFormed, on_code, placed_at, placed_from, places, target_of, with_targets, version_at, version_of, cost_of, checked}
+use Rattle.teal_check.proofs.CheckedPrograms.{coded_ok, is_checked, is_placed, placed_forward}
 use Rattle.teal_dis.specs.Listing.{Word, operands, words_of, leads_to, is_target, targets_before, label_of, label_line, target_word, instruction_line, lines_from, pragma_line, listing}
 use Rattle.teal_text.specs.PlainWords.{text_of_lines}
 use Rattle.teal_asm.specs.Meaning.{Meant, Straight, Branch, Meaning, meaning}
@@ -31,7 +28,7 @@ use Rattle.teal_laws.specs.ListedMeaning.{IsNoOffset, meant_with, meant_of, prog
 use Rattle.teal_laws.specs.AssembledListing.{AssemblesBack}
 use Rattle.teal_laws.specs.TextCost.{meant_cost}
 use Rattle.teal_laws.proofs.Bytes.{AreBytes, are_each, bytes_behind}
-use Rattle.teal_laws.proofs.PlacedInstructions.{afforded, coded_ok, is_listed, placed_is_of, version_within}
+use Rattle.teal_laws.proofs.PlacedInstructions.{is_listed, placed_is_of}
 use Rattle.teal_laws.proofs.Spellings.{front_bytes, spelled_shortest}
 use Rattle.teal_laws.proofs.SpelledPrograms.{aimed_at, spelled_program, program_is_checked, spelling_length, meant_back}
 use Rattle.teal_laws.proofs.ListingMeaning.{listing_means}
@@ -89,24 +86,8 @@ meant_size : (count number : ℕ) (ps : List Placed) → AreAimed count number p
 meant_size count number [] aim = omega arith
 meant_size count number (p ∷ ps) aim = omega (arith, instr_size count number p.instr.opcode p.instr.immediates p.target aim.0, meant_size count (number + 1) ps aim.1)
 
-known : (version : Version) (place : ℕ) (x : Instr × ℕ) (p : Placed) → with_known_field version place x ≡ Ok p → x ≡ (p.instr, p.next)
-known version place (i, next) p e =
-    elim (chosen (has_field version (row_of i.opcode).immediates i.immediates) _ _ _ e) [
-      | inl (present, one) ↦
-          let same : record { place = place; next = next; instr = i; target = None } ≡ p = cc in
-          ap (λ (q : Placed). (q.instr, q.next)) same
-      | inr (unknown, bad) ↦ absurd cc
-    ]
-
 pub placed_reads : (version : Version) (bytes : List ℕ) (place : ℕ) (p : Placed) → place ≤ length bytes → placed_at version bytes place ≡ Ok p → Reads version bytes place p.instr p.next
-unfolding placed_at
-placed_reads version bytes place p within e =
-    elim (chosen (is_some (left_out_at (get_or bytes place 0))) _ _ _ e) [
-      | inl (out, bad) ↦ absurd cc
-      | inr (here, read) ↦
-          let (x, first, last) = bind_ok (on_code place (read_at version bytes place)) _ _ read in
-          read_is version bytes place p.instr p.next within (coded_ok place _ _ first ∙ ap (λ y. Ok y) (known version place x p last))
-    ]
+placed_reads version bytes place p within e = read_is version bytes place p.instr p.next within (is_placed version bytes place p e).read
 
 placed_size : (version : Version) (bytes : List ℕ) (place : ℕ) (p : Placed) → AreBytes bytes → place ≤ length bytes → placed_at version bytes place ≡ Ok p → place + length (instr_spelling p.instr) ≤ p.next
 placed_size version bytes place p are within e =
@@ -150,39 +131,16 @@ version_some bytes v e =
       some_digits [] k h = absurd h
       some_digits (b ∷ front) k h = omega arith
 
-pub or_false : (a b : Bool) → (a || b) ≡ false → b ≡ false
-or_false true b e = absurd cc
-or_false false b e = e
-
 -- the instructions take no more bytes than the program has, which costs at most 700
 abbrev Fits : List ℕ → WellFormed → Type 0
 Fits bytes w = (1 + spelled_size w.placed ≤ length bytes) × (length bytes ≤ 1024) × (cost_of w.placed ≤ 700) × (w.cost ≡ cost_of w.placed)
 
-pub paid : (version : Version) (bytes : List ℕ) (ps : List Placed) (w : WellFormed) → affordable version bytes ps ≡ Ok w → (cost_of ps ≤ 700) × (w.cost ≡ cost_of ps)
-paid version bytes ps w e =
-    elim (chosen (ltb 700 (cost_of ps)) _ _ _ e) [
-      | inl (more, bad) ↦ absurd cc
-      | inr (fits, one) ↦
-          let same : record { version = version; bytes = bytes; placed = ps; cost = cost_of ps } ≡ w = cc in
-          (ltb-false 700 (cost_of ps) fits, sym (ap (λ (v : WellFormed). v.cost) same))
-    ]
-
 it_fits : (bytes : List ℕ) (w : WellFormed) → IsBytes bytes → checked bytes ≡ Ok w → Fits bytes w
-unfolding checked
 it_fits bytes w are e =
-    elim (chosen (eqb (length bytes) 0 || ltb 1024 (length bytes)) _ _ _ e) [
-      | inl (outside, bad) ↦ absurd cc
-      | inr (inside, more) ↦
-          let (v, first, others) = bind_ok (version_at bytes) _ _ more in
-          let (ps, placed, later) = bind_ok (placed_from (length bytes) v.0 bytes v.1) _ _ others in
-          let (qs, resolved, last) = bind_ok (with_targets (places ps) (length bytes) ps) _ _ later in
-          let a = afforded v.0 bytes qs w last in
-          let cost = paid v.0 bytes qs w last in
-          let sizes = all_sizes (length bytes) v.0 bytes v.1 ps (are_each bytes are) (version_within bytes v first) placed in
-          let size : spelled_size ps ≡ spelled_size w.placed = same_size (places ps) (length bytes) ps qs resolved ∙ ap spelled_size a.1 in
-          let costs : cost_of qs ≡ cost_of w.placed = ap cost_of a.1 in
-          (omega (arith, sizes, size, version_some bytes v first), ltb-false 1024 (length bytes) (or_false _ _ inside), omega (arith, cost.0, costs), cost.1 ∙ costs)
-    ]
+    let c = is_checked bytes w e in
+    let sizes = all_sizes (length bytes) w.version bytes c.start c.bare (are_each bytes are) c.within c.placed in
+    let size = same_size (places c.bare) (length bytes) c.bare w.placed c.targets in
+    (omega (arith, sizes, size, version_some bytes (w.version, c.start) c.version), c.short, omega (arith, c.cost, c.cheap), c.cost)
 
 -- ---- costs
 

@@ -1,6 +1,5 @@
 -- The instructions of a checked program are of its version, and its branches lead forward.
-use Rattle.std.proofs.Common.{◌≡◌, ◌∙◌, refl, sym, ap, subst, ℕ, zero, suc, ◌+◌, ◌-◌, ◌<◌, ◌≤◌, true, eqb, ltb, List, [], ◌∷◌, length, drop, get_or, Option, Some, None, Result, Ok, Err, inl, inr, arith}
-use Rattle.std.specs.Prelude.{is_some, ◌||◌}
+use Rattle.std.proofs.Common.{◌≡◌, ◌∙◌, refl, sym, ap, subst, ℕ, zero, suc, ◌+◌, ◌-◌, ◌<◌, ◌≤◌, true, eqb, ltb, List, [], ◌∷◌, length, drop, get_or, Option, Some, None, Result, Ok, inl, inr, arith}
 use Rattle.std.specs.Option.{ok_or, option_map}
 use Rattle.std.proofs.lemmas.Bool.{eqb-true, cases_lt}
 use Rattle.base64.specs.GeneralPurpose.{IsBytes}
@@ -11,18 +10,16 @@ use Rattle.teal_table.specs.declared.shape.Shape.TheVariants as shape
 use Rattle.teal_table.specs.declared.shape.Version.{Version}
 use Rattle.teal_table.specs.declared.opcode.Opcode.{Opcode}
 use Rattle.teal_table.specs.Table.{row_of, opcode_in, opcode_at, only_in, has}
-use Rattle.teal_table.specs.LeftOut.{left_out_at}
 use Rattle.teal_code.specs.declared.instr.Immediates.{Immediates}
 use Rattle.teal_code.specs.declared.instr.Immediates.TheVariants as is
 use Rattle.teal_code.specs.declared.instr.Instr.{Instr}
-use Rattle.teal_code.specs.declared.decode.CodeFault.{CodeFault}
-use Rattle.teal_code.specs.Reader.{byte_at, varuint_at, string_at, counted_at, immediates_at, with_opcode, instr_at, read_at}
+use Rattle.teal_code.specs.Reader.{byte_at, varuint_at, string_at, counted_at, immediates_at, with_opcode, instr_at}
 use Rattle.teal_code.proofs.Reading.{same_value}
 use Rattle.teal_check.specs.declared.fault.CheckFault.{CheckFault}
 use Rattle.teal_check.specs.declared.fault.CheckFault.TheVariants as fault
 use Rattle.teal_check.specs.declared.program.Placed.{Placed}
-use Rattle.teal_check.specs.WellFormed.{WellFormed, on_code, has_field, with_known_field, placed_at, placed_from, places, index_of, number_at, RisesFrom, branch_target, immediates_target, target_of, with_targets, version_at, version_of, cost_of, affordable, checked}
-use Rattle.teal_check.proofs.CheckedPrograms.{is_kept, length-places, placed_forward, targets_keep}
+use Rattle.teal_check.specs.WellFormed.{WellFormed, has_field, placed_at, placed_from, places, index_of, number_at, RisesFrom, branch_target, immediates_target, target_of, with_targets, checked}
+use Rattle.teal_check.proofs.CheckedPrograms.{is_checked, is_kept, is_placed, length-places, placed_forward}
 use Rattle.teal_check.proofs.Starts.{rises}
 use Rattle.teal_laws.specs.Listed.{HasShape, nothing, index, txn, stack, global, group, array, stack_array, group_array, bounds, offset, uints, strings, uint, string, IsOf, AreOf, IsAimed, AreAimed, IsListed}
 use Rattle.teal_laws.proofs.Bytes.{AreBytes, are_each, bytes_behind, byte_read, varuint_read, string_read, counted_uints, counted_strings}
@@ -111,31 +108,12 @@ instr_read : (version : Version) (bytes : List ℕ) (i : Instr) (rest : List ℕ
 instr_read version [] i rest e h known = absurd cc
 instr_read version (code ∷ bytes) i rest e h known = behind_code version (opcode_in version code) bytes i rest (λ o found. brought version (opcode_at code) o found) e h.1 known
 
-pub coded_ok : {A : Type 0} (place : ℕ) (r : Result A CodeFault) (x : A) → on_code place r ≡ Ok x → r ≡ Ok x
-coded_ok place (Ok y) x e = let same : y ≡ x = cc in ap (λ z. Ok z) same
-coded_ok place (Err f) x e = absurd cc
-
-pub known_field : (version : Version) (place : ℕ) (x : Instr × ℕ) (p : Placed) → with_known_field version place x ≡ Ok p → (x.0 ≡ p.instr) × (has_field version (row_of x.0.opcode).immediates x.0.immediates ≡ true)
-known_field version place (i, next) p e =
-    elim (chosen (has_field version (row_of i.opcode).immediates i.immediates) _ _ _ e) [
-      | inl (present, one) ↦
-          let same : record { place = place; next = next; instr = i; target = None } ≡ p = cc in
-          (ap (λ (q : Placed). q.instr) same, present)
-      | inr (unknown, bad) ↦ absurd cc
-    ]
-
 pub placed_is_of : (version : Version) (bytes : List ℕ) (place : ℕ) (p : Placed) → AreBytes bytes → placed_at version bytes place ≡ Ok p → IsOf version p.instr
-unfolding placed_at
 placed_is_of version bytes place p h e =
-    elim (chosen (is_some (left_out_at (get_or bytes place 0))) _ _ _ e) [
-      | inl (out, bad) ↦ absurd cc
-      | inr (here, read) ↦
-          let (x, first, last) = bind_ok (on_code place (read_at version bytes place)) _ _ read in
-          let k = known_field version place x p last in
-          let (i, instr, next) = bind_ok (instr_at version (drop place bytes)) _ _ (coded_ok place _ _ first) in
-          let same : i.0 ≡ x.0 = ap (λ (y : Instr × ℕ). y.0) (let z : ◌≡◌ {A = Instr × ℕ} (i.0, length bytes - length i.1) x = cc in z) in
-          subst (IsOf version) (same ∙ k.0) (instr_read version (drop place bytes) i.0 i.1 instr (bytes_behind place bytes h) (subst (λ (y : Instr). has_field version (row_of y.opcode).immediates y.immediates ≡ true) (sym same) k.1))
-    ]
+    let is = is_placed version bytes place p e in
+    let (i, instr, next) = bind_ok (instr_at version (drop place bytes)) _ _ is.read in
+    let same : i.0 ≡ p.instr = ap (λ (y : Instr × ℕ). y.0) (let z : ◌≡◌ {A = Instr × ℕ} (i.0, length bytes - length i.1) (p.instr, p.next) = cc in z) in
+    subst (IsOf version) same (instr_read version (drop place bytes) i.0 i.1 instr (bytes_behind place bytes h) (subst (λ (y : Instr). has_field version (row_of y.opcode).immediates y.immediates ≡ true) (sym same) is.field))
 
 -- ---- instructions one behind another
 
@@ -249,41 +227,12 @@ all_aimed starts end number version (p ∷ ps) qs r h are e =
 
 -- ---- the program
 
-pub afforded : (version : Version) (bytes : List ℕ) (ps : List Placed) (w : WellFormed) → affordable version bytes ps ≡ Ok w → (version ≡ w.version) × (ps ≡ w.placed)
-afforded version bytes ps w e =
-    elim (chosen (ltb 700 (cost_of ps)) _ _ _ e) [
-      | inl (more, bad) ↦ absurd cc
-      | inr (fits, one) ↦
-          let same : record { version = version; bytes = bytes; placed = ps; cost = cost_of ps } ≡ w = cc in
-          (ap (λ (v : WellFormed). v.version) same, ap (λ (v : WellFormed). v.placed) same)
-    ]
-
-pub version_within : (bytes : List ℕ) (v : Version × ℕ) → version_at bytes ≡ Ok v → v.1 ≤ length bytes
-version_within bytes v e =
-    let (n, first, others) = bind_ok (on_code 0 (varuint_at bytes)) _ _ e in
-    let (version, numbered, last) = bind_ok (version_of n.0) _ _ others in
-    let same : ◌≡◌ {A = Version × ℕ} (version, length bytes - length n.1) v = cc in
-    omega (arith, ap (λ p. p.1) same)
-
 pub is_listed : (bytes : List ℕ) (w : WellFormed) → IsBytes bytes → checked bytes ≡ Ok w → IsListed w
-unfolding checked
 is_listed bytes w are e =
-    elim (chosen (eqb (length bytes) 0 || ltb 1024 (length bytes)) _ _ _ e) [
-      | inl (outside, bad) ↦ absurd cc
-      | inr (inside, more) ↦
-          let (v, first, others) = bind_ok (version_at bytes) _ _ more in
-          let (ps, placed, later) = bind_ok (placed_from (length bytes) v.0 bytes v.1) _ _ others in
-          let (qs, resolved, last) = bind_ok (with_targets (places ps) (length bytes) ps) _ _ later in
-          let a = afforded v.0 bytes qs w last in
-          let kept = is_kept bytes w e in
-          let keeps = targets_keep (places ps) (length bytes) ps qs resolved in
-          let of = placed_are_of (length bytes) v.0 bytes v.1 ps (are_each bytes are) (version_within bytes v first) placed in
-          let rising : RisesFrom 0 (places ps) = subst (RisesFrom 0) (ap places (sym a.1) ∙ keeps.0) kept.rising in
-          let aims = all_aimed (places ps) (length bytes) 0 v.0 ps qs rising (stand_at ps of.1) of.0 resolved in
-          let count : length (places ps) ≡ length w.placed = length-places ps ∙ sym keeps.1 ∙ ap length a.1 in
-          record {
-            instructions = subst (λ (u : Version). AreOf u w.placed) a.0 (subst (AreOf v.0) a.1 aims.1);
-            targets = subst (λ n. AreAimed n 0 w.placed) count (subst (AreAimed (length (places ps)) 0) a.1 aims.0);
-            few = kept.few;
-          }
-    ]
+    let c = is_checked bytes w e in
+    let kept = is_kept bytes w e in
+    let of = placed_are_of (length bytes) w.version bytes c.start c.bare (are_each bytes are) c.within c.placed in
+    let rising : RisesFrom 0 (places c.bare) = subst (RisesFrom 0) c.same_places kept.rising in
+    let aims = all_aimed (places c.bare) (length bytes) 0 w.version c.bare w.placed rising (stand_at c.bare of.1) of.0 c.targets in
+    let count : length (places c.bare) ≡ length w.placed = length-places c.bare ∙ sym c.same_count in
+    record { instructions = aims.1; targets = subst (λ n. AreAimed n 0 w.placed) count aims.0; few = kept.few }

@@ -1,6 +1,6 @@
 -- The checker accepts bytes exactly where the rules of programs hold, and gives the program of which they do.
 use Rattle.std.proofs.Common.{◌≡◌, ◌∙◌, refl, sym, ap, subst, ℕ, zero, suc, ◌+◌, ◌-◌, ◌<◌, ◌≤◌, true, false, eqb, ltb, List, [], ◌∷◌, ◌++◌, length, length-append, length-drop, map, get_or, Option, Some, None, Result, Ok, Err, inl, inr, arith}
-use Rattle.std.specs.Prelude.{◌↔◌, ◌||◌, is_some, IsOk}
+use Rattle.std.specs.Prelude.{◌↔◌, is_some, IsOk}
 use Rattle.std.proofs.lemmas.Bool.{ltb-false, eqb-true, cases_lt}
 use Rattle.std.proofs.lemmas.Bool.Decides.{nat_tests}
 use Rattle.teal_value.proofs.Binding.{bind_ok, chosen}
@@ -15,18 +15,18 @@ use Rattle.teal_code.specs.declared.instr.Immediates.TheVariants as is
 use Rattle.teal_code.specs.declared.instr.Instr.{Instr}
 use Rattle.teal_code.specs.Varuint.{IsBase128, IsVaruint}
 use Rattle.teal_code.specs.Grammar.{Reads, Spells}
-use Rattle.teal_code.specs.Reader.{read_at, varuint_at}
+use Rattle.teal_code.specs.Reader.{varuint_at}
 use Rattle.teal_code.proofs.Reading.{is_read, varuint_sound, varuint_complete}
 use Rattle.teal_check.specs.declared.fault.CheckFault.{CheckFault}
 use Rattle.teal_check.specs.declared.program.Placed.{Placed}
-use Rattle.teal_check.specs.WellFormed.{WellFormed, on_code, version_of, version_at, has_field, placed_at, placed_from, places, number_at, RisesFrom, branch_target, immediates_target, target_of, with_targets, cost_of, checked}
-use Rattle.teal_check.proofs.CheckedPrograms.{is_kept, placed_forward, targets_keep, weaken}
+use Rattle.teal_check.specs.WellFormed.{WellFormed, on_code, version_of, version_at, placed_at, placed_from, places, number_at, RisesFrom, branch_target, immediates_target, target_of, with_targets, cost_of, checked}
+use Rattle.teal_check.proofs.CheckedPrograms.{coded_ok, is_checked, is_placed, placed_forward, weaken}
 use Rattle.teal_check.proofs.Starts.{index_of-there}
 use Rattle.teal_laws.specs.ProgramRules.{version_number, Begins, StandsAt, StandFrom, Leads, AllLead, IsProgram}
 use Rattle.teal_laws.proofs.Names.{not_left_out}
-use Rattle.teal_laws.proofs.PlacedInstructions.{afforded, coded_ok, known_field, index_is, some_number, version_within}
+use Rattle.teal_laws.proofs.PlacedInstructions.{index_is, some_number}
 use Rattle.teal_laws.proofs.SpelledPrograms.{first_of}
-use Rattle.teal_laws.proofs.AssembledListing.{or_false, paid, placed_reads}
+use Rattle.teal_laws.proofs.AssembledListing.{placed_reads}
 use Rattle.teal_laws.proofs.TextCommands.{ok_same}
 
 -- ---- the version
@@ -77,19 +77,9 @@ starts_within bytes v start b =
 -- ---- instructions
 
 stands_at : (version : Version) (bytes : List ℕ) (place : ℕ) (p : Placed) → place ≤ length bytes → placed_at version bytes place ≡ Ok p → StandsAt version bytes place p
-unfolding placed_at
 stands_at version bytes place p within e =
-    elim (chosen (is_some (left_out_at (get_or bytes place 0))) _ _ _ e) [
-      | inl (out, bad) ↦ absurd cc
-      | inr (here, read) ↦
-          let (x, first, last) = bind_ok (on_code place (read_at version bytes place)) _ _ read in
-          let k = known_field version place x p last in
-          record {
-            here = (placed_forward version bytes place p within e).0;
-            reads = placed_reads version bytes place p within e;
-            field = subst (λ (i : Instr). has_field version (row_of i.opcode).immediates i.immediates ≡ true) k.0 k.1;
-          }
-    ]
+    let is = is_placed version bytes place p e in
+    record { here = is.here; reads = placed_reads version bytes place p within e; field = is.field }
 
 stand_from : (n : ℕ) (version : Version) (bytes : List ℕ) (place : ℕ) (ps : List Placed) → place ≤ length bytes → length bytes ≤ place + n → placed_from n version bytes place ≡ Ok ps → StandFrom version bytes place ps
 unfolding placed_from
@@ -294,42 +284,29 @@ targets_there starts end (p ∷ ps) rises before h =
 -- ---- programs
 
 is_program : (bytes : List ℕ) (w : WellFormed) → checked bytes ≡ Ok w → IsProgram bytes w
-unfolding checked
 is_program bytes w e =
-    elim (chosen (eqb (length bytes) 0 || ltb 1024 (length bytes)) _ _ _ e) [
-      | inl (outside, bad) ↦ absurd cc
-      | inr (inside, more) ↦
-          let (v, first, others) = bind_ok (version_at bytes) _ _ more in
-          let (ps, placed, later) = bind_ok (placed_from (length bytes) v.0 bytes v.1) _ _ others in
-          let (qs, resolved, last) = bind_ok (with_targets (places ps) (length bytes) ps) _ _ later in
-          let a = afforded v.0 bytes qs w last in
-          let cost = paid v.0 bytes qs w last in
-          let stand = stand_from (length bytes) v.0 bytes v.1 ps (version_within bytes v first) (omega arith) placed in
-          let lead = all_lead (places ps) (length bytes) v.0 bytes v.1 ps qs resolved stand in
-          let starts : places ps ≡ places w.placed = sym (targets_places (places ps) (length bytes) ps qs resolved) ∙ ap places a.1 in
-          record {
-            same = (is_kept bytes w e).same;
-            short = ltb-false 1024 (length bytes) (or_false _ _ inside);
-            start = v.1;
-            version = subst (λ u. Begins bytes u v.1) a.0 (begins bytes v first);
-            instructions = subst (λ u. StandFrom u bytes v.1 w.placed) a.0 (subst (StandFrom v.0 bytes v.1) a.1 lead.1);
-            targets = subst (λ ss. AllLead ss (length bytes) w.placed) starts (subst (AllLead (places ps) (length bytes)) a.1 lead.0);
-            cost = cost.1 ∙ ap cost_of a.1;
-            cheap = omega (arith, cost.0, cost.1);
-          }
-    ]
-  where
-    targets_places : (starts : List ℕ) (end : ℕ) (ps qs : List Placed) → with_targets starts end ps ≡ Ok qs → places qs ≡ places ps
-    targets_places starts end ps qs r = (targets_keep starts end ps qs r).0
+    let c = is_checked bytes w e in
+    let stand = stand_from (length bytes) w.version bytes c.start c.bare c.within (omega arith) c.placed in
+    let lead = all_lead (places c.bare) (length bytes) w.version bytes c.start c.bare w.placed c.targets stand in
+    record {
+      same = c.same;
+      short = c.short;
+      start = c.start;
+      version = begins bytes (w.version, c.start) c.version;
+      instructions = lead.1;
+      targets = subst (λ ss. AllLead ss (length bytes) w.placed) (sym c.same_places) lead.0;
+      cost = c.cost;
+      cheap = c.cheap;
+    }
 
 same_program : (bytes : List ℕ) (w : WellFormed) → w.bytes ≡ bytes → w.cost ≡ cost_of w.placed → ◌≡◌ {A = Result WellFormed CheckFault} (Ok (record { version = w.version; bytes = bytes; placed = w.placed; cost = cost_of w.placed })) (Ok w)
 same_program bytes w same cost =
     ap (λ b. Ok (record { version = w.version; bytes = b; placed = w.placed; cost = cost_of w.placed })) (sym same)
     ∙ ap (λ n. Ok (record { version = w.version; bytes = w.bytes; placed = w.placed; cost = n })) (sym cost)
 
-is_checked : (bytes : List ℕ) (w : WellFormed) → IsProgram bytes w → checked bytes ≡ Ok w
+passes : (bytes : List ℕ) (w : WellFormed) → IsProgram bytes w → checked bytes ≡ Ok w
 unfolding checked
-is_checked bytes w h =
+passes bytes w h =
     let within = starts_within bytes w.version h.start h.version in
     let starts = places w.placed in
     let some : eqb (length bytes) 0 ≡ false = let more = within.0 in grind (arith, nat_tests) in
@@ -346,14 +323,14 @@ is_checked bytes w h =
 -- ---- the laws
 
 pub program_rules : (bytes : List ℕ) (w : WellFormed) → (checked bytes ≡ Ok w) ↔ IsProgram bytes w
-program_rules bytes w = (is_program bytes w, is_checked bytes w)
+program_rules bytes w = (is_program bytes w, passes bytes w)
 
 pub accepted : (bytes : List ℕ) → IsOk (checked bytes) ↔ ((w : WellFormed) × IsProgram bytes w)
-accepted bytes = (λ ok. at_answer (checked bytes) refl ok, λ h. subst (λ (r : Result WellFormed CheckFault). IsOk r) (sym (is_checked bytes h.0 h.1)) refl)
+accepted bytes = (λ ok. at_answer (checked bytes) refl ok, λ h. subst (λ (r : Result WellFormed CheckFault). IsOk r) (sym (passes bytes h.0 h.1)) refl)
   where
     at_answer : (r : Result WellFormed CheckFault) → checked bytes ≡ r → IsOk r → (w : WellFormed) × IsProgram bytes w
     at_answer (Ok w) e ok = (w, is_program bytes w e)
     at_answer (Err f) e ok = absurd cc
 
 pub one_program : (bytes : List ℕ) (v w : WellFormed) → IsProgram bytes v → IsProgram bytes w → v ≡ w
-one_program bytes v w h k = ok_same (sym (is_checked bytes v h) ∙ is_checked bytes w k)
+one_program bytes v w h k = ok_same (sym (passes bytes v h) ∙ passes bytes w k)
