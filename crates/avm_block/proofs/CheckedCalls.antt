@@ -1,11 +1,11 @@
 -- Of a call that breaks no rule of calls: its fields are within their sizes, and a creation brings programs.
-use Rattle.std.proofs.Common.{◌≡◌, ℕ, ◌^◌, ◌<◌, ◌≤◌, Bool, true, false, ◌&&◌, ◌||◌, eqb, ltb, List, [], ◌∷◌, length, All, Option, None, Some, Result, Ok, Err, refl, sym, ap, ◌∙◌, inl, inr, arith}
+use Rattle.std.proofs.Common.{◌≡◌, ℕ, ◌^◌, ◌<◌, ◌≤◌, Bool, true, false, ◌&&◌, ◌||◌, ltb, List, [], ◌∷◌, length, All, Option, None, Some, Result, Ok, Err, refl, sym, ap, ◌∙◌, arith}
 use Rattle.std.specs.Prelude.{if◌then◌else◌, is_ok, not}
 use Rattle.std.proofs.lemmas.Bool.{eqb-true, ltb-false}
 use Rattle.std.proofs.lemmas.List.Elements.{All-nil, All-cons}
-use Rattle.teal_value.proofs.Binding.{chosen}
 use Rattle.teal_check.specs.declared.fault.CheckFault.{CheckFault}
 use Rattle.teal_check.specs.WellFormed.{WellFormed, checked}
+use Rattle.teal_check.proofs.CheckedPrograms.{is_checked}
 use Rattle.avm_items.specs.declared.call_data.CallData.{CallData}
 use Rattle.avm_items.specs.CallFields.{creates}
 use Rattle.avm_items.specs.CallReading.{IsAddress, IsString, IsWord, HasFields}
@@ -40,20 +40,8 @@ no_fault false f rest e = (refl, e)
 
 -- ---- programs
 
-or_false : (a b : Bool) → (a || b) ≡ false → b ≡ false
-or_false true b e = absurd cc
-or_false false b e = e
-
-checked_short : (bytes : List ℕ) (w : WellFormed) → checked bytes ≡ Ok w → length bytes ≤ 1024
-unfolding checked
-checked_short bytes w e =
-    elim (chosen (eqb (length bytes) 0 || ltb 1024 (length bytes)) _ _ _ e) [
-      | inl (outside, bad) ↦ absurd cc
-      | inr (inside, more) ↦ ltb-false 1024 (length bytes) (or_false _ _ inside)
-    ]
-
 program_short : (bytes : List ℕ) (r : Result WellFormed CheckFault) → checked bytes ≡ r → program_fault r ≡ None → length bytes ≤ 1024
-program_short bytes (Ok w) is e = checked_short bytes w is
+program_short bytes (Ok w) is e = (is_checked bytes w is).short
 program_short bytes (Err f) is e = absurd cc
 
 program_passes : (r : Result WellFormed CheckFault) → program_fault r ≡ None → is_ok r ≡ true

@@ -5,3 +5,4 @@ pub mod BlockReader
 pub mod AcceptedCalls
 pub mod BlockReading
 pub mod WorkedBlocks
+pub mod FaultNames

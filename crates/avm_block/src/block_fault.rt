@@ -1,9 +1,14 @@
 //! Why bytes are no block.
 
+ghost use Rattle.std.specs.Prelude.{◌≡◌};
+ghost use Rattle.avm_block.specs.FaultNames.{block_fault_name};
+
 use teal_value::Failure;
+use thiserror::Error;
 
 /// What is wrong with the bytes of a block. A block is read field by field, and the first fault counts.
-#[derive(Clone, Copy, Debug, PartialEq, Eq)]
+#[derive(Clone, Copy, Debug, PartialEq, Eq, Error)]
+#[error("{name}", name = self.name())]
 pub enum BlockFault {
     /// The bytes don't begin with `AVMB`.
     Magic = 1,
@@ -19,6 +24,23 @@ pub enum BlockFault {
     Field,
     /// The last digest isn't that of the bytes before it.
     Digest,
+}
+
+impl BlockFault {
+    /// Its name, as commands print it.
+    pub fn name(self) -> &'static str
+        ensures { result.now ≡ block_fault_name self }
+    {
+        match self {
+            BlockFault::Magic => "Magic",
+            BlockFault::Format => "Format",
+            BlockFault::Truncated => "Truncated",
+            BlockFault::Rest => "Rest",
+            BlockFault::Order => "Order",
+            BlockFault::Field => "Field",
+            BlockFault::Digest => "Digest",
+        }
+    }
 }
 
 /// A [`BlockFault`], or want of memory.

@@ -1,20 +1,22 @@
-//! The bytes of a block's format and header.
+//! The bytes of a block's format and header. Where memory is refused, the bytes hold what they held.
 
-ghost use Rattle.std.specs.Prelude.{◌≡◌, ◌++◌, OnOk};
+ghost use Rattle.std.specs.Prelude.{◌≡◌, ◌++◌, OnErr, OnOk};
 ghost use Rattle.teal_value.specs.Answer.{Gives};
+ghost use Rattle.teal_code.specs.Spelling.{Continues};
 ghost use Rattle.avm_ledger.specs.Spellings.{header_bytes};
 ghost use Rattle.avm_block.specs.BlockSpelling.{format_bytes};
 ghost use Rattle.avm_block.specs.BlockReader.{header_at, profile_at};
 
 use crate::block_fault::{BlockError, BlockFault};
-use avm_ledger::spelling::put_u64;
+use avm_ledger::spelling::{cut_if_refused, put_u64};
 use avm_ledger::{Fields, Header, Profile};
 use std::alloc::AllocError;
 use teal_value::Failure;
 
 /// Appends the number of the format, and in format 2 the profile.
 pub fn put_format(bytes: &mut Vec<u8>, profile: Profile) -> Result<(), AllocError>
-    ensures { OnOk result (bytes.new.items ≡ bytes.old.items ++ format_bytes profile) }
+    ensures written { OnOk result (bytes.new.items ≡ bytes.old.items ++ format_bytes profile) }
+    ensures unchanged { OnErr result (bytes.new.items ≡ bytes.old.items) }
 {
     match profile {
         Profile::Two => bytes.extend_from_slice(&[1]),
@@ -42,7 +44,18 @@ pub fn profile_of(fields: Fields<'_>) -> Result<(Profile, Fields<'_>), BlockErro
 
 /// Appends the numbers of a header.
 pub fn put_header(bytes: &mut Vec<u8>, header: &Header) -> Result<(), AllocError>
-    ensures { OnOk result (bytes.new.items ≡ bytes.old.items ++ header_bytes header.now) }
+    ensures written { OnOk result (bytes.new.items ≡ bytes.old.items ++ header_bytes header.now) }
+    ensures unchanged { OnErr result (bytes.new.items ≡ bytes.old.items) }
+{
+    let start = bytes.len();
+    let appended = push_header(bytes, header);
+    cut_if_refused(bytes, start, appended)
+}
+
+// Where memory is refused, a part of the spelling may stand behind what was there.
+fn push_header(bytes: &mut Vec<u8>, header: &Header) -> Result<(), AllocError>
+    ensures written { OnOk result (bytes.new.items ≡ bytes.old.items ++ header_bytes header.now) }
+    ensures kept { Continues bytes.old.items bytes.new.items }
 {
     put_u64(bytes, header.round)?;
     put_u64(bytes, header.latest_timestamp)?;

@@ -1,13 +1,15 @@
-//! The bytes of outcomes.
+//! The bytes of outcomes. Where memory is refused, the bytes hold what they held.
 
-ghost use Rattle.std.specs.Prelude.{◌≡◌, ◌++◌, OnOk};
+ghost use Rattle.std.specs.Prelude.{◌≡◌, ◌++◌, OnErr, OnOk};
 ghost use Rattle.teal_value.specs.Answer.{Gives};
+ghost use Rattle.teal_code.specs.Spelling.{Continues};
 ghost use Rattle.avm_call.specs.OutcomeSpelling.{fault_number, outcome_bytes, why_number};
 ghost use Rattle.avm_block.specs.OutcomeReader.{cause_at, fault_at, faults, numbered, one_at, outcome_at, place_at, whys};
 
 use crate::block_fault::{BlockError, BlockFault};
 use avm_call::{Cause, Outcome, Why};
 use avm_ledger::Fields;
+use avm_ledger::spelling::cut_if_refused;
 use std::alloc::AllocError;
 use teal_value::{Failure, Fault};
 
@@ -16,7 +18,18 @@ const MAX_PLACE: u16 = 1024;
 
 /// Appends an outcome's spelling.
 pub fn put_outcome(bytes: &mut Vec<u8>, outcome: Outcome) -> Result<(), AllocError>
-    ensures { OnOk result (bytes.new.items ≡ bytes.old.items ++ outcome_bytes outcome) }
+    ensures written { OnOk result (bytes.new.items ≡ bytes.old.items ++ outcome_bytes outcome) }
+    ensures unchanged { OnErr result (bytes.new.items ≡ bytes.old.items) }
+{
+    let start = bytes.len();
+    let appended = push_outcome(bytes, outcome);
+    cut_if_refused(bytes, start, appended)
+}
+
+// Where memory is refused, a part of the spelling may stand behind what was there.
+fn push_outcome(bytes: &mut Vec<u8>, outcome: Outcome) -> Result<(), AllocError>
+    ensures written { OnOk result (bytes.new.items ≡ bytes.old.items ++ outcome_bytes outcome) }
+    ensures kept { Continues bytes.old.items bytes.new.items }
 {
     match outcome {
         Outcome::Approved => bytes.extend_from_slice(&[0]),
@@ -25,7 +38,7 @@ pub fn put_outcome(bytes: &mut Vec<u8>, outcome: Outcome) -> Result<(), AllocErr
             bytes.extend_from_slice(&[2, fault_number(fault)])?;
             bytes.extend_from_slice(&place.to_be_bytes())
         }
-        Outcome::Refused(why) => bytes.extend_from_slice(&[3, why_number(why)]),
+        Outcome::Refused(why) => bytes.extend_from_slice(&[3, why.number()]),
         Outcome::ClearedAnyway(Cause::Gone) => bytes.extend_from_slice(&[4, 0]),
         Outcome::ClearedAnyway(Cause::Rejected) => bytes.extend_from_slice(&[4, 1]),
         Outcome::ClearedAnyway(Cause::Faulted(fault, place)) => {
@@ -129,17 +142,6 @@ fn fault_numbered(number: u8, faults: &[Fault]) -> Option<Fault>
                 fault_numbered(number, rest)
             }
         }
-    }
-}
-
-fn why_number(why: Why) -> u8
-    ensures { result ≡ why_number why }
-{
-    match why {
-        Why::NoApp => 1,
-        Why::AlreadyIn => 2,
-        Why::NotIn => 3,
-        Why::IdsEnd => 4,
     }
 }
 

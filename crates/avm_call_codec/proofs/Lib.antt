@@ -1,1 +1,2 @@
 pub mod CallParts
+mod Groups

@@ -1,6 +1,6 @@
 //! Calls read from bytes and written as bytes.
 
-ghost use Rattle.std.specs.Prelude.{◌≡◌, ◌++◌, ◌<◌, ◌≤◌, length, Ok, IfOk, OnOk};
+ghost use Rattle.std.specs.Prelude.{◌≡◌, ◌++◌, ◌<◌, ◌≤◌, length, Ok, IfOk, OnErr, OnOk};
 ghost use Rattle.teal_value.specs.Answer.{Gives};
 ghost use Rattle.avm_items.specs.declared.call_data.CallData.{CallData as CallFields};
 ghost use Rattle.avm_items.specs.CallReader.{call_at, call_from};
@@ -24,8 +24,8 @@ pub trait CallCodec: Sized {
     /// no bytes.
     fn front(alloc: Global, bytes: &[u8], place: usize) -> Result<(Self, usize), CallDataError>;
 
-    /// Appends the call's spelling. Of a count or a length that has no room in its field, the low bytes are written. At want
-    /// of memory a part may have been appended.
+    /// Appends the call's spelling. Of a count or a length that has no room in its field, the low bytes are written.
+    /// Where memory is refused, the bytes hold what they held.
     fn encode_into(&self, bytes: &mut Vec<u8>) -> Result<(), AllocError>;
 }
 
@@ -54,7 +54,8 @@ impl CallCodec for CallData {
     }
 
     fn encode_into(&self, bytes: &mut Vec<u8>) -> Result<(), AllocError>
-        ensures { OnOk result (bytes.new.items ≡ bytes.old.items ++ call_bytes self.now) }
+        ensures written { OnOk result (bytes.new.items ≡ bytes.old.items ++ call_bytes self.now) }
+        ensures unchanged { OnErr result (bytes.new.items ≡ bytes.old.items) }
     {
         put_call(bytes, self)
     }

@@ -15,3 +15,4 @@ pub mod PutLaws
 pub mod RuleLaws
 pub mod Environments
 pub mod Putting
+pub mod FaultNames

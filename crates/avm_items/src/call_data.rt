@@ -1,6 +1,7 @@
 //! The fields of an application call.
 
 ghost use Rattle.std.specs.Prelude.{◌≡◌, ◌↔◌, IsTrue};
+ghost use Rattle.avm_items.specs.CallFields.{completion_number};
 ghost use Rattle.avm_items.specs.SameCalls.{HasSameLists, HasSameTarget, HasSameTerms};
 
 use avm_ledger::Schema;
@@ -35,6 +36,13 @@ impl Addresses {
     {
         self.addresses.as_slice()
     }
+
+    /// The addresses, without a copy.
+    pub fn into_vec(self) -> Vec<Address>
+        ensures { result.items ≡ self }
+    {
+        self.addresses
+    }
 }
 
 /// What a call does beside running the program, by its number (AVM specification, "OnCompletion").
@@ -46,6 +54,22 @@ pub enum Completion {
     ClearState,
     UpdateApplication,
     DeleteApplication,
+}
+
+impl Completion {
+    /// Its number, as programs and the bytes of a call have it.
+    pub fn number(self) -> u8
+        ensures { result ≡ completion_number self }
+    {
+        match self {
+            Completion::NoOp => 0,
+            Completion::OptIn => 1,
+            Completion::CloseOut => 2,
+            Completion::ClearState => 3,
+            Completion::UpdateApplication => 4,
+            Completion::DeleteApplication => 5,
+        }
+    }
 }
 
 /// The fields of an application call.

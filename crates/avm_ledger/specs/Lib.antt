@@ -7,3 +7,4 @@ pub mod LedgerReader
 pub mod LedgerRules
 pub mod LedgerReading
 pub mod WorkedLedgers
+pub mod FaultNames

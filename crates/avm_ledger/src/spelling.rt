@@ -1,6 +1,7 @@
-//! Fields and states appended to bytes, in their one spelling. At want of memory a part may have been appended.
+//! Fields and states appended to bytes, in their one spelling. Where memory is refused, the bytes hold what they held.
 
-ghost use Rattle.std.specs.Prelude.{◌≡◌, ◌++◌, OnOk};
+ghost use Rattle.std.specs.Prelude.{◌≡◌, ◌++◌, OnErr, OnOk, take};
+ghost use Rattle.teal_code.specs.Spelling.{Continues};
 ghost use Rattle.avm_ledger.specs.Spellings.{entry_bytes, schema_bytes, short_string_bytes, state_bytes, string_bytes, u16_bytes, u32_bytes, u64_bytes, u8_bytes, value_bytes};
 
 use crate::schema::Schema;
@@ -10,76 +11,115 @@ use teal_value::{StateKey, Value};
 
 /// Appends the low byte of a number.
 pub fn put_u8(bytes: &mut Vec<u8>, number: usize) -> Result<(), AllocError>
-    ensures { OnOk result (bytes.new.items ≡ bytes.old.items ++ u8_bytes number) }
+    ensures written { OnOk result (bytes.new.items ≡ bytes.old.items ++ u8_bytes number) }
+    ensures unchanged { OnErr result (bytes.new.items ≡ bytes.old.items) }
 {
     bytes.extend_from_slice(&(number as u64).to_be_bytes()[7..])
 }
 
 /// Appends the two low bytes of a number.
 pub fn put_u16(bytes: &mut Vec<u8>, number: usize) -> Result<(), AllocError>
-    ensures { OnOk result (bytes.new.items ≡ bytes.old.items ++ u16_bytes number) }
+    ensures written { OnOk result (bytes.new.items ≡ bytes.old.items ++ u16_bytes number) }
+    ensures unchanged { OnErr result (bytes.new.items ≡ bytes.old.items) }
 {
     bytes.extend_from_slice(&(number as u64).to_be_bytes()[6..])
 }
 
 /// Appends the four low bytes of a number.
 pub fn put_u32(bytes: &mut Vec<u8>, number: usize) -> Result<(), AllocError>
-    ensures { OnOk result (bytes.new.items ≡ bytes.old.items ++ u32_bytes number) }
+    ensures written { OnOk result (bytes.new.items ≡ bytes.old.items ++ u32_bytes number) }
+    ensures unchanged { OnErr result (bytes.new.items ≡ bytes.old.items) }
 {
     bytes.extend_from_slice(&(number as u64).to_be_bytes()[4..])
 }
 
 /// Appends a number of eight bytes.
 pub fn put_u64(bytes: &mut Vec<u8>, number: u64) -> Result<(), AllocError>
-    ensures { OnOk result (bytes.new.items ≡ bytes.old.items ++ u64_bytes number) }
+    ensures written { OnOk result (bytes.new.items ≡ bytes.old.items ++ u64_bytes number) }
+    ensures unchanged { OnErr result (bytes.new.items ≡ bytes.old.items) }
 {
     bytes.extend_from_slice(&number.to_be_bytes())
 }
 
 /// Appends a byte string behind its length of one byte.
 pub fn put_short_string(bytes: &mut Vec<u8>, string: &[u8]) -> Result<(), AllocError>
-    ensures { OnOk result (bytes.new.items ≡ bytes.old.items ++ short_string_bytes string.now) }
+    ensures written { OnOk result (bytes.new.items ≡ bytes.old.items ++ short_string_bytes string.now) }
+    ensures unchanged { OnErr result (bytes.new.items ≡ bytes.old.items) }
 {
+    let start = bytes.len();
     put_u8(bytes, string.len())?;
-    bytes.extend_from_slice(string)
+    let appended = bytes.extend_from_slice(string);
+    cut_if_refused(bytes, start, appended)
 }
 
 /// Appends a byte string behind its length of two bytes.
 pub fn put_string(bytes: &mut Vec<u8>, string: &[u8]) -> Result<(), AllocError>
-    ensures { OnOk result (bytes.new.items ≡ bytes.old.items ++ string_bytes string.now) }
+    ensures written { OnOk result (bytes.new.items ≡ bytes.old.items ++ string_bytes string.now) }
+    ensures unchanged { OnErr result (bytes.new.items ≡ bytes.old.items) }
 {
+    let start = bytes.len();
     put_u16(bytes, string.len())?;
-    bytes.extend_from_slice(string)
+    let appended = bytes.extend_from_slice(string);
+    cut_if_refused(bytes, start, appended)
 }
 
 /// Appends a schema.
 pub fn put_schema(bytes: &mut Vec<u8>, schema: Schema) -> Result<(), AllocError>
-    ensures { OnOk result (bytes.new.items ≡ bytes.old.items ++ schema_bytes schema) }
+    ensures written { OnOk result (bytes.new.items ≡ bytes.old.items ++ schema_bytes schema) }
+    ensures unchanged { OnErr result (bytes.new.items ≡ bytes.old.items) }
 {
-    put_u8(bytes, usize::from(schema.uints))?;
-    put_u8(bytes, usize::from(schema.bytes))
+    bytes.extend_from_slice(&[schema.uints, schema.bytes])
 }
 
 /// Appends a state: the count of its entries, and each by rising key.
 pub fn put_state(bytes: &mut Vec<u8>, state: &State) -> Result<(), AllocError>
-    ensures { OnOk result (bytes.new.items ≡ bytes.old.items ++ state_bytes state.now) }
+    ensures written { OnOk result (bytes.new.items ≡ bytes.old.items ++ state_bytes state.now) }
+    ensures unchanged { OnErr result (bytes.new.items ≡ bytes.old.items) }
+{
+    let start = bytes.len();
+    let appended = push_state(bytes, state);
+    cut_if_refused(bytes, start, appended)
+}
+
+/// What an append answered that began at a length of the bytes. Where it was refused, the bytes are cut to that length.
+pub fn cut_if_refused(
+    bytes: &mut Vec<u8>,
+    start: usize,
+    appended: Result<(), AllocError>,
+) -> Result<(), AllocError>
+    ensures same { result ≡ appended }
+    ensures kept { OnOk appended (bytes.new.items ≡ bytes.old.items) }
+    ensures cut { OnErr appended (bytes.new.items ≡ take start bytes.old.items) }
+{
+    if appended.is_err() {
+        bytes.truncate(start);
+    }
+    appended
+}
+
+// Where memory is refused, a part of the spelling may stand behind what was there. So it is with all that follow.
+fn push_state(bytes: &mut Vec<u8>, state: &State) -> Result<(), AllocError>
+    ensures written { OnOk result (bytes.new.items ≡ bytes.old.items ++ state_bytes state.now) }
+    ensures kept { Continues bytes.old.items bytes.new.items }
 {
     put_u8(bytes, state.len())?;
     for (key, value) in state.as_slice() {
-        put_entry(bytes, key, value)?;
+        push_entry(bytes, key, value)?;
     }
     Ok(())
 }
 
-fn put_entry(bytes: &mut Vec<u8>, key: &StateKey, value: &Value) -> Result<(), AllocError>
-    ensures { OnOk result (bytes.new.items ≡ bytes.old.items ++ entry_bytes (key.now, value.now)) }
+fn push_entry(bytes: &mut Vec<u8>, key: &StateKey, value: &Value) -> Result<(), AllocError>
+    ensures written { OnOk result (bytes.new.items ≡ bytes.old.items ++ entry_bytes (key.now, value.now)) }
+    ensures kept { Continues bytes.old.items bytes.new.items }
 {
     put_short_string(bytes, key.as_slice())?;
-    put_value(bytes, value)
+    push_value(bytes, value)
 }
 
-fn put_value(bytes: &mut Vec<u8>, value: &Value) -> Result<(), AllocError>
-    ensures { OnOk result (bytes.new.items ≡ bytes.old.items ++ value_bytes value.now) }
+fn push_value(bytes: &mut Vec<u8>, value: &Value) -> Result<(), AllocError>
+    ensures written { OnOk result (bytes.new.items ≡ bytes.old.items ++ value_bytes value.now) }
+    ensures kept { Continues bytes.old.items bytes.new.items }
 {
     match value {
         Value::Uint(number) => {

@@ -105,6 +105,13 @@ impl Uints {
     {
         self.numbers.as_slice()
     }
+
+    /// The numbers, without a copy.
+    pub fn into_vec(self) -> Vec<u64>
+        ensures { result.items ≡ self }
+    {
+        self.numbers
+    }
 }
 
 /// A list of byte strings, as a constant block holds it.
@@ -133,5 +140,12 @@ impl ByteStrings {
         ensures { result.now ≡ self.now }
     {
         self.strings.as_slice()
+    }
+
+    /// The byte strings, without a copy.
+    pub fn into_vec(self) -> Vec<ByteString>
+        ensures { result.items ≡ self }
+    {
+        self.strings
     }
 }
