@@ -1,8 +1,8 @@
 -- The instructions of a checked program stand one behind another, and its branches lead to one of them or the end.
-use Rattle.std.proofs.Common.{◌≡◌, ◌<◌, ◌≤◌, ◌+◌, ◌-◌, ◌*◌, ℕ, zero, suc, Bool, true, false, eqb, ltb, if◌then◌else◌, List, [], ◌∷◌, length, drop, get_or, Option, None, Some, Result, Ok, Err, refl, sym, ap, ◌∙◌, subst, arith, inl, inr, eq-eqb, length-drop}
-use Rattle.std.specs.Prelude.{◌==◌, ◌||◌, is_some, is_ok}
+use Rattle.std.proofs.Common.{◌≡◌, ◌<◌, ◌≤◌, ◌+◌, ◌-◌, ◌*◌, ℕ, zero, suc, Bool, true, false, eqb, ltb, if◌then◌else◌, List, [], ◌∷◌, length, drop, Option, None, Some, Result, Ok, Err, refl, sym, ap, ◌∙◌, subst, arith, inl, inr, eq-eqb, length-drop}
+use Rattle.std.specs.Prelude.{◌==◌, ◌||◌, is_ok}
 use Rattle.std.specs.Option.{ok_or, option_map}
-use Rattle.std.proofs.lemmas.Bool.{eqb-true, ltb-false}
+use Rattle.std.proofs.lemmas.Bool.{eqb-true}
 use Rattle.teal_value.specs.Answer.{◌>>=◌}
 use Rattle.teal_value.proofs.Binding.{bind_ok, chosen}
 use Rattle.teal_table.specs.declared.shape.Shape.TheVariants as shape
@@ -11,7 +11,6 @@ use Rattle.teal_table.specs.declared.shape.Version.TheVariants.{Two, Three}
 use Rattle.teal_table.specs.declared.opcode.Opcode.{Opcode}
 use Rattle.teal_table.specs.declared.opcode.Opcode.TheVariants as op
 use Rattle.teal_table.specs.Table.{row_of, opcode_in}
-use Rattle.teal_table.specs.LeftOut.{left_out_at}
 use Rattle.teal_code.specs.declared.decode.CodeFault.{CodeFault}
 use Rattle.teal_code.specs.declared.instr.Immediates.{Immediates}
 use Rattle.teal_code.specs.declared.instr.Immediates.TheVariants as is
@@ -22,7 +21,7 @@ use Rattle.teal_check.specs.declared.fault.CheckFault.TheVariants as fault
 use Rattle.teal_check.specs.declared.program.Placed.{Placed}
 use Rattle.teal_check.specs.WellFormed.{WellFormed, on_code, version_of, with_known_field, has_field, placed_at, placed_from, places, index_of, number_at, target_of, with_targets, affordable, checked}
 use Rattle.teal_check.specs.WellFormed as check
-use Rattle.teal_check.proofs.CheckedPrograms.{placed_forward, placed_rises, targets_keep, length-places}
+use Rattle.teal_check.proofs.CheckedPrograms.{is_checked, is_placed, placed_forward, placed_rises, length-places}
 use Rattle.avm_ops.specs.Immediates.{offset_of}
 use Rattle.avm_ops.specs.Steps.{branch_target}
 use Rattle.avm_items.specs.Items.{ItemMap}
@@ -33,10 +32,6 @@ use Rattle.avm_call.specs.Ends.{HasEnded, is_start, is_start_or_end, IsLaidOut}
 use Rattle.avm_call.proofs.Steps.{steps_are_instructions, whole_path_steps}
 
 -- ---- the version
-
-coded_ok : {A : Type 0} (place : ℕ) (r : Result A CodeFault) (x : A) → on_code place r ≡ Ok x → r ≡ Ok x
-coded_ok place (Ok y) x e = let same : y ≡ x = cc in ap (λ z. Ok z) same
-coded_ok place (Err f) x e = absurd cc
 
 numbered_by : (n m : ℕ) (v : Version × ℕ) (a b : Bool) → (n == 2) ≡ a → (n == 3) ≡ b
     → ◌≡◌ {A = Result (Version × ℕ) CheckFault} ((if a then Ok Two else if b then Ok Three else Err fault.Version) >>= λ w. Ok (w, m)) (Ok v) → ◌≡◌ {A = Version × ℕ} ((if b then Three else Two), m) v
@@ -74,31 +69,6 @@ or_here false false c h = absurd cc
 is_the_end : (ss : List ℕ) (end x : ℕ) → x ≡ end → is_start_or_end ss end x ≡ true
 is_the_end ss end x e = ap (λ b. b || is_start ss x) (eq-eqb x end e)
 
--- ---- what is placed is read there
-
-record IsRead (version : Version) (bytes : List ℕ) (place : ℕ) (p : Placed) : Type 0 where
-  here : p.place ≡ place
-  read : read_at version bytes place ≡ Ok (p.instr, p.next)
-
-pair_read : {x y : Instr × ℕ} → x ≡ y → ◌≡◌ {A = Result (Instr × ℕ) CodeFault} (Ok x) (Ok y)
-pair_read e = ap (λ z. Ok z) e
-
-placed_read : (version : Version) (bytes : List ℕ) (place : ℕ) (p : Placed) → placed_at version bytes place ≡ Ok p → IsRead version bytes place p
-unfolding placed_at
-placed_read version bytes place p e =
-    elim (chosen (is_some (left_out_at (get_or bytes place 0))) _ _ _ e) [
-      | inl (out, bad) ↦ absurd cc
-      | inr (inside, read) ↦
-          let (x, first, last) = bind_ok (on_code place (read_at version bytes place)) _ _ read in
-          elim (chosen (has_field version (row_of x.0.opcode).immediates x.0.immediates) _ _ _ last) [
-            | inl (known, one) ↦
-                let same : record { place = place; next = x.1; instr = x.0; target = None } ≡ p = cc in
-                let parts : x ≡ (p.instr, p.next) = λ i. ((same i).instr, (same i).next) in
-                record { here = sym (ap (λ (q : Placed). q.place) same); read = coded_ok place _ _ first ∙ pair_read parts }
-            | inr (unknown, bad) ↦ absurd cc
-          ]
-    ]
-
 first_start : (n : ℕ) (version : Version) (bytes : List ℕ) (place : ℕ) (ps : List Placed) → place ≤ length bytes → length bytes ≤ place + n → placed_from n version bytes place ≡ Ok ps
     → is_start_or_end (places ps) (length bytes) place ≡ true
 unfolding placed_from
@@ -110,7 +80,7 @@ first_start (suc n) version bytes place ps low high e =
           let (p, first, others) = bind_ok (placed_at version bytes place) _ _ more in
           let (qs, rest, last) = bind_ok (placed_from n version bytes p.next) _ _ others in
           let same : p ∷ qs ≡ ps = cc in
-          let read = placed_read version bytes place p first in
+          let read = is_placed version bytes place p first in
           subst (λ rs. is_start_or_end (places rs) (length bytes) place ≡ true) same
           (or_here (place == length bytes) (place == p.place) (is_start (places qs) place) (eq-eqb place p.place (sym (read.here))))
     ]
@@ -140,7 +110,7 @@ nexts (suc n) version bytes place ps low high e x i next there read =
           let (p, first, others) = bind_ok (placed_at version bytes place) _ _ more in
           let (qs, rest, last) = bind_ok (placed_from n version bytes p.next) _ _ others in
           let same : p ∷ qs ≡ ps = cc in
-          let is = placed_read version bytes place p first in
+          let is = is_placed version bytes place p first in
           let on = placed_forward version bytes place p low first in
           let high' : length bytes ≤ p.next + n = omega (arith, on.1) in
           let here : read_at version bytes p.place ≡ Ok (p.instr, p.next) = ap (read_at version bytes) is.here ∙ is.read in
@@ -266,7 +236,7 @@ targets (suc n) version bytes place ps low e starts rs w x i next target there r
           let (p, first, others) = bind_ok (placed_at version bytes place) _ _ more in
           let (qs, rest, last) = bind_ok (placed_from n version bytes p.next) _ _ others in
           let same : p ∷ qs ≡ ps = cc in
-          let is = placed_read version bytes place p first in
+          let is = is_placed version bytes place p first in
           let on = placed_forward version bytes place p low first in
           let here : read_at version bytes p.place ≡ Ok (p.instr, p.next) = ap (read_at version bytes) is.here ∙ is.read in
           let w' : with_targets starts (length bytes) (p ∷ qs) ≡ Ok rs = ap (with_targets starts (length bytes)) same ∙ w in
@@ -279,41 +249,19 @@ targets (suc n) version bytes place ps low e starts rs w x i next target there r
 
 -- ---- a checked program
 
-pub afforded : (version : Version) (bytes : List ℕ) (ps : List Placed) (w : WellFormed) → affordable version bytes ps ≡ Ok w → w.placed ≡ ps
-afforded version bytes ps w e =
-    elim (chosen (ltb 700 (check.cost_of ps)) _ _ _ e) [
-      | inl (more, bad) ↦ absurd cc
-      | inr (fits, one) ↦ let same : record { version = version; bytes = bytes; placed = ps; cost = check.cost_of ps } ≡ w = cc in sym (ap (λ (v : WellFormed). v.placed) same)
-    ]
-
-pub version_within : (bytes : List ℕ) (v : Version × ℕ) → check.version_at bytes ≡ Ok v → v.1 ≤ length bytes
-version_within bytes v e =
-    let (n, first, others) = bind_ok (on_code 0 (varuint_at bytes)) _ _ e in
-    let (version, known, last) = bind_ok (version_of n.0) _ _ others in
-    let same : ◌≡◌ {A = Version × ℕ} (version, length bytes - length n.1) v = cc in
-    omega (arith, ap (λ p. p.1) same)
-
 pub laid_out : (bytes : List ℕ) (w : WellFormed) → checked bytes ≡ Ok w → IsLaidOut bytes (places w.placed)
-unfolding checked
 laid_out bytes w e =
-    elim (chosen (eqb (length bytes) 0 || ltb 1024 (length bytes)) _ _ _ e) [
-      | inl (outside, bad) ↦ absurd cc
-      | inr (inside, more) ↦
-          let (v, first, others) = bind_ok (check.version_at bytes) _ _ more in
-          let (ps, placed, rest) = bind_ok (placed_from (length bytes) v.0 bytes v.1) _ _ others in
-          let (qs, resolved, last) = bind_ok (with_targets (places ps) (length bytes) ps) _ _ rest in
-          let starts : places w.placed ≡ places ps = ap places (afforded v.0 bytes qs w last) ∙ (targets_keep (places ps) (length bytes) ps qs resolved).0 in
-          let version = version_same bytes v first in
-          let low = version_within bytes v first in
-          let high : length bytes ≤ v.1 + length bytes = omega arith in
-          let laid : IsLaidOut bytes (places ps) = record {
-            first = ap (λ (q : Version × ℕ). is_start_or_end (places ps) (length bytes) q.1) version ∙ first_start (length bytes) v.0 bytes v.1 ps low high placed;
-            next = λ place i next there read. nexts (length bytes) v.0 bytes v.1 ps low high placed place i next there (ap (λ (q : Version × ℕ). read_at q.0 bytes place) (sym version) ∙ read);
-            target = λ place i next target there read b.
-                targets (length bytes) v.0 bytes v.1 ps low placed (places ps) qs resolved place i next target there (ap (λ (q : Version × ℕ). read_at q.0 bytes place) (sym version) ∙ read) b;
-          } in
-          subst (IsLaidOut bytes) (sym starts) laid
-    ]
+    let c = is_checked bytes w e in
+    let version = version_same bytes (w.version, c.start) c.version in
+    let high : length bytes ≤ c.start + length bytes = omega arith in
+    let ps = c.bare in
+    let laid : IsLaidOut bytes (places ps) = record {
+      first = ap (λ (q : Version × ℕ). is_start_or_end (places ps) (length bytes) q.1) version ∙ first_start (length bytes) w.version bytes c.start ps c.within high c.placed;
+      next = λ place i next there read. nexts (length bytes) w.version bytes c.start ps c.within high c.placed place i next there (ap (λ (q : Version × ℕ). read_at q.0 bytes place) (sym version) ∙ read);
+      target = λ place i next target there read b.
+          targets (length bytes) w.version bytes c.start ps c.within c.placed (places ps) w.placed c.targets place i next target there (ap (λ (q : Version × ℕ). read_at q.0 bytes place) (sym version) ∙ read) b;
+    } in
+    subst (IsLaidOut bytes) (sym c.same_places) laid
 
 pub checked_steps : (e : Execution) (writes : ItemMap) (w : WellFormed) → checked e.program ≡ Ok w → AsksAtMost Any (3 * length w.placed) HasEnded (path e writes (length w.placed + 1))
 checked_steps e writes w h =
@@ -412,31 +360,11 @@ record IsFew (bytes : List ℕ) (w : WellFormed) : Type 0 where
   instructions : length w.placed ≤ 700
   in_bytes : length w.placed ≤ length bytes
 
-few_afforded : (version : Version) (bytes : List ℕ) (ps : List Placed) (w : WellFormed) → affordable version bytes ps ≡ Ok w → length ps ≤ 700
-few_afforded version bytes ps w e =
-    elim (chosen (ltb 700 (check.cost_of ps)) _ _ _ e) [
-      | inl (more, bad) ↦ absurd cc
-      | inr (fits, one) ↦
-          let cost = ltb-false 700 (check.cost_of ps) fits in
-          let count = count_below_cost ps in
-          omega arith
-    ]
-
 few : (bytes : List ℕ) (w : WellFormed) → checked bytes ≡ Ok w → IsFew bytes w
-unfolding checked
 few bytes w e =
-    elim (chosen (eqb (length bytes) 0 || ltb 1024 (length bytes)) _ _ _ e) [
-      | inl (outside, bad) ↦ absurd cc
-      | inr (inside, more) ↦
-          let (v, first, others) = bind_ok (check.version_at bytes) _ _ more in
-          let (ps, placed, rest) = bind_ok (placed_from (length bytes) v.0 bytes v.1) _ _ others in
-          let (qs, resolved, last) = bind_ok (with_targets (places ps) (length bytes) ps) _ _ rest in
-          let same = ap length (afforded v.0 bytes qs w last) in
-          let keeps = targets_keep (places ps) (length bytes) ps qs resolved in
-          let rises = placed_rises (length bytes) v.0 bytes v.1 ps (version_within bytes v first) placed in
-          let afford = few_afforded v.0 bytes qs w last in
-          record { instructions = omega (arith, same, afford); in_bytes = omega (arith, same, keeps.1, rises.1) }
-    ]
+    let c = is_checked bytes w e in
+    let rises = placed_rises (length bytes) w.version bytes c.start c.bare c.within c.placed in
+    record { instructions = omega (arith, count_below_cost w.placed, c.cost, c.cheap); in_bytes = omega (arith, c.same_count, rises.1) }
 
 pub program_asks : (e : Execution) (writes : ItemMap) (r : Result WellFormed CheckFault) → checked e.program ≡ r → is_ok r ≡ true → AsksAtMost Any (3 * 700) HasEnded (whole_path e writes)
 program_asks e writes (Err f) is h = absurd cc

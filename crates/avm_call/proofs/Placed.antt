@@ -1,15 +1,15 @@
 -- That the faults of calls are at places of programs, or at their ends.
-use Rattle.std.proofs.Common.{◌≡◌, ◌≤◌, ◌+◌, ◌-◌, ◌*◌, ℕ, zero, suc, Bool, true, false, ltb, eqb, List, [], ◌∷◌, length, Option, None, Some, Result, Ok, Err, refl, sym, ap, subst, ◌∙◌, inl, inr, arith}
+use Rattle.std.proofs.Common.{◌≡◌, ◌≤◌, ◌+◌, ◌-◌, ◌*◌, ℕ, zero, suc, Bool, true, false, eqb, List, [], ◌∷◌, length, Option, None, Some, Result, Ok, Err, refl, sym, subst, inl, inr, arith}
 use Rattle.std.specs.Prelude.{◌==◌, ◌||◌, ◌^◌, if◌then◌else◌, not, is_ok, is_some, IsTrue}
-use Rattle.std.proofs.lemmas.Bool.{eqb-true, ltb-false}
+use Rattle.std.proofs.lemmas.Bool.{eqb-true}
 use Rattle.teal_value.specs.declared.value.Value.{Value}
 use Rattle.teal_value.specs.declared.value.Value.TheVariants.{Uint, Bytes}
 use Rattle.teal_value.proofs.Binding.{bind_ok, chosen}
 use Rattle.teal_table.specs.declared.shape.Version.{Version}
 use Rattle.teal_check.specs.declared.fault.CheckFault.{CheckFault}
 use Rattle.teal_check.specs.declared.program.Placed.{Placed}
-use Rattle.teal_check.specs.WellFormed.{WellFormed, version_at, placed_at, placed_from, places, with_targets, checked}
-use Rattle.teal_check.proofs.CheckedPrograms.{placed_forward, targets_keep}
+use Rattle.teal_check.specs.WellFormed.{WellFormed, placed_at, placed_from, places, checked}
+use Rattle.teal_check.proofs.CheckedPrograms.{is_checked, placed_forward}
 use Rattle.avm_ledger.specs.declared.application.Application.{Application}
 use Rattle.avm_ledger.specs.declared.header.Header.{Header}
 use Rattle.avm_ledger.specs.Ledgers.{Ledger}
@@ -35,7 +35,7 @@ use Rattle.avm_call.specs.Places.{HasPlace}
 use Rattle.avm_call.specs.Replay.{outcome_on}
 use Rattle.avm_call.proofs.Paths as paths
 use Rattle.avm_call.proofs.Steps.{LaidOn, executed_laid}
-use Rattle.avm_call.proofs.LaidOut.{afforded, version_within, laid_out}
+use Rattle.avm_call.proofs.LaidOut.{laid_out}
 use Rattle.avm_call.proofs.Asked.{BothFit, TargetFits, programs_fit, program_fits}
 
 -- ---- the instructions of a checked program stand before its end
@@ -65,32 +65,28 @@ placed_within (suc n) version bytes place ps within e x there =
           one_within x p.place (length bytes) (x == p.place) (is_start (places qs) x) refl (omega (arith, forward.0)) (placed_within n version bytes p.next qs forward.2 rest x) here
     ]
 
-or_false : (a b : Bool) → (a || b) ≡ false → b ≡ false
-or_false true b e = absurd cc
-or_false false b e = e
-
 -- the places of a program are few
 record IsShort (bytes : List ℕ) (w : WellFormed) : Type 0 where
   short : length bytes ≤ 1024
   within : (x : ℕ) → is_start_or_end (places w.placed) (length bytes) x ≡ true → x ≤ 1024
 
 is_short : (bytes : List ℕ) (w : WellFormed) → checked bytes ≡ Ok w → IsShort bytes w
-unfolding checked
 is_short bytes w e =
-    elim (chosen (eqb (length bytes) 0 || ltb 1024 (length bytes)) _ _ _ e) [
-      | inl (outside, bad) ↦ absurd cc
-      | inr (inside, more) ↦
-          let (v, first, others) = bind_ok (version_at bytes) _ _ more in
-          let (ps, placed, later) = bind_ok (placed_from (length bytes) v.0 bytes v.1) _ _ others in
-          let (qs, resolved, last) = bind_ok (with_targets (places ps) (length bytes) ps) _ _ later in
-          let starts : places w.placed ≡ places ps = ap places (afforded v.0 bytes qs w last) ∙ (targets_keep (places ps) (length bytes) ps qs resolved).0 in
-          let short : length bytes ≤ 1024 = ltb-false 1024 (length bytes) (or_false (eqb (length bytes) 0) (ltb 1024 (length bytes)) inside) in
-          let low : (x : ℕ) → is_start (places w.placed) x ≡ true → x ≤ length bytes = λ x there. placed_within (length bytes) v.0 bytes v.1 ps (version_within bytes v first) placed x (subst (λ ss. is_start ss x ≡ true) starts there) in
-          record {
-            short = short;
-            within = λ x h. one_within x (length bytes) 1024 (x == length bytes) (is_start (places w.placed) x) refl short (λ there. omega (arith, low x there, short)) h;
-          }
-    ]
+    let c = is_checked bytes w e in
+    let low : (x : ℕ) → is_start (places w.placed) x ≡ true → x ≤ length bytes =
+    λ x there. placed_within (length bytes) w.version bytes c.start c.bare c.within c.placed x (subst (λ ss. is_start ss x ≡ true) c.same_places there) in
+    record {
+      short = c.short;
+      within = λ x h. one_within x (length bytes) 1024 (x == length bytes) (is_start (places w.placed) x) refl c.short (λ there. omega (arith, low x there, c.short)) h;
+    }
+
+-- a program has few bytes
+pub program_is_short : (bytes : List ℕ) → is_program bytes ≡ true → length bytes ≤ 1024
+program_is_short bytes passes = by (checked bytes) refl passes
+  where
+    by : (r : Result WellFormed CheckFault) → checked bytes ≡ r → is_ok r ≡ true → length bytes ≤ 1024
+    by (Ok w) is pass = (is_short bytes w is).short
+    by (Err f) is pass = absurd cc
 
 -- ---- the path of a program
 

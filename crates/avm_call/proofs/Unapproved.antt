@@ -1,14 +1,20 @@
 -- What a call writes that isn't approved.
-use Rattle.std.proofs.Common.{◌≡◌, ◌≢◌, ℕ, Bool, true, false, cond, not, [], ◌∷◌, Option, Some, None, Result, Ok, Err, refl, sym, subst, inl, inr}
+use Rattle.std.proofs.Common.{◌≡◌, ◌≢◌, ℕ, ◌-◌, ◌^◌, ◌==◌, Bool, IsTrue, true, false, cond, not, ◌||◌, [], ◌∷◌, Option, Some, None, is_some, Result, Ok, Err, refl, sym, subst, ◌∙◌}
 use Rattle.avm_ledger.specs.declared.application.Application.{Application}
 use Rattle.avm_ledger.specs.declared.header.Header.{Header}
 use Rattle.avm_ledger.specs.Ledgers.{Ledger}
 use Rattle.avm_ledger.specs.LedgerRules.{KeepsRules}
+use Rattle.avm_items.specs.declared.call_data.Completion.{Completion}
+use Rattle.avm_items.specs.declared.call_data.Completion.TheVariants as completion
 use Rattle.avm_items.specs.declared.call_data.CallData.{CallData}
+use Rattle.avm_items.specs.declared.item.Item.{Item}
+use Rattle.avm_items.specs.declared.item.Item.TheVariants as item
+use Rattle.avm_items.specs.declared.item_value.ItemValue.{ItemValue}
 use Rattle.avm_items.specs.declared.item_value.ItemValue.TheVariants as value
-use Rattle.avm_items.specs.CallFields.{clears}
-use Rattle.avm_items.specs.Items.{ItemMap, Look}
-use Rattle.avm_items.specs.Asks.{Gives, result_over}
+use Rattle.avm_items.specs.CallFields.{creates, clears}
+use Rattle.avm_items.specs.Items.{ItemMap, Look, next_id_in, application_in, local_state_in}
+use Rattle.avm_items.specs.Asks.{Gives, and_then, result_over}
+use Rattle.avm_items.specs.Acts.{Act, done, on_ok, test, ◌>>=◌}
 use Rattle.avm_items.specs.SameValues.{is_same_value}
 use Rattle.avm_items.specs.LedgerItems.{at, put, pruned}
 use Rattle.avm_items.proofs.Questions.{result_over-and_then}
@@ -16,56 +22,164 @@ use Rattle.avm_items.proofs.RulesKept.{rules_stay}
 use Rattle.avm_call.specs.declared.outcome.Ended.{Ended}
 use Rattle.avm_call.specs.declared.outcome.Ended.TheVariants as ended
 use Rattle.avm_call.specs.declared.outcome.Why.{Why}
+use Rattle.avm_call.specs.declared.outcome.Why.TheVariants as why
 use Rattle.avm_call.specs.declared.outcome.Cause.{Cause}
 use Rattle.avm_call.specs.declared.outcome.Cause.TheVariants as cause
 use Rattle.avm_call.specs.declared.outcome.Outcome.{Outcome}
 use Rattle.avm_call.specs.declared.outcome.Outcome.TheVariants as outcome
 use Rattle.avm_call.specs.Runs.{program_result}
-use Rattle.avm_call.specs.Calls.{CallResult, Target, sender_item, admitted, prepared, execution, cleared, ending, runs, runs_on, goes_on, call_result}
-use Rattle.avm_call.specs.Replay.{outcome_on, ledger_after}
-use Rattle.avm_call.specs.RuleLaws.{WritesLittle}
+use Rattle.avm_call.specs.Calls.{CallResult, Target, created, new_target, called_target, target, sender_item, is_opted_in, opt_in_test, admitted, prepared, execution, cleared, ending, runs, runs_on, goes_on, call_result}
+use Rattle.avm_call.specs.Replay.{outcome_on}
+use Rattle.avm_call.specs.RuleLaws.{application_of, writes_unapproved, may_end_so, UnapprovedWritesLittle, EndsByCompletion, UnapprovedChangesLittle, UnapprovedKeepsRules}
 
--- a call that clears removes the local state, and another writes nothing
-little_if : (call : CallData) (id : ℕ) (c : Cause) (o : Outcome) (b : Bool) → WritesLittle call (cond {A = CallResult} b (cleared call id c) (o, []))
-little_if call id c o true = inr (id, refl)
-little_if call id c o false = inl refl
+-- ---- the application of an admitted call
 
-ending_little : (call : CallData) (id : ℕ) (row : Application) (writes : ItemMap) (end : Ended) → (ending call id row (writes, end)).0 ≢ outcome.Approved → WritesLittle call (ending call id row (writes, end))
-ending_little call id row writes ended.Approved other = absurd (other refl)
-ending_little call id row writes ended.Rejected other = little_if call id cause.Rejected outcome.Rejected (clears call.completion)
-ending_little call id row writes (ended.Faulted f place) other = little_if call id (cause.Faulted f place) (outcome.Faulted f place) (clears call.completion)
+-- said of what passes a test
+abbrev Passes : {A : Type 0} → (A → Type 0) → Result A Why → Type 0
+Passes P (Ok a) = P a
+Passes P (Err w) = Unit {0}
 
--- what is said of a result holds of one that equals it
-of_same : (call : CallData) (r s : CallResult) → r ≡ s → (s.0 ≢ outcome.Approved → WritesLittle call s) → r.0 ≢ outcome.Approved → WritesLittle call r
-of_same call r s e little other = subst (WritesLittle call) (sym e) (little (subst (λ x. x.0 ≢ outcome.Approved) e other))
+-- A creation has the next id, and only a call that clears may find its application gone.
+record IsTarget (look : Look) (call : CallData) (makes : Bool) (t : Target) : Type 0 where
+  id : t.id ≡ cond makes (next_id_in (look item.NextApp)) call.application
+  gone : t.row ≡ None → clears call.completion ≡ true
 
-runs_little : (look : Look) (call : CallData) (header : Header) (id : ℕ) (row : Application) → (result_over look (runs call header id row)).0 ≢ outcome.Approved → WritesLittle call (result_over look (runs call header id row))
-runs_little look call header id row =
-    let end = result_over look (program_result (execution call header id row) (prepared call id)) in
-    of_same call (result_over look (runs call header id row)) (ending call id row end)
-    (result_over-and_then look (program_result (execution call header id row) (prepared call id)) (λ e. Gives (ending call id row e)))
-    (ending_little call id row end.0 end.1)
+-- Who clears is in.
+abbrev IsIn : Look → CallData → Completion → ℕ → Type 0
+IsIn look call c id = clears c ≡ true → is_some (local_state_in (look (sender_item call id))) ≡ true
 
-runs_on_little : (look : Look) (call : CallData) (header : Header) (t : Target) (row : Option Application) → (result_over look (runs_on call header t row)).0 ≢ outcome.Approved → WritesLittle call (result_over look (runs_on call header t row))
-runs_on_little look call header t None other = inr (t.id, refl)
-runs_on_little look call header t (Some row) other = runs_little look call header t.id row other
+record IsAdmitted (look : Look) (call : CallData) (t : Target) : Type 0 where
+  own : IsTarget look call (creates call) t
+  there : IsIn look call call.completion t.id
 
-goes_on_little : (look : Look) (call : CallData) (header : Header) (r : Result Target Why) → (result_over look (goes_on call header r)).0 ≢ outcome.Approved → WritesLittle call (result_over look (goes_on call header r))
-goes_on_little look call header (Ok t) other = runs_on_little look call header t t.row other
-goes_on_little look call header (Err w) other = inl refl
+tested : (P : Target → Type 0) (look : Look) (b : Bool) (w : Why) (t : Target) → (b ≡ true → P t) → Passes P (result_over look (and_then (test b w) (on_ok (λ _. done t))))
+tested P look true w t h = h refl
+tested P look false w t h = tt
 
-pub call_little : (look : Look) (call : CallData) (header : Header) → (result_over look (call_result call header)).0 ≢ outcome.Approved → WritesLittle call (result_over look (call_result call header))
+gone_clears : (row : Option Application) (b : Bool) → (is_some row || b) ≡ true → row ≡ None → b ≡ true
+gone_clears None b h none = h
+gone_clears (Some row) b h none = cc
+
+target_is : (look : Look) (call : CallData) (b : Bool) → Passes (IsTarget look call b) (result_over look (elim b [ true ↦ new_target call | false ↦ called_target call ]))
+target_is look call true =
+    let id = next_id_in (look item.NextApp) in
+    tested (IsTarget look call true) look (not (id == 2 ^ 64 - 1)) why.IdsEnd (record { id = id; row = Some (created call) }) (λ h. record { id = refl; gone = λ none. cc })
+target_is look call false =
+    let row = application_in (look (item.App call.application)) in
+    tested (IsTarget look call false) look (is_some row || clears call.completion) why.NoApp (record { id = call.application; row = row })
+    (λ h. record { id = refl; gone = gone_clears row (clears call.completion) h })
+
+passed : (P : Type 0) (look : Look) (b : Bool) (w : Why) → (b ≡ true → P) → Passes {A = Unit {0}} (λ _. P) (result_over look (test b w))
+passed P look true w h = h refl
+passed P look false w h = tt
+
+is_in_by : (look : Look) (call : CallData) (id : ℕ) (c : Completion) → Passes {A = Unit {0}} (λ _. IsIn look call c id) (result_over look (elim c as (λ _. Act Why (Unit {0})) [
+  | completion.OptIn ↦ is_opted_in call id >>= λ in_already. test (not in_already) why.AlreadyIn
+  | completion.CloseOut ↦ is_opted_in call id >>= λ is_in. test is_in why.NotIn
+  | completion.ClearState ↦ is_opted_in call id >>= λ is_in. test is_in why.NotIn
+  | _ ↦ done tt
+]))
+is_in_by look call id completion.NoOp = λ h. cc
+is_in_by look call id completion.OptIn = passed (IsIn look call completion.OptIn id) look (not (is_some (local_state_in (look (sender_item call id))))) why.AlreadyIn (λ _ h. cc)
+is_in_by look call id completion.CloseOut = passed (IsIn look call completion.CloseOut id) look (is_some (local_state_in (look (sender_item call id)))) why.NotIn (λ _ h. cc)
+is_in_by look call id completion.ClearState = passed (IsIn look call completion.ClearState id) look (is_some (local_state_in (look (sender_item call id)))) why.NotIn (λ b _. b)
+is_in_by look call id completion.UpdateApplication = λ h. cc
+is_in_by look call id completion.DeleteApplication = λ h. cc
+
+admits : (look : Look) (call : CallData) (t : Target) → IsTarget look call (creates call) t → (r : Result (Unit {0}) Why) → Passes {A = Unit {0}} (λ _. IsIn look call call.completion t.id) r
+    → Passes (IsAdmitted look call) (result_over look (on_ok (λ _. done t) r))
+admits look call t own (Ok u) h = record { own = own; there = h }
+admits look call t own (Err w) h = tt
+
+admitted_from : (look : Look) (call : CallData) (r : Result Target Why) → Passes (IsTarget look call (creates call)) r
+    → Passes (IsAdmitted look call) (result_over look (on_ok (λ t. and_then (opt_in_test call t.id) (on_ok (λ _. done t))) r))
+admitted_from look call (Ok t) own =
+    subst (Passes (IsAdmitted look call)) (sym (result_over-and_then look (opt_in_test call t.id) (on_ok (λ _. done t))))
+    (admits look call t own (result_over look (opt_in_test call t.id)) (is_in_by look call t.id call.completion))
+admitted_from look call (Err w) own = tt
+
+is_admitted : (look : Look) (call : CallData) → Passes (IsAdmitted look call) (result_over look (admitted call))
+is_admitted look call =
+    subst (Passes (IsAdmitted look call)) (sym (result_over-and_then look (target call) _)) (admitted_from look call (result_over look (target call)) (target_is look call (creates call)))
+
+-- ---- the end of a call
+
+-- what is said of a result: its writes where it isn't approved, that each of them changes something, and its kind
+record IsLittle (look : Look) (call : CallData) (r : CallResult) : Type 0 where
+  writes : r.0 ≢ outcome.Approved → r.1 ≡ writes_unapproved look call r.0
+  changes : r.0 ≢ outcome.Approved → pruned look r.1 ≡ r.1
+  kind : IsTrue (may_end_so (clears call.completion) r.0)
+
+pruned-removal : (v : ItemValue) (x : Item) → is_some (local_state_in v) ≡ true → cond {A = ItemMap} (not (is_same_value v value.Absent)) ((x, value.Absent) ∷ []) [] ≡ (x, value.Absent) ∷ []
+pruned-removal (value.Local state) x h = refl
+pruned-removal value.Absent x h = cc
+pruned-removal (value.NextApp id) x h = cc
+pruned-removal (value.App row) x h = cc
+pruned-removal (value.Counts n) x h = cc
+pruned-removal (value.Key v) x h = cc
+
+-- a call that clears removes the local state,
+cleared_little : (look : Look) (call : CallData) (t : Target) → IsAdmitted look call t → (c : Cause) → clears call.completion ≡ true → IsLittle look call (cleared call t.id c)
+cleared_little look call t is c clear = record {
+  writes = λ _. rw (clear, is.own.id) refl;
+  changes = λ _. pruned-removal (look (sender_item call t.id)) (sender_item call t.id) (is.there clear);
+  kind = clear;
+}
+
+-- and another writes nothing
+abbrev EndsOtherwise : Look → CallData → Outcome → Type 0
+EndsOtherwise look call o = clears call.completion ≡ false → IsLittle look call (o, [])
+
+unless_cleared : (look : Look) (call : CallData) (t : Target) → IsAdmitted look call t → (c : Cause) (o : Outcome) → EndsOtherwise look call o
+    → (b : Bool) → clears call.completion ≡ b → IsLittle look call (cond {A = CallResult} b (cleared call t.id c) (o, []))
+unless_cleared look call t is c o other true clear = cleared_little look call t is c clear
+unless_cleared look call t is c o other false clear = other clear
+
+ending_little : (look : Look) (call : CallData) (t : Target) → IsAdmitted look call t → (row : Application) (writes : ItemMap) (end : Ended) → IsLittle look call (ending call t.id row (writes, end))
+ending_little look call t is row writes ended.Approved = record { writes = λ other. absurd (other refl); changes = λ other. absurd (other refl); kind = refl }
+ending_little look call t is row writes ended.Rejected =
+    unless_cleared look call t is cause.Rejected outcome.Rejected (λ clear. record { writes = λ _. rw clear refl; changes = λ _. refl; kind = rw clear refl }) (clears call.completion) refl
+ending_little look call t is row writes (ended.Faulted f place) =
+    unless_cleared look call t is (cause.Faulted f place) (outcome.Faulted f place) (λ clear. record { writes = λ _. rw clear refl; changes = λ _. refl; kind = rw clear refl }) (clears call.completion) refl
+
+runs_little : (look : Look) (call : CallData) (header : Header) (t : Target) → IsAdmitted look call t → (row : Application) → IsLittle look call (result_over look (runs call header t.id row))
+runs_little look call header t is row =
+    let end = result_over look (program_result (execution call header t.id row) (prepared call t.id)) in
+    subst (IsLittle look call) (sym (result_over-and_then look (program_result (execution call header t.id row) (prepared call t.id)) (λ e. Gives (ending call t.id row e))))
+    (ending_little look call t is row end.0 end.1)
+
+runs_on_little : (look : Look) (call : CallData) (header : Header) (t : Target) → IsAdmitted look call t → (row : Option Application) → t.row ≡ row → IsLittle look call (result_over look (runs_on call header t row))
+runs_on_little look call header t is None gone = cleared_little look call t is cause.Gone (is.own.gone gone)
+runs_on_little look call header t is (Some row) there = runs_little look call header t is row
+
+goes_on_little : (look : Look) (call : CallData) (header : Header) (r : Result Target Why) → Passes (IsAdmitted look call) r → IsLittle look call (result_over look (goes_on call header r))
+goes_on_little look call header (Ok t) is = runs_on_little look call header t is t.row refl
+goes_on_little look call header (Err w) is = record { writes = λ _. refl; changes = λ _. refl; kind = refl }
+
+call_little : (look : Look) (call : CallData) (header : Header) → IsLittle look call (result_over look (call_result call header))
 call_little look call header =
-    of_same call (result_over look (call_result call header)) (result_over look (goes_on call header (result_over look (admitted call))))
-    (result_over-and_then look (admitted call) (goes_on call header)) (goes_on_little look call header (result_over look (admitted call)))
+    subst (IsLittle look call) (sym (result_over-and_then look (admitted call) (goes_on call header)))
+    (goes_on_little look call header (result_over look (admitted call)) (is_admitted look call))
 
-keeps_after : (l : Ledger) (call : CallData) (r : CallResult) → KeepsRules l → WritesLittle call r → KeepsRules (put l (pruned (at l) r.1))
-keeps_after l call r keeps (inl none) = subst (λ w. KeepsRules (put l (pruned (at l) w))) (sym none) keeps
-keeps_after l call r keeps (inr (id, one)) = subst (λ w. KeepsRules (put l (pruned (at l) w))) (sym one) (at_test (not (is_same_value (at l (sender_item call id)) value.Absent)))
+pub unapproved_writes : UnapprovedWritesLittle
+unapproved_writes look call header = (call_little look call header).writes
+
+pub ends_by_completion : EndsByCompletion
+ends_by_completion look call header = (call_little look call header).kind
+
+pub unapproved_changes : UnapprovedChangesLittle
+unapproved_changes l call header other = (call_little (at l) call header).changes other ∙ (call_little (at l) call header).writes other
+
+-- ---- the rules of the ledger after it
+
+writes_keep : (l : Ledger) (call : CallData) (o : Outcome) → KeepsRules l → KeepsRules (put l (writes_unapproved (at l) call o))
+writes_keep l call (outcome.Refused w) keeps = keeps
+writes_keep l call o keeps = at_kind (clears call.completion)
   where
-    at_test : (b : Bool) → KeepsRules (put l (cond b ((sender_item call id, value.Absent) ∷ []) []))
-    at_test true = rules_stay l (sender_item call id) value.Absent keeps tt
-    at_test false = keeps
+    at_kind : (b : Bool) → KeepsRules (put l (cond b ((sender_item call (application_of (at l) call), value.Absent) ∷ []) []))
+    at_kind true = rules_stay l (sender_item call (application_of (at l) call)) value.Absent keeps tt
+    at_kind false = keeps
 
-pub unapproved_keeps : (l : Ledger) (call : CallData) (header : Header) → KeepsRules l → outcome_on l call header ≢ outcome.Approved → KeepsRules (ledger_after l call header)
-unapproved_keeps l call header keeps other = keeps_after l call (result_over (at l) (call_result call header)) keeps (call_little (at l) call header other)
+pub unapproved_keeps : UnapprovedKeepsRules
+unapproved_keeps l call header keeps other =
+    subst (λ w. KeepsRules (put l w)) (sym (unapproved_changes l call header other)) (writes_keep l call (outcome_on l call header) keeps)

@@ -1,10 +1,15 @@
 //! Why fields make no call.
 
+ghost use Rattle.std.specs.Prelude.{◌≡◌};
+ghost use Rattle.avm_call.specs.FaultNames.{call_fault_name};
+
 use teal_check::CheckFault;
 use teal_value::Failure;
+use thiserror::Error;
 
 /// The first rule of calls that fields break, in this order.
-#[derive(Clone, Copy, Debug, PartialEq, Eq)]
+#[derive(Clone, Copy, Debug, PartialEq, Eq, Error)]
+#[error("{name}", name = self.name())]
 pub enum CallFault {
     /// More than 4 accounts.
     Accounts,
@@ -27,6 +32,26 @@ pub enum CallFault {
     ClearOnCreate,
     /// A program that breaks a rule of programs; the approval program is tested before the clear state program.
     Program(CheckFault),
+}
+
+impl CallFault {
+    /// Its name, as commands print it.
+    pub fn name(self) -> &'static str
+        ensures { result.now ≡ call_fault_name self }
+    {
+        match self {
+            CallFault::Accounts => "Accounts",
+            CallFault::Args => "Args",
+            CallFault::ArgBytes => "ArgBytes",
+            CallFault::Foreign => "Foreign",
+            CallFault::Note => "Note",
+            CallFault::ProgramsMissing => "ProgramsMissing",
+            CallFault::ProgramsGiven => "ProgramsGiven",
+            CallFault::SchemaSize => "SchemaSize",
+            CallFault::ClearOnCreate => "ClearOnCreate",
+            CallFault::Program(_fault) => "Program",
+        }
+    }
 }
 
 /// A [`CallFault`], or want of memory.

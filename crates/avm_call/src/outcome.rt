@@ -1,5 +1,9 @@
 //! How programs and calls end.
 
+ghost use Rattle.std.specs.Prelude.{◌≡◌};
+ghost use Rattle.avm_call.specs.FaultNames.{why_name};
+ghost use Rattle.avm_call.specs.OutcomeSpelling.{why_number};
+
 use teal_value::Fault;
 
 /// How a program ends. A fault names the place of its instruction, or the program's length where the program's end has
@@ -11,7 +15,7 @@ pub enum Ended {
     Faulted(Fault, u16),
 }
 
-/// Why a call is refused before its program runs.
+/// Why a call is refused before its program runs, by its number in the block format.
 #[derive(Clone, Copy, Debug, PartialEq, Eq)]
 pub enum Why {
     /// The application is gone.
@@ -22,6 +26,32 @@ pub enum Why {
     NotIn,
     /// No id is left for a creation.
     IdsEnd,
+}
+
+impl Why {
+    /// Its number in the block format.
+    pub fn number(self) -> u8
+        ensures { result ≡ why_number self }
+    {
+        match self {
+            Why::NoApp => 1,
+            Why::AlreadyIn => 2,
+            Why::NotIn => 3,
+            Why::IdsEnd => 4,
+        }
+    }
+
+    /// Its name, as commands print it.
+    pub fn name(self) -> &'static str
+        ensures { result.now ≡ why_name self }
+    {
+        match self {
+            Why::NoApp => "NoApp",
+            Why::AlreadyIn => "AlreadyIn",
+            Why::NotIn => "NotIn",
+            Why::IdsEnd => "IdsEnd",
+        }
+    }
 }
 
 /// Why a local state was cleared without approval.

@@ -127,11 +127,11 @@ dropped m c f count = (All-drop IsMachineValue count c.machine.stack f.stack, f.
 
 of_two : (m : Ledger) (c : Context) → Fits m c → (g : ℕ → ℕ → Result ℕ Fault) → ((a b : ℕ) → IsWord a → IsWord b → OkOf IsWord (g a b)) → OnOk Fit (of_two_uints g c)
 of_two m c f g h =
-    then_of _ (two_uints c.machine.stack) _ (MachineValues.two_uints_fits c.machine.stack f.stack) (λ ab w.
+    then_of _ (two_uints c.machine.stack) _ (MachineValues.two_uints_fits IsMachineValue c.machine.stack f.stack) (λ ab w.
     then_of IsWord (g ab.0 ab.1) _ (h ab.0 ab.1 w.0 w.1) (λ n fits. replaced m c f 2 (Uint n) fits))
 
 compared : (m : Ledger) (c : Context) → Fits m c → (p : ℕ → ℕ → Bool) → OnOk Fit (compares p c)
-compared m c f p = then_of _ (two_uints c.machine.stack) _ (MachineValues.two_uints_fits c.machine.stack f.stack) (λ ab w. replaced m c f 2 (flag (p ab.0 ab.1)) (flag_fits (p ab.0 ab.1)))
+compared m c f p = then_of _ (two_uints c.machine.stack) _ (MachineValues.two_uints_fits IsMachineValue c.machine.stack f.stack) (λ ab w. replaced m c f 2 (flag (p ab.0 ab.1)) (flag_fits (p ab.0 ab.1)))
 
 any_fits : {A : Type 0} (r : Result A Fault) → OkOf (λ a. Unit {0}) r
 any_fits (Ok a) = tt
@@ -139,20 +139,20 @@ any_fits (Err e) = tt
 
 equal : (m : Ledger) (c : Context) → Fits m c → (g : Bool → Bool) → OnOk Fit (equality g c)
 equal m c f g =
-    then_of _ (two_values c.machine.stack) _ (MachineValues.two_values_fits c.machine.stack f.stack) (λ ab w.
+    then_of _ (two_values c.machine.stack) _ (MachineValues.two_values_fits IsMachineValue c.machine.stack f.stack) (λ ab w.
     then_of (λ b. Unit {0}) (are_equal ab.0 ab.1) _ (any_fits (are_equal ab.0 ab.1)) (λ b any. replaced m c f 2 (flag (g b)) (flag_fits (g b))))
 
 of_wide : (m : Ledger) (c : Context) → Fits m c → (g : ℕ → ℕ → ℕ) → ((a b : ℕ) → IsWord a → IsWord b → g a b < 2 ^ 64 * 2 ^ 64) → OnOk Fit (wide g c)
 of_wide m c f g h =
-    then_of _ (two_uints c.machine.stack) _ (MachineValues.two_uints_fits c.machine.stack f.stack) (λ ab w.
+    then_of _ (two_uints c.machine.stack) _ (MachineValues.two_uints_fits IsMachineValue c.machine.stack f.stack) (λ ab w.
     replaced_pair m c f 2 (Uint (g ab.0 ab.1 / 2 ^ 64)) (Uint (g ab.0 ab.1 % 2 ^ 64)) (MachineValues.high_fits (g ab.0 ab.1) (h ab.0 ab.1 w.0 w.1)) (MachineValues.low_fits (g ab.0 ab.1)))
 
 of_one : (m : Ledger) (c : Context) → Fits m c → (g : ℕ → Value) → ((a : ℕ) → IsWord a → IsMachineValue (g a)) → OnOk Fit (of_one_uint g c)
-of_one m c f g h = then_of _ (one_uint c.machine.stack) _ (MachineValues.one_uint_fits c.machine.stack f.stack) (λ a w. replaced m c f 1 (g a) (h a w))
+of_one m c f g h = then_of _ (one_uint c.machine.stack) _ (MachineValues.one_uint_fits IsMachineValue c.machine.stack f.stack) (λ a w. replaced m c f 1 (g a) (h a w))
 
 of_string : (m : Ledger) (c : Context) → Fits m c → (g : List ℕ → Result Value Fault) → ((s : List ℕ) → IsMachineValue (Bytes s) → OkOf IsMachineValue (g s)) → OnOk Fit (of_bytes g c)
 of_string m c f g h =
-    then_of _ (one_bytes c.machine.stack) _ (MachineValues.one_bytes_fits c.machine.stack f.stack) (λ s w.
+    then_of _ (one_bytes c.machine.stack) _ (MachineValues.one_bytes_fits IsMachineValue c.machine.stack f.stack) (λ s w.
     then_of IsMachineValue (g s) _ (h s w) (λ v fits. replaced m c f 1 v fits))
 
 branched : (m : Ledger) (c : Context) → Fits m c → (offset : ℕ) (b : Bool) → OnOk Fit (Ok (if b then record (next_with_stack c (drop 1 c.machine.stack)) { flow = target_of c offset } else next_with_stack c (drop 1 c.machine.stack)))
@@ -190,36 +190,36 @@ byte_constant m c f i =
 
 sub_three : (m : Ledger) (c : Context) → Fits m c → OnOk Fit (substring3 c)
 sub_three m c f =
-    then_of _ (bytes_and_two_uints c.machine.stack) _ (MachineValues.bytes_and_two_uints_fits c.machine.stack f.stack) (λ x w.
+    then_of _ (bytes_and_two_uints c.machine.stack) _ (MachineValues.bytes_and_two_uints_fits IsMachineValue c.machine.stack f.stack) (λ x w.
     then_of IsMachineValue (range_of x.0 x.1 x.2) _ (MachineValues.range_fits x.0 x.1 x.2 w.0) (λ v fits. replaced m c f 3 v fits))
 
 joined : (m : Ledger) (c : Context) → Fits m c → OnOk Fit (concatenates c)
 joined m c f =
-    then_of _ (two_bytes c.machine.stack) _ (MachineValues.two_bytes_fits c.machine.stack f.stack) (λ x w.
+    then_of _ (two_bytes c.machine.stack) _ (MachineValues.two_bytes_fits IsMachineValue c.machine.stack f.stack) (λ x w.
     then_of (λ u. nat_le (length x.0 + length x.1) 4096 ≡ true) (must (nat_le (length x.0 + length x.1) 4096) fault.TooLong) _ (must_holds (nat_le (length x.0 + length x.1) 4096) fault.TooLong) (λ u few.
     replaced m c f 2 (Bytes (x.0 ++ x.1)) (MachineValues.joined_fits x.0 x.1 few w.0 w.1)))
 
 got_byte : (m : Ledger) (c : Context) → Fits m c → OnOk Fit (gets_byte c)
 got_byte m c f =
-    then_of _ (bytes_and_uint c.machine.stack) _ (MachineValues.bytes_and_uint_fits c.machine.stack f.stack) (λ x w.
+    then_of _ (bytes_and_uint c.machine.stack) _ (MachineValues.bytes_and_uint_fits IsMachineValue c.machine.stack f.stack) (λ x w.
     then_of _ (must (nat_lt x.1 (length x.0)) fault.Range) _ (must_holds (nat_lt x.1 (length x.0)) fault.Range) (λ u inside.
     replaced m c f 2 (Uint (slice_index x.0 x.1)) (let byte = MachineValues.byte_at_fits x.0 x.1 w.0.1 in omega (arith, byte))))
 
 set_byte : (m : Ledger) (c : Context) → Fits m c → OnOk Fit (sets_byte c)
 set_byte m c f =
-    then_of _ (bytes_and_two_uints c.machine.stack) _ (MachineValues.bytes_and_two_uints_fits c.machine.stack f.stack) (λ x w.
+    then_of _ (bytes_and_two_uints c.machine.stack) _ (MachineValues.bytes_and_two_uints_fits IsMachineValue c.machine.stack f.stack) (λ x w.
     then_of _ (must (nat_lt x.1 (length x.0) && nat_lt x.2 256) fault.Range) _ (must_holds (nat_lt x.1 (length x.0) && nat_lt x.2 256) fault.Range) (λ u inside.
     replaced m c f 3 (Bytes (slice_set x.0 x.1 x.2)) (MachineValues.with_byte_fits x.0 x.1 x.2 (ltb-true x.2 256 (both (nat_lt x.1 (length x.0)) (nat_lt x.2 256) inside).1) w.0)))
 
 got_bit : (m : Ledger) (c : Context) → Fits m c → OnOk Fit (gets_bit c)
 got_bit m c f =
-    then_of _ (value_and_uint c.machine.stack) _ (MachineValues.value_and_uint_fits c.machine.stack f.stack) (λ x w.
+    then_of _ (value_and_uint c.machine.stack) _ (MachineValues.value_and_uint_fits IsMachineValue c.machine.stack f.stack) (λ x w.
     then_of _ (must (nat_lt x.1 (bit_count x.0)) fault.Range) _ (must_holds (nat_lt x.1 (bit_count x.0)) fault.Range) (λ u inside.
     replaced m c f 2 _ (MachineValues.bit_value_fits x.0 x.1)))
 
 set_bit : (m : Ledger) (c : Context) → Fits m c → OnOk Fit (sets_bit c)
 set_bit m c f =
-    then_of _ (value_and_two_uints c.machine.stack) _ (MachineValues.value_and_two_uints_fits c.machine.stack f.stack) (λ x w.
+    then_of _ (value_and_two_uints c.machine.stack) _ (MachineValues.value_and_two_uints_fits IsMachineValue c.machine.stack f.stack) (λ x w.
     then_of _ (must (nat_lt x.1 (bit_count x.0) && nat_lt x.2 2) fault.Range) _ (must_holds (nat_lt x.1 (bit_count x.0) && nat_lt x.2 2) fault.Range) (λ u inside.
     let parts = both (nat_lt x.1 (bit_count x.0)) (nat_lt x.2 2) inside in
     replaced m c f 3 _ (MachineValues.with_bit_value_fits x.0 x.1 x.2 (ltb-true x.1 (bit_count x.0) parts.0) (ltb-true x.2 2 parts.1) w.0)))
@@ -448,31 +448,31 @@ effect_fits m c f op.Global i h = global_fits m c f (global_field_at (field_of i
 effect_fits m c f op.Gtxn i h = act_of (λ u. Unit {0}) m (is_in_group (group_index_of i)) _ (any_fits (is_in_group (group_index_of i))) (λ u any. pushed_scalar m c f (field_of i))
 effect_fits m c f op.Load i h = pushed m c f _ (loaded m c f (index_of i))
 effect_fits m c f op.Store i h =
-    then_of IsMachineValue (one_value c.machine.stack) _ (MachineValues.one_value_fits c.machine.stack f.stack) (λ v w.
+    then_of IsMachineValue (one_value c.machine.stack) _ (MachineValues.one_value_fits IsMachineValue c.machine.stack f.stack) (λ v w.
     (All-drop IsMachineValue 1 c.machine.stack f.stack, All-set IsMachineValue c.machine.scratch (index_of i) v w f.scratch))
 effect_fits m c f op.Txna i h = pushed_element m c f (field_of i) (index_of i)
 effect_fits m c f op.Gtxna i h = act_of (λ u. Unit {0}) m (is_in_group (group_index_of i)) _ (any_fits (is_in_group (group_index_of i))) (λ u any. pushed_element m c f (field_of i) (index_of i))
 effect_fits m c f op.Gtxns i h =
-    act_of _ m (one_uint c.machine.stack) _ (MachineValues.one_uint_fits c.machine.stack f.stack) (λ t w.
+    act_of _ m (one_uint c.machine.stack) _ (MachineValues.one_uint_fits IsMachineValue c.machine.stack f.stack) (λ t w.
     act_of (λ u. Unit {0}) m (is_in_group t) _ (any_fits (is_in_group t)) (λ u any.
     act_of IsMachineValue m (scalar_field c.call (field_of i)) _ (scalar_fits c.call f.call (field_of i)) (λ v g. replaced m c f 1 v g)))
 effect_fits m c f op.Gtxnsa i h =
-    act_of _ m (one_uint c.machine.stack) _ (MachineValues.one_uint_fits c.machine.stack f.stack) (λ t w.
+    act_of _ m (one_uint c.machine.stack) _ (MachineValues.one_uint_fits IsMachineValue c.machine.stack f.stack) (λ t w.
     act_of (λ u. Unit {0}) m (is_in_group t) _ (any_fits (is_in_group t)) (λ u any.
     act_of IsMachineValue m (array_field c.call (field_of i) (index_of i)) _ (array_fits c.call f.call (field_of i) (index_of i)) (λ v g. replaced m c f 1 v g)))
-effect_fits m c f op.Bnz i h = then_of _ (one_uint c.machine.stack) _ (MachineValues.one_uint_fits c.machine.stack f.stack) (λ a w. branched m c f (offset_of i) (is_nonzero a))
-effect_fits m c f op.Bz i h = then_of _ (one_uint c.machine.stack) _ (MachineValues.one_uint_fits c.machine.stack f.stack) (λ a w. branched m c f (offset_of i) (not (is_nonzero a)))
+effect_fits m c f op.Bnz i h = then_of _ (one_uint c.machine.stack) _ (MachineValues.one_uint_fits IsMachineValue c.machine.stack f.stack) (λ a w. branched m c f (offset_of i) (is_nonzero a))
+effect_fits m c f op.Bz i h = then_of _ (one_uint c.machine.stack) _ (MachineValues.one_uint_fits IsMachineValue c.machine.stack f.stack) (λ a w. branched m c f (offset_of i) (not (is_nonzero a)))
 effect_fits m c f op.B i h = (f.stack, f.scratch)
-effect_fits m c f op.Return i h = then_of _ (one_uint c.machine.stack) _ (MachineValues.one_uint_fits c.machine.stack f.stack) (λ a w. (All-cons IsMachineValue (Uint a) [] w (All-nil IsMachineValue), f.scratch))
+effect_fits m c f op.Return i h = then_of _ (one_uint c.machine.stack) _ (MachineValues.one_uint_fits IsMachineValue c.machine.stack f.stack) (λ a w. (All-cons IsMachineValue (Uint a) [] w (All-nil IsMachineValue), f.scratch))
 effect_fits m c f op.Assert i h =
-    then_of _ (one_uint c.machine.stack) _ (MachineValues.one_uint_fits c.machine.stack f.stack) (λ a w.
+    then_of _ (one_uint c.machine.stack) _ (MachineValues.one_uint_fits IsMachineValue c.machine.stack f.stack) (λ a w.
     then_of (λ u. Unit {0}) (must (not (a == 0)) fault.Assert) _ (any_fits (must (not (a == 0)) fault.Assert)) (λ u any. dropped m c f 1))
-effect_fits m c f op.Pop i h = then_of IsMachineValue (one_value c.machine.stack) _ (MachineValues.one_value_fits c.machine.stack f.stack) (λ v w. dropped m c f 1)
-effect_fits m c f op.Dup i h = then_of IsMachineValue (one_value c.machine.stack) _ (MachineValues.one_value_fits c.machine.stack f.stack) (λ v w. pushed m c f v w)
-effect_fits m c f op.Dup2 i h = then_of _ (two_values c.machine.stack) _ (MachineValues.two_values_fits c.machine.stack f.stack) (λ x w. pushed_pair m c f x.0 x.1 w.0 w.1)
+effect_fits m c f op.Pop i h = then_of IsMachineValue (one_value c.machine.stack) _ (MachineValues.one_value_fits IsMachineValue c.machine.stack f.stack) (λ v w. dropped m c f 1)
+effect_fits m c f op.Dup i h = then_of IsMachineValue (one_value c.machine.stack) _ (MachineValues.one_value_fits IsMachineValue c.machine.stack f.stack) (λ v w. pushed m c f v w)
+effect_fits m c f op.Dup2 i h = then_of _ (two_values c.machine.stack) _ (MachineValues.two_values_fits IsMachineValue c.machine.stack f.stack) (λ x w. pushed_pair m c f x.0 x.1 w.0 w.1)
 effect_fits m c f op.Dig i h = then_of IsMachineValue (value_below (index_of i) c.machine.stack) _ (below_fits (index_of i) c.machine.stack f.stack) (λ v w. pushed m c f v w)
-effect_fits m c f op.Swap i h = then_of _ (two_values c.machine.stack) _ (MachineValues.two_values_fits c.machine.stack f.stack) (λ x w. replaced_pair m c f 2 x.1 x.0 w.1 w.0)
-effect_fits m c f op.Select i h = then_of _ (two_values_and_uint c.machine.stack) _ (MachineValues.two_values_and_uint_fits c.machine.stack f.stack) (λ x w. replaced m c f 3 _ (chosen x.0 x.1 w.0 w.1 (x.2 == 0)))
+effect_fits m c f op.Swap i h = then_of _ (two_values c.machine.stack) _ (MachineValues.two_values_fits IsMachineValue c.machine.stack f.stack) (λ x w. replaced_pair m c f 2 x.1 x.0 w.1 w.0)
+effect_fits m c f op.Select i h = then_of _ (two_values_and_uint c.machine.stack) _ (MachineValues.two_values_and_uint_fits IsMachineValue c.machine.stack f.stack) (λ x w. replaced m c f 3 _ (chosen x.0 x.1 w.0 w.1 (x.2 == 0)))
 effect_fits m c f op.Concat i h = joined m c f
 effect_fits m c f op.Substring i h = of_string m c f (λ s. range_of s (start_of i) (end_of i)) (λ s w. MachineValues.range_fits s (start_of i) (end_of i) w)
 effect_fits m c f op.Substring3 i h = sub_three m c f
@@ -481,20 +481,20 @@ effect_fits m c f op.Setbit i h = set_bit m c f
 effect_fits m c f op.Getbyte i h = got_byte m c f
 effect_fits m c f op.Setbyte i h = set_byte m c f
 effect_fits m c f op.AppOptedIn i h =
-    act_of _ m (two_uints c.machine.stack) _ (MachineValues.two_uints_fits c.machine.stack f.stack) (λ x w.
+    act_of _ m (two_uints c.machine.stack) _ (MachineValues.two_uints_fits IsMachineValue c.machine.stack f.stack) (λ x w.
     then_found m Fit (account c.call x.0) fault.NoAccount _ (λ who. (refl, replaced m c f 2 _ (flag_fits (is_some (local_state_in (at m (item.Local who (application_named c x.1)))))))))
 effect_fits m c f op.AppLocalGet i h =
-    act_of _ m (uint_and_bytes c.machine.stack) _ (MachineValues.uint_and_bytes_fits c.machine.stack f.stack) (λ x w.
+    act_of _ m (uint_and_bytes c.machine.stack) _ (MachineValues.uint_and_bytes_fits IsMachineValue c.machine.stack f.stack) (λ x w.
     then_found m Fit (account c.call x.0) fault.NoAccount _ (λ who.
     local_state_row m c f who c.current _ (λ state all. replaced m c f 2 _ (zero_fits (value_of_key state x.1) (value_fits state x.1 all)))))
 effect_fits m c f op.AppLocalGetEx i h =
-    act_of _ m (two_uints_and_bytes c.machine.stack) _ (MachineValues.two_uints_and_bytes_fits c.machine.stack f.stack) (λ x w.
+    act_of _ m (two_uints_and_bytes c.machine.stack) _ (MachineValues.two_uints_and_bytes_fits IsMachineValue c.machine.stack f.stack) (λ x w.
     then_found m Fit (account c.call x.0) fault.NoAccount _ (λ who.
     local_state_row m c f who (application_named c x.1) _ (λ state all. replaced_pair m c f 3 _ _ (zero_fits (value_of_key state x.2) (value_fits state x.2 all)) (some_fits (value_of_key state x.2)))))
 effect_fits m c f op.AppGlobalGet i h =
-    act_of _ m (one_bytes c.machine.stack) _ (MachineValues.one_bytes_fits c.machine.stack f.stack) (λ key w. entry_row m c f key _ (λ o g. replaced m c f 1 _ (zero_fits o g)))
+    act_of _ m (one_bytes c.machine.stack) _ (MachineValues.one_bytes_fits IsMachineValue c.machine.stack f.stack) (λ key w. entry_row m c f key _ (λ o g. replaced m c f 1 _ (zero_fits o g)))
 effect_fits m c f op.AppGlobalGetEx i h =
-    act_of _ m (uint_and_bytes c.machine.stack) _ (MachineValues.uint_and_bytes_fits c.machine.stack f.stack) (λ x w.
+    act_of _ m (uint_and_bytes c.machine.stack) _ (MachineValues.uint_and_bytes_fits IsMachineValue c.machine.stack f.stack) (λ x w.
     foreign_by m Fit _ (foreign_row m c f x.1 _ (λ o g. replaced_pair m c f 2 _ _ (zero_fits o g) (some_fits o))) (foreign_of c.call c.current x.0))
 effect_fits m c f op.AppLocalPut i h =
     act_of (λ x. Unit {0}) m (uint_bytes_and_value c.machine.stack) _ (any_fits (uint_bytes_and_value c.machine.stack)) (λ x any.
@@ -505,10 +505,10 @@ effect_fits m c f op.AppGlobalPut i h =
     act_of (λ x. Unit {0}) m (bytes_and_value c.machine.stack) _ (any_fits (bytes_and_value c.machine.stack)) (λ x any.
     may_fit m x.0 x.1 _ (entry_row m c f x.0 _ (λ old g. put_over_fits m c f x.0 x.1 old (keeps_kind old (Some x.1)))))
 effect_fits m c f op.AppLocalDel i h =
-    act_of _ m (uint_and_bytes c.machine.stack) _ (MachineValues.uint_and_bytes_fits c.machine.stack f.stack) (λ x w.
+    act_of _ m (uint_and_bytes c.machine.stack) _ (MachineValues.uint_and_bytes_fits IsMachineValue c.machine.stack f.stack) (λ x w.
     then_found m Fit (account c.call x.0) fault.NoAccount _ (λ who.
     local_state_row m c f who c.current _ (λ state all. dropped m c f 2)))
 effect_fits m c f op.AppGlobalDel i h =
-    act_of _ m (one_bytes c.machine.stack) _ (MachineValues.one_bytes_fits c.machine.stack f.stack) (λ key w. entry_row m c f key _ (λ old g. delete_fits m c f key old))
+    act_of _ m (one_bytes c.machine.stack) _ (MachineValues.one_bytes_fits IsMachineValue c.machine.stack f.stack) (λ key w. entry_row m c f key _ (λ old g. delete_fits m c f key old))
 effect_fits m c f op.Pushbytes i h = pushed m c f (Bytes (bytes_of i)) (bytes_fit i h)
 effect_fits m c f op.Pushint i h = pushed m c f (Uint (uint_of i)) (uint_fits i h)

@@ -41,12 +41,12 @@ use Rattle.avm_ledger.proofs.KeptOrder.{application_rules, orderly}
 use Rattle.avm_laws.proofs.SoundPuts.{sound_put, led_sound}
 use Rattle.avm_laws.proofs.CallChanges.{leaves, after_is, written_over, put_followed}
 
-abbrev SoundAt : Position → Ledger → Type 0
+abbrev pub SoundAt : Position → Ledger → Type 0
 SoundAt p m = IsSound m × All IsMachineValue p.stack × All IsMachineValue p.scratch
 
 -- ---- the row of an application that stands
 
-stored_row : {P : Type 0} (m : Ledger) (id : ℕ) (row : Application) → at m (item.App id) ≡ value.App row → ((app : StoredApplication) → application_at m id ≡ Some app → app.row ≡ row → P) → P
+pub stored_row : {P : Type 0} (m : Ledger) (id : ℕ) (row : Application) → at m (item.App id) ≡ value.App row → ((app : StoredApplication) → application_at m id ≡ Some app → app.row ≡ row → P) → P
 stored_row m id row is h = the_application m id (row_stands (application_at m id) row is) (λ app there. h app there (same app (sym (ap row_value there) ∙ is)))
   where
     same : (app : StoredApplication) → value.App app.row ≡ value.App row → app.row ≡ row
@@ -176,7 +176,7 @@ steps_sound call header may id row p m i next read is k =
     along-free (at m) (IsThere m) (OnOk Fit) (OnOk (λ after. (place : ℕ) (w : Writes m (context_at e p) after.writes) → SoundAt (position_after p after place) (led m (context_at e p) after.writes w))) t
     (step_ok e p m f) (effect_fits m (context_at e p) f i.opcode i.immediates (read_fits (program_of call.completion row) p.place i next program read))
 
-sound_kept : (call : CallData) (header : Header) → MayCall call header → IsKept call header IsSound SoundAt
+pub sound_kept : (call : CallData) (header : Header) → MayCall call header → IsKept call header IsSound SoundAt
 sound_kept call header may = record {
   new = new_sound call header may;
   opted_in = opted_sound call header may;

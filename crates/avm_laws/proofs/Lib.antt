@@ -10,6 +10,7 @@ pub mod CallChanges
 pub mod MachineValues
 pub mod Digests
 pub mod FittingRows
+pub mod BoundedRows
 pub mod ProgramValues
 pub mod SoundPuts
 pub mod KeptRules
@@ -24,3 +25,4 @@ pub mod Apart
 pub mod CheckedCalls
 pub mod LedgerLooks
 pub mod LaterLedgers
+pub mod BoundedCalls

@@ -29,138 +29,138 @@ IsWord n = n < 2 ^ 64
 
 -- ---- operands
 
-first : (v : Value) (s : List Value) → All IsMachineValue (v ∷ s) → IsMachineValue v
-first v s all = All-head IsMachineValue v s all
+first : (P : Value → Type 0) (v : Value) (s : List Value) → All P (v ∷ s) → P v
+first P v s all = All-head P v s all
 
-second : (v w : Value) (s : List Value) → All IsMachineValue (v ∷ w ∷ s) → IsMachineValue w
-second v w s all = first w s (All-tail IsMachineValue v (w ∷ s) all)
+second : (P : Value → Type 0) (v w : Value) (s : List Value) → All P (v ∷ w ∷ s) → P w
+second P v w s all = first P w s (All-tail P v (w ∷ s) all)
 
-third : (u v w : Value) (s : List Value) → All IsMachineValue (u ∷ v ∷ w ∷ s) → IsMachineValue w
-third u v w s all = second v w s (All-tail IsMachineValue u (v ∷ w ∷ s) all)
+third : (P : Value → Type 0) (u v w : Value) (s : List Value) → All P (u ∷ v ∷ w ∷ s) → P w
+third P u v w s all = second P v w s (All-tail P u (v ∷ w ∷ s) all)
 
-pub one_uint_fits : (stack : List Value) → All IsMachineValue stack → OkOf (λ a. IsMachineValue (Uint a)) (one_uint stack)
-one_uint_fits [] all = tt
-one_uint_fits (Uint a ∷ s) all = first (Uint a) s all
-one_uint_fits (Bytes a ∷ s) all = tt
+pub one_uint_fits : (P : Value → Type 0) (stack : List Value) → All P stack → OkOf (λ a. P (Uint a)) (one_uint stack)
+one_uint_fits P [] all = tt
+one_uint_fits P (Uint a ∷ s) all = first P (Uint a) s all
+one_uint_fits P (Bytes a ∷ s) all = tt
 
-pub one_bytes_fits : (stack : List Value) → All IsMachineValue stack → OkOf (λ a. IsMachineValue (Bytes a)) (one_bytes stack)
-one_bytes_fits [] all = tt
-one_bytes_fits (Uint a ∷ s) all = tt
-one_bytes_fits (Bytes a ∷ s) all = first (Bytes a) s all
+pub one_bytes_fits : (P : Value → Type 0) (stack : List Value) → All P stack → OkOf (λ a. P (Bytes a)) (one_bytes stack)
+one_bytes_fits P [] all = tt
+one_bytes_fits P (Uint a ∷ s) all = tt
+one_bytes_fits P (Bytes a ∷ s) all = first P (Bytes a) s all
 
-pub one_value_fits : (stack : List Value) → All IsMachineValue stack → OkOf (λ a. IsMachineValue a) (one_value stack)
-one_value_fits [] all = tt
-one_value_fits (a ∷ s) all = first a s all
+pub one_value_fits : (P : Value → Type 0) (stack : List Value) → All P stack → OkOf (λ a. P a) (one_value stack)
+one_value_fits P [] all = tt
+one_value_fits P (a ∷ s) all = first P a s all
 
-pub two_uints_fits : (stack : List Value) → All IsMachineValue stack → OkOf (λ x. IsMachineValue (Uint x.0) × IsMachineValue (Uint x.1)) (two_uints stack)
-two_uints_fits [] all = tt
-two_uints_fits (Uint b ∷ []) all = tt
-two_uints_fits (Bytes b ∷ []) all = tt
-two_uints_fits (Uint b ∷ Uint a ∷ s) all = (second (Uint b) (Uint a) s all, first (Uint b) (Uint a ∷ s) all)
-two_uints_fits (Uint b ∷ Bytes a ∷ s) all = tt
-two_uints_fits (Bytes b ∷ Uint a ∷ s) all = tt
-two_uints_fits (Bytes b ∷ Bytes a ∷ s) all = tt
+pub two_uints_fits : (P : Value → Type 0) (stack : List Value) → All P stack → OkOf (λ x. P (Uint x.0) × P (Uint x.1)) (two_uints stack)
+two_uints_fits P [] all = tt
+two_uints_fits P (Uint b ∷ []) all = tt
+two_uints_fits P (Bytes b ∷ []) all = tt
+two_uints_fits P (Uint b ∷ Uint a ∷ s) all = (second P (Uint b) (Uint a) s all, first P (Uint b) (Uint a ∷ s) all)
+two_uints_fits P (Uint b ∷ Bytes a ∷ s) all = tt
+two_uints_fits P (Bytes b ∷ Uint a ∷ s) all = tt
+two_uints_fits P (Bytes b ∷ Bytes a ∷ s) all = tt
 
-pub two_bytes_fits : (stack : List Value) → All IsMachineValue stack → OkOf (λ x. IsMachineValue (Bytes x.0) × IsMachineValue (Bytes x.1)) (two_bytes stack)
-two_bytes_fits [] all = tt
-two_bytes_fits (Uint b ∷ []) all = tt
-two_bytes_fits (Bytes b ∷ []) all = tt
-two_bytes_fits (Uint b ∷ Uint a ∷ s) all = tt
-two_bytes_fits (Uint b ∷ Bytes a ∷ s) all = tt
-two_bytes_fits (Bytes b ∷ Uint a ∷ s) all = tt
-two_bytes_fits (Bytes b ∷ Bytes a ∷ s) all = (second (Bytes b) (Bytes a) s all, first (Bytes b) (Bytes a ∷ s) all)
+pub two_bytes_fits : (P : Value → Type 0) (stack : List Value) → All P stack → OkOf (λ x. P (Bytes x.0) × P (Bytes x.1)) (two_bytes stack)
+two_bytes_fits P [] all = tt
+two_bytes_fits P (Uint b ∷ []) all = tt
+two_bytes_fits P (Bytes b ∷ []) all = tt
+two_bytes_fits P (Uint b ∷ Uint a ∷ s) all = tt
+two_bytes_fits P (Uint b ∷ Bytes a ∷ s) all = tt
+two_bytes_fits P (Bytes b ∷ Uint a ∷ s) all = tt
+two_bytes_fits P (Bytes b ∷ Bytes a ∷ s) all = (second P (Bytes b) (Bytes a) s all, first P (Bytes b) (Bytes a ∷ s) all)
 
-pub two_values_fits : (stack : List Value) → All IsMachineValue stack → OkOf (λ x. IsMachineValue x.0 × IsMachineValue x.1) (two_values stack)
-two_values_fits [] all = tt
-two_values_fits (b ∷ []) all = tt
-two_values_fits (b ∷ a ∷ s) all = (second b a s all, first b (a ∷ s) all)
+pub two_values_fits : (P : Value → Type 0) (stack : List Value) → All P stack → OkOf (λ x. P x.0 × P x.1) (two_values stack)
+two_values_fits P [] all = tt
+two_values_fits P (b ∷ []) all = tt
+two_values_fits P (b ∷ a ∷ s) all = (second P b a s all, first P b (a ∷ s) all)
 
-pub uint_and_bytes_fits : (stack : List Value) → All IsMachineValue stack → OkOf (λ x. IsMachineValue (Uint x.0) × IsMachineValue (Bytes x.1)) (uint_and_bytes stack)
-uint_and_bytes_fits [] all = tt
-uint_and_bytes_fits (Uint b ∷ []) all = tt
-uint_and_bytes_fits (Bytes b ∷ []) all = tt
-uint_and_bytes_fits (Uint b ∷ Uint a ∷ s) all = tt
-uint_and_bytes_fits (Uint b ∷ Bytes a ∷ s) all = tt
-uint_and_bytes_fits (Bytes b ∷ Uint a ∷ s) all = (second (Bytes b) (Uint a) s all, first (Bytes b) (Uint a ∷ s) all)
-uint_and_bytes_fits (Bytes b ∷ Bytes a ∷ s) all = tt
+pub uint_and_bytes_fits : (P : Value → Type 0) (stack : List Value) → All P stack → OkOf (λ x. P (Uint x.0) × P (Bytes x.1)) (uint_and_bytes stack)
+uint_and_bytes_fits P [] all = tt
+uint_and_bytes_fits P (Uint b ∷ []) all = tt
+uint_and_bytes_fits P (Bytes b ∷ []) all = tt
+uint_and_bytes_fits P (Uint b ∷ Uint a ∷ s) all = tt
+uint_and_bytes_fits P (Uint b ∷ Bytes a ∷ s) all = tt
+uint_and_bytes_fits P (Bytes b ∷ Uint a ∷ s) all = (second P (Bytes b) (Uint a) s all, first P (Bytes b) (Uint a ∷ s) all)
+uint_and_bytes_fits P (Bytes b ∷ Bytes a ∷ s) all = tt
 
-pub bytes_and_uint_fits : (stack : List Value) → All IsMachineValue stack → OkOf (λ x. IsMachineValue (Bytes x.0) × IsMachineValue (Uint x.1)) (bytes_and_uint stack)
-bytes_and_uint_fits [] all = tt
-bytes_and_uint_fits (Uint b ∷ []) all = tt
-bytes_and_uint_fits (Bytes b ∷ []) all = tt
-bytes_and_uint_fits (Uint b ∷ Uint a ∷ s) all = tt
-bytes_and_uint_fits (Uint b ∷ Bytes a ∷ s) all = (second (Uint b) (Bytes a) s all, first (Uint b) (Bytes a ∷ s) all)
-bytes_and_uint_fits (Bytes b ∷ Uint a ∷ s) all = tt
-bytes_and_uint_fits (Bytes b ∷ Bytes a ∷ s) all = tt
+pub bytes_and_uint_fits : (P : Value → Type 0) (stack : List Value) → All P stack → OkOf (λ x. P (Bytes x.0) × P (Uint x.1)) (bytes_and_uint stack)
+bytes_and_uint_fits P [] all = tt
+bytes_and_uint_fits P (Uint b ∷ []) all = tt
+bytes_and_uint_fits P (Bytes b ∷ []) all = tt
+bytes_and_uint_fits P (Uint b ∷ Uint a ∷ s) all = tt
+bytes_and_uint_fits P (Uint b ∷ Bytes a ∷ s) all = (second P (Uint b) (Bytes a) s all, first P (Uint b) (Bytes a ∷ s) all)
+bytes_and_uint_fits P (Bytes b ∷ Uint a ∷ s) all = tt
+bytes_and_uint_fits P (Bytes b ∷ Bytes a ∷ s) all = tt
 
-pub bytes_and_value_fits : (stack : List Value) → All IsMachineValue stack → OkOf (λ x. IsMachineValue (Bytes x.0) × IsMachineValue x.1) (bytes_and_value stack)
-bytes_and_value_fits [] all = tt
-bytes_and_value_fits (b ∷ []) all = tt
-bytes_and_value_fits (b ∷ Uint a ∷ s) all = tt
-bytes_and_value_fits (b ∷ Bytes a ∷ s) all = (second b (Bytes a) s all, first b (Bytes a ∷ s) all)
+pub bytes_and_value_fits : (P : Value → Type 0) (stack : List Value) → All P stack → OkOf (λ x. P (Bytes x.0) × P x.1) (bytes_and_value stack)
+bytes_and_value_fits P [] all = tt
+bytes_and_value_fits P (b ∷ []) all = tt
+bytes_and_value_fits P (b ∷ Uint a ∷ s) all = tt
+bytes_and_value_fits P (b ∷ Bytes a ∷ s) all = (second P b (Bytes a) s all, first P b (Bytes a ∷ s) all)
 
-pub value_and_uint_fits : (stack : List Value) → All IsMachineValue stack → OkOf (λ x. IsMachineValue x.0 × IsMachineValue (Uint x.1)) (value_and_uint stack)
-value_and_uint_fits [] all = tt
-value_and_uint_fits (Uint b ∷ []) all = tt
-value_and_uint_fits (Bytes b ∷ []) all = tt
-value_and_uint_fits (Uint b ∷ a ∷ s) all = (second (Uint b) a s all, first (Uint b) (a ∷ s) all)
-value_and_uint_fits (Bytes b ∷ a ∷ s) all = tt
+pub value_and_uint_fits : (P : Value → Type 0) (stack : List Value) → All P stack → OkOf (λ x. P x.0 × P (Uint x.1)) (value_and_uint stack)
+value_and_uint_fits P [] all = tt
+value_and_uint_fits P (Uint b ∷ []) all = tt
+value_and_uint_fits P (Bytes b ∷ []) all = tt
+value_and_uint_fits P (Uint b ∷ a ∷ s) all = (second P (Uint b) a s all, first P (Uint b) (a ∷ s) all)
+value_and_uint_fits P (Bytes b ∷ a ∷ s) all = tt
 
-pub bytes_and_two_uints_fits : (stack : List Value) → All IsMachineValue stack → OkOf (λ x. IsMachineValue (Bytes x.0) × IsMachineValue (Uint x.1) × IsMachineValue (Uint x.2)) (bytes_and_two_uints stack)
-bytes_and_two_uints_fits [] all = tt
-bytes_and_two_uints_fits (Uint c ∷ []) all = tt
-bytes_and_two_uints_fits (Bytes c ∷ []) all = tt
-bytes_and_two_uints_fits (Uint c ∷ Uint b ∷ []) all = tt
-bytes_and_two_uints_fits (Uint c ∷ Bytes b ∷ []) all = tt
-bytes_and_two_uints_fits (Bytes c ∷ Uint b ∷ []) all = tt
-bytes_and_two_uints_fits (Bytes c ∷ Bytes b ∷ []) all = tt
-bytes_and_two_uints_fits (Uint c ∷ Uint b ∷ Uint a ∷ s) all = tt
-bytes_and_two_uints_fits (Uint c ∷ Uint b ∷ Bytes a ∷ s) all = (third (Uint c) (Uint b) (Bytes a) s all, second (Uint c) (Uint b) (Bytes a ∷ s) all, first (Uint c) (Uint b ∷ Bytes a ∷ s) all)
-bytes_and_two_uints_fits (Uint c ∷ Bytes b ∷ Uint a ∷ s) all = tt
-bytes_and_two_uints_fits (Uint c ∷ Bytes b ∷ Bytes a ∷ s) all = tt
-bytes_and_two_uints_fits (Bytes c ∷ Uint b ∷ Uint a ∷ s) all = tt
-bytes_and_two_uints_fits (Bytes c ∷ Uint b ∷ Bytes a ∷ s) all = tt
-bytes_and_two_uints_fits (Bytes c ∷ Bytes b ∷ Uint a ∷ s) all = tt
-bytes_and_two_uints_fits (Bytes c ∷ Bytes b ∷ Bytes a ∷ s) all = tt
+pub bytes_and_two_uints_fits : (P : Value → Type 0) (stack : List Value) → All P stack → OkOf (λ x. P (Bytes x.0) × P (Uint x.1) × P (Uint x.2)) (bytes_and_two_uints stack)
+bytes_and_two_uints_fits P [] all = tt
+bytes_and_two_uints_fits P (Uint c ∷ []) all = tt
+bytes_and_two_uints_fits P (Bytes c ∷ []) all = tt
+bytes_and_two_uints_fits P (Uint c ∷ Uint b ∷ []) all = tt
+bytes_and_two_uints_fits P (Uint c ∷ Bytes b ∷ []) all = tt
+bytes_and_two_uints_fits P (Bytes c ∷ Uint b ∷ []) all = tt
+bytes_and_two_uints_fits P (Bytes c ∷ Bytes b ∷ []) all = tt
+bytes_and_two_uints_fits P (Uint c ∷ Uint b ∷ Uint a ∷ s) all = tt
+bytes_and_two_uints_fits P (Uint c ∷ Uint b ∷ Bytes a ∷ s) all = (third P (Uint c) (Uint b) (Bytes a) s all, second P (Uint c) (Uint b) (Bytes a ∷ s) all, first P (Uint c) (Uint b ∷ Bytes a ∷ s) all)
+bytes_and_two_uints_fits P (Uint c ∷ Bytes b ∷ Uint a ∷ s) all = tt
+bytes_and_two_uints_fits P (Uint c ∷ Bytes b ∷ Bytes a ∷ s) all = tt
+bytes_and_two_uints_fits P (Bytes c ∷ Uint b ∷ Uint a ∷ s) all = tt
+bytes_and_two_uints_fits P (Bytes c ∷ Uint b ∷ Bytes a ∷ s) all = tt
+bytes_and_two_uints_fits P (Bytes c ∷ Bytes b ∷ Uint a ∷ s) all = tt
+bytes_and_two_uints_fits P (Bytes c ∷ Bytes b ∷ Bytes a ∷ s) all = tt
 
-pub value_and_two_uints_fits : (stack : List Value) → All IsMachineValue stack → OkOf (λ x. IsMachineValue x.0 × IsMachineValue (Uint x.1) × IsMachineValue (Uint x.2)) (value_and_two_uints stack)
-value_and_two_uints_fits [] all = tt
-value_and_two_uints_fits (Uint c ∷ []) all = tt
-value_and_two_uints_fits (Bytes c ∷ []) all = tt
-value_and_two_uints_fits (Uint c ∷ Uint b ∷ []) all = tt
-value_and_two_uints_fits (Uint c ∷ Bytes b ∷ []) all = tt
-value_and_two_uints_fits (Bytes c ∷ Uint b ∷ []) all = tt
-value_and_two_uints_fits (Bytes c ∷ Bytes b ∷ []) all = tt
-value_and_two_uints_fits (Uint c ∷ Uint b ∷ a ∷ s) all = (third (Uint c) (Uint b) a s all, second (Uint c) (Uint b) (a ∷ s) all, first (Uint c) (Uint b ∷ a ∷ s) all)
-value_and_two_uints_fits (Uint c ∷ Bytes b ∷ a ∷ s) all = tt
-value_and_two_uints_fits (Bytes c ∷ Uint b ∷ a ∷ s) all = tt
-value_and_two_uints_fits (Bytes c ∷ Bytes b ∷ a ∷ s) all = tt
+pub value_and_two_uints_fits : (P : Value → Type 0) (stack : List Value) → All P stack → OkOf (λ x. P x.0 × P (Uint x.1) × P (Uint x.2)) (value_and_two_uints stack)
+value_and_two_uints_fits P [] all = tt
+value_and_two_uints_fits P (Uint c ∷ []) all = tt
+value_and_two_uints_fits P (Bytes c ∷ []) all = tt
+value_and_two_uints_fits P (Uint c ∷ Uint b ∷ []) all = tt
+value_and_two_uints_fits P (Uint c ∷ Bytes b ∷ []) all = tt
+value_and_two_uints_fits P (Bytes c ∷ Uint b ∷ []) all = tt
+value_and_two_uints_fits P (Bytes c ∷ Bytes b ∷ []) all = tt
+value_and_two_uints_fits P (Uint c ∷ Uint b ∷ a ∷ s) all = (third P (Uint c) (Uint b) a s all, second P (Uint c) (Uint b) (a ∷ s) all, first P (Uint c) (Uint b ∷ a ∷ s) all)
+value_and_two_uints_fits P (Uint c ∷ Bytes b ∷ a ∷ s) all = tt
+value_and_two_uints_fits P (Bytes c ∷ Uint b ∷ a ∷ s) all = tt
+value_and_two_uints_fits P (Bytes c ∷ Bytes b ∷ a ∷ s) all = tt
 
-pub two_values_and_uint_fits : (stack : List Value) → All IsMachineValue stack → OkOf (λ x. IsMachineValue x.0 × IsMachineValue x.1 × IsMachineValue (Uint x.2)) (two_values_and_uint stack)
-two_values_and_uint_fits [] all = tt
-two_values_and_uint_fits (Uint c ∷ []) all = tt
-two_values_and_uint_fits (Bytes c ∷ []) all = tt
-two_values_and_uint_fits (Uint c ∷ b ∷ []) all = tt
-two_values_and_uint_fits (Bytes c ∷ b ∷ []) all = tt
-two_values_and_uint_fits (Uint c ∷ b ∷ a ∷ s) all = (third (Uint c) b a s all, second (Uint c) b (a ∷ s) all, first (Uint c) (b ∷ a ∷ s) all)
-two_values_and_uint_fits (Bytes c ∷ b ∷ a ∷ s) all = tt
+pub two_values_and_uint_fits : (P : Value → Type 0) (stack : List Value) → All P stack → OkOf (λ x. P x.0 × P x.1 × P (Uint x.2)) (two_values_and_uint stack)
+two_values_and_uint_fits P [] all = tt
+two_values_and_uint_fits P (Uint c ∷ []) all = tt
+two_values_and_uint_fits P (Bytes c ∷ []) all = tt
+two_values_and_uint_fits P (Uint c ∷ b ∷ []) all = tt
+two_values_and_uint_fits P (Bytes c ∷ b ∷ []) all = tt
+two_values_and_uint_fits P (Uint c ∷ b ∷ a ∷ s) all = (third P (Uint c) b a s all, second P (Uint c) b (a ∷ s) all, first P (Uint c) (b ∷ a ∷ s) all)
+two_values_and_uint_fits P (Bytes c ∷ b ∷ a ∷ s) all = tt
 
-pub two_uints_and_bytes_fits : (stack : List Value) → All IsMachineValue stack → OkOf (λ x. IsMachineValue (Uint x.0) × IsMachineValue (Uint x.1) × IsMachineValue (Bytes x.2)) (two_uints_and_bytes stack)
-two_uints_and_bytes_fits [] all = tt
-two_uints_and_bytes_fits (Uint c ∷ []) all = tt
-two_uints_and_bytes_fits (Bytes c ∷ []) all = tt
-two_uints_and_bytes_fits (Uint c ∷ Uint b ∷ []) all = tt
-two_uints_and_bytes_fits (Uint c ∷ Bytes b ∷ []) all = tt
-two_uints_and_bytes_fits (Bytes c ∷ Uint b ∷ []) all = tt
-two_uints_and_bytes_fits (Bytes c ∷ Bytes b ∷ []) all = tt
-two_uints_and_bytes_fits (Uint c ∷ Uint b ∷ Uint a ∷ s) all = tt
-two_uints_and_bytes_fits (Uint c ∷ Uint b ∷ Bytes a ∷ s) all = tt
-two_uints_and_bytes_fits (Uint c ∷ Bytes b ∷ Uint a ∷ s) all = tt
-two_uints_and_bytes_fits (Uint c ∷ Bytes b ∷ Bytes a ∷ s) all = tt
-two_uints_and_bytes_fits (Bytes c ∷ Uint b ∷ Uint a ∷ s) all = (third (Bytes c) (Uint b) (Uint a) s all, second (Bytes c) (Uint b) (Uint a ∷ s) all, first (Bytes c) (Uint b ∷ Uint a ∷ s) all)
-two_uints_and_bytes_fits (Bytes c ∷ Uint b ∷ Bytes a ∷ s) all = tt
-two_uints_and_bytes_fits (Bytes c ∷ Bytes b ∷ Uint a ∷ s) all = tt
-two_uints_and_bytes_fits (Bytes c ∷ Bytes b ∷ Bytes a ∷ s) all = tt
+pub two_uints_and_bytes_fits : (P : Value → Type 0) (stack : List Value) → All P stack → OkOf (λ x. P (Uint x.0) × P (Uint x.1) × P (Bytes x.2)) (two_uints_and_bytes stack)
+two_uints_and_bytes_fits P [] all = tt
+two_uints_and_bytes_fits P (Uint c ∷ []) all = tt
+two_uints_and_bytes_fits P (Bytes c ∷ []) all = tt
+two_uints_and_bytes_fits P (Uint c ∷ Uint b ∷ []) all = tt
+two_uints_and_bytes_fits P (Uint c ∷ Bytes b ∷ []) all = tt
+two_uints_and_bytes_fits P (Bytes c ∷ Uint b ∷ []) all = tt
+two_uints_and_bytes_fits P (Bytes c ∷ Bytes b ∷ []) all = tt
+two_uints_and_bytes_fits P (Uint c ∷ Uint b ∷ Uint a ∷ s) all = tt
+two_uints_and_bytes_fits P (Uint c ∷ Uint b ∷ Bytes a ∷ s) all = tt
+two_uints_and_bytes_fits P (Uint c ∷ Bytes b ∷ Uint a ∷ s) all = tt
+two_uints_and_bytes_fits P (Uint c ∷ Bytes b ∷ Bytes a ∷ s) all = tt
+two_uints_and_bytes_fits P (Bytes c ∷ Uint b ∷ Uint a ∷ s) all = (third P (Bytes c) (Uint b) (Uint a) s all, second P (Bytes c) (Uint b) (Uint a ∷ s) all, first P (Bytes c) (Uint b ∷ Uint a ∷ s) all)
+two_uints_and_bytes_fits P (Bytes c ∷ Uint b ∷ Bytes a ∷ s) all = tt
+two_uints_and_bytes_fits P (Bytes c ∷ Bytes b ∷ Uint a ∷ s) all = tt
+two_uints_and_bytes_fits P (Bytes c ∷ Bytes b ∷ Bytes a ∷ s) all = tt
 
 pub get_fits : {A : Type 0} (P : A → Type 0) (xs : List A) (i : ℕ) → All P xs → IfSome (slice_get xs i) P
 get_fits P [] i all = tt

@@ -1,5 +1,5 @@
 -- The constants of a program are values that a machine may have.
-use Rattle.std.proofs.Common.{◌≡◌, ℕ, ◌-◌, ◌<◌, List, [], ◌∷◌, ◌++◌, length, drop, Option, None, Some, Result, Ok, Err, refl, ap, subst}
+use Rattle.std.proofs.Common.{◌≡◌, ℕ, ◌+◌, ◌-◌, ◌<◌, List, [], ◌∷◌, ◌++◌, length, drop, Option, None, Some, Result, Ok, Err, refl, ap, ◌∙◌, subst, arith, length-append, length-drop}
 use Rattle.std.specs.Prelude.{All}
 use Rattle.std.proofs.lemmas.List.Elements.{All-nil, All-cons, All-drop, All-head, All-tail}
 use Rattle.teal_value.specs.Answer.{◌>>=◌}
@@ -20,6 +20,7 @@ use Rattle.avm_call.specs.Runs.{version_at, instruction_at, uint_constants_at, b
 use Rattle.avm_laws.specs.Rules.{AreBytes, IsMachineValue}
 use Rattle.avm_laws.proofs.MachineValues.{IsWord}
 use Rattle.avm_laws.proofs.FittingRows.{FitsImmediates}
+use Rattle.avm_laws.proofs.BoundedRows.{IsShort, AreShortImmediates}
 
 pub front_all : {A : Type 0} (P : A → Type 0) (xs ys : List A) → All P (xs ++ ys) → All P xs
 front_all P [] ys all = All-nil P
@@ -76,6 +77,42 @@ read_by program place i next all (Ok (j, rest)) is e =
 pub read_fits : (program : List ℕ) (place : ℕ) (i : Instr) (next : ℕ) → AreBytes program → instruction_at program place ≡ Ok (i, next) → FitsImmediates i.immediates
 read_fits program place i next all e = read_by program place i next all (instr_at (version_at program).0 (drop place program)) refl e
 
+-- ---- byte strings in a short program
+
+string_short : (s text : List ℕ) → IsShort text → IsString text s → IsShort s
+string_short s text few (front, parts, long) = omega (arith, few, ap length parts ∙ length-append front s)
+
+strings_short : (ss : List (List ℕ)) (text : List ℕ) → IsShort text → Each IsString ss text → All IsShort ss
+strings_short [] text few h = All-nil IsShort
+strings_short (s ∷ ss) text few (front, rest, parts, one, more) =
+    let long : length text ≡ length front + length rest = ap length parts ∙ length-append front rest in
+    All-cons IsShort s ss (string_short s front (omega (arith, few, long)) one) (strings_short ss rest (omega (arith, few, long)) more)
+
+immediates_short : (s : Shape) (i : Immediates) (text : List ℕ) → IsShort text → AreImmediates s i text → AreShortImmediates i
+immediates_short shape.Bytes (is.Bytes s) text few h = string_short s text few h
+immediates_short shape.ByteBlock (is.ByteBlock ss) text few (front, rest, parts, count, each) = strings_short ss rest (omega (arith, few, ap length parts ∙ length-append front rest)) each
+immediates_short s (is.Bytes t) text few h = absurd h
+immediates_short s (is.ByteBlock ss) text few h = absurd h
+immediates_short s i text few h = tt
+
+spelled_short : (version : Version) (text : List ℕ) (i : Instr) → IsShort text → Spells version text i → AreShortImmediates i.immediates
+spelled_short version [] i few h = absurd h
+spelled_short version (code ∷ text) i few h = immediates_short (row_of i.opcode).immediates i.immediates text (omega (arith, few)) h.1
+
+first_short : (version : Version) (bytes : List ℕ) (i : Instr) (rest : List ℕ) → IsShort bytes → instr_at version bytes ≡ Ok (i, rest) → AreShortImmediates i.immediates
+first_short version bytes i rest few e =
+    let t = instr_sound version bytes i rest e in
+    spelled_short version t.front i (omega (arith, few, ap length t.parts ∙ length-append t.front rest)) t.spelled
+
+short_by : (program : List ℕ) (place : ℕ) (i : Instr) (next : ℕ) → IsShort program → (r : Read Instr) → instr_at (version_at program).0 (drop place program) ≡ r
+    → ◌≡◌ {A = Result (Instr × ℕ) CodeFault} (r >>= λ x. Ok (x.0, length program - length x.1)) (Ok (i, next)) → AreShortImmediates i.immediates
+short_by program place i next few (Err f) is e = absurd cc
+short_by program place i next few (Ok (j, rest)) is e =
+    subst (λ k. AreShortImmediates k.immediates) (instruction_is e) (first_short (version_at program).0 (drop place program) j rest (omega (arith, few, length-drop place program)) is)
+
+pub read_short : (program : List ℕ) (place : ℕ) (i : Instr) (next : ℕ) → IsShort program → instruction_at program place ≡ Ok (i, next) → AreShortImmediates i.immediates
+read_short program place i next few e = short_by program place i next few (instr_at (version_at program).0 (drop place program)) refl e
+
 -- ---- constants in force
 
 abbrev uint_block : Immediates → Option (List ℕ)
@@ -118,3 +155,16 @@ strings_by program place earlier bytes all (Err f) e = all
 pub byte_strings_fit : (program passed : List ℕ) → AreBytes program → All (λ s. IsMachineValue (Bytes s)) (byte_constants_at program passed)
 byte_strings_fit program [] bytes = All-nil (λ s. IsMachineValue (Bytes s))
 byte_strings_fit program (place ∷ passed) bytes = strings_by program place (byte_constants_at program passed) bytes (byte_strings_fit program passed bytes) (instruction_at program place) refl
+
+short_or : (i : Immediates) (earlier : List (List ℕ)) → AreShortImmediates i → All IsShort earlier → All IsShort (block_or (byte_block i) earlier)
+short_or (is.ByteBlock ss) earlier h all = h
+short_or _ earlier h all = all
+
+constants_by : (program : List ℕ) (place : ℕ) (earlier : List (List ℕ)) → IsShort program → All IsShort earlier → (r : Result (Instr × ℕ) CodeFault) → instruction_at program place ≡ r
+    → All IsShort (block_or (block_in byte_block r) earlier)
+constants_by program place earlier few all (Ok (i, next)) e = short_or i.immediates earlier (read_short program place i next few e) all
+constants_by program place earlier few all (Err f) e = all
+
+pub constants_short : (program passed : List ℕ) → IsShort program → All IsShort (byte_constants_at program passed)
+constants_short program [] few = All-nil IsShort
+constants_short program (place ∷ passed) few = constants_by program place (byte_constants_at program passed) few (constants_short program passed few) (instruction_at program place) refl

@@ -5,3 +5,4 @@ pub mod KnownValues
 pub mod Rules
 pub mod Spellings
 pub mod LedgerLooks
+pub mod Bounds

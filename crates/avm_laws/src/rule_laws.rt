@@ -1,5 +1,6 @@
-//! That calls keep the rules of ledgers.
+//! That calls keep the rules of ledgers, and their runs the bounds of the stack and of byte strings.
 
+ghost use Rattle.avm_laws.specs.Bounds.{RunsStayWithinBounds};
 ghost use Rattle.avm_laws.specs.Orderly.{EveryCallKeepsOrder, ReplaysKeepOrder, RulesMakeOrderly};
 ghost use Rattle.avm_laws.specs.Rules.{CheckedCallsBringPrograms, EmptyIsSound, EveryCallKeepsTheRules, ReadCallsAreOfBytes, ReadLedgersAreSound, ReplaysKeepTheRules, WritesKeepTheRules};
 
@@ -37,4 +38,10 @@ pub fn every_call_keeps_order()
     ensures call { EveryCallKeepsOrder }
     ensures calls { ReplaysKeepOrder }
     ensures rules { RulesMakeOrderly }
+{}
+
+/// A call that breaks no rule of calls, over a ledger that keeps the rules, never has more than 1000 values on its stack, nor
+/// a byte string of more than 4096 bytes there or in its scratch space.
+pub fn runs_stay_within_bounds()
+    ensures { RunsStayWithinBounds }
 {}

@@ -1,3 +1,4 @@
 pub mod Asked
 pub mod TakenOperands
+pub mod LeftValues
 pub mod Sets

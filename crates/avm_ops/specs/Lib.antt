@@ -9,3 +9,5 @@ pub mod Effect
 pub mod Steps
 pub mod Objects
 pub mod TakenOperands
+pub mod LeftValues
+pub mod FaultNames

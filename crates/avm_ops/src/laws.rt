@@ -1,5 +1,6 @@
 //! The laws of instructions, each the contract of a function without work.
 
+ghost use Rattle.avm_ops.specs.LeftValues.{LeavesItsRow};
 ghost use Rattle.avm_ops.specs.Steps.{AsksLittle};
 ghost use Rattle.avm_ops.specs.TakenOperands.{Underflows, TestsTypes};
 
@@ -12,4 +13,10 @@ pub fn asks_little()
 pub fn tests_operands_first()
     ensures underflow { Underflows }
     ensures types { TestsTypes }
+{}
+
+/// An instruction behind which a run goes on replaces the operands that the opcode table names by values of the kinds that
+/// it names, and leaves the stack below them.
+pub fn leaves_its_row()
+    ensures { LeavesItsRow }
 {}

@@ -4,12 +4,14 @@ ghost use Rattle.std.specs.Prelude.{◌≡◌, None, IfErr, IfNone, IfOk, IfSome
 ghost use Rattle.std.specs.Option.{option_copied};
 ghost use Rattle.teal_table.specs.declared.opcode.Opcode.{Opcode};
 ghost use Rattle.teal_table.specs.Table.{code_of};
+ghost use Rattle.avm_ops.specs.FaultNames.{push_fault_name};
 ghost use Rattle.avm_ops.specs.Objects.{Has, IsFull, IsLeastMissing, object_at, with_object};
 
 use crate::op::{BoxedOp, Op};
 use std::alloc::{AllocError, Global};
 use std::marker::Model;
 use teal_table::Opcode;
+use thiserror::Error;
 
 /// A set of objects, one an opcode, which contracts see as the list of its 256 slots.
 #[derive(Drop)]
@@ -29,10 +31,22 @@ impl<O> Model for Ops<O> {
 }
 
 /// Why an object was not added.
-#[derive(Clone, Copy, Debug, PartialEq, Eq)]
+#[derive(Clone, Copy, Debug, PartialEq, Eq, Error)]
+#[error("{name}", name = self.name())]
 pub enum PushFault {
     /// One of its opcode is there.
     Twice = 1,
+}
+
+impl PushFault {
+    /// Its name.
+    pub fn name(self) -> &'static str
+        ensures { result.now ≡ push_fault_name self }
+    {
+        match self {
+            PushFault::Twice => "Twice",
+        }
+    }
 }
 
 impl<O: Op> Ops<O> {
