@@ -105,7 +105,8 @@ fn copied(alloc: Global, strings: &[ByteString]) -> Result<ByteStrings, AllocErr
 }
 
 impl Cpu {
-    /// The machine before a program's first instruction, which stands at the place.
+    /// The machine before a program's first instruction, which stands at the place. It is made out of line, as its parts are.
+    #[inline(never)]
     pub fn new(alloc: Global, place: u16) -> Result<Cpu, AllocError>
         ensures { IfOk result (λ cpu. cpu ≡ machine_at place) }
     {

@@ -11,4 +11,5 @@ mod Alive
 mod Leading
 mod Answering
 mod Showing
+mod KnownItems
 pub mod FinishedCalls

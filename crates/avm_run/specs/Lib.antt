@@ -5,4 +5,6 @@ pub mod Progress
 pub mod RunState
 pub mod Advances
 pub mod Showing
+pub mod Knowing
 pub mod FinishedCalls
+pub mod FaultNames

@@ -1,25 +1,37 @@
 //! A run of a call, which stops at each item that it was not supplied with.
 
-ghost use Rattle.std.specs.Prelude.{◌≡◌, [], None, Some, IfOk};
+ghost use Rattle.std.specs.Prelude.{◌≡◌, [], None, Ok, Some, IfOk};
+ghost use Rattle.std.specs.Option.{option_copied};
 ghost use Rattle.std.specs.Result.{result_err};
+ghost use Rattle.avm_items.specs.Asks.{answer_from};
+ghost use Rattle.avm_items.specs.Items.{value_in};
+ghost use Rattle.avm_call.specs.AskedFor.{AreAskedFor};
+ghost use Rattle.avm_call.specs.Calls.{call_result};
 ghost use Rattle.avm_ops.specs.Objects.{IsFull};
+ghost use Rattle.avm_run.specs.declared.call_run.State.TheVariants as state;
 ghost use Rattle.avm_run.specs.Advances.{Advances, Steps, Supplies};
+ghost use Rattle.avm_run.specs.FaultNames.{run_fault_name};
+ghost use Rattle.avm_run.specs.Knowing.{Knows};
+ghost use Rattle.avm_run.specs.RunState.{is_asked};
 ghost use Rattle.avm_run.specs.Showing.{Shows};
 
 use crate::finished::Finished;
-use crate::live::{Live, Ran, Went, run_on, step_on};
+use crate::phase::{Closed, Phase, Ran, Went, run_on, step_on};
 use crate::shown::Shown;
 use avm_call::{Call, Ended};
 use avm_cpu::Cpu;
-use avm_items::{Item, ItemValue};
+use avm_items::{Item, ItemMap, ItemValue};
 use avm_ledger::Header;
 use avm_ops::{BoxedOp, Op, OpSet};
 use std::alloc::{AllocError, Global};
+use std::cmp::Ordering;
 use std::marker::Model;
 use std::mem;
+use thiserror::Error;
 
 /// Why a run gives no answer.
-#[derive(Clone, Copy, Debug, PartialEq, Eq)]
+#[derive(Clone, Copy, Debug, PartialEq, Eq, Error)]
+#[error("{name}", name = self.name())]
 pub enum RunFault {
     /// The item was not asked for.
     NotAsked,
@@ -27,6 +39,19 @@ pub enum RunFault {
     Spent,
     /// Memory was refused. The run is spent.
     Memory,
+}
+
+impl RunFault {
+    /// Its name.
+    pub fn name(self) -> &'static str
+        ensures { result.now ≡ run_fault_name self }
+    {
+        match self {
+            RunFault::NotAsked => "NotAsked",
+            RunFault::Spent => "Spent",
+            RunFault::Memory => "Memory",
+        }
+    }
 }
 
 /// What a run comes to.
@@ -52,10 +77,73 @@ pub enum Step {
     Done(Finished),
 }
 
+/// A run that may go on.
+#[derive(Drop)]
+pub(crate) struct Live {
+    pub call: Call,
+    pub header: Header,
+    pub phase: Phase,
+    /// The item that it asked for and was not supplied with.
+    pub asked: Option<Item>,
+}
+
 #[derive(Drop)]
 pub(crate) enum State {
     Live(Live),
     Spent,
+}
+
+impl Live {
+    /// Whether the run asked for this item.
+    fn asks_for(&self, item: &Item) -> bool
+        ensures { result ≡ is_asked self.now.asked item.now }
+    {
+        match &self.asked {
+            Some(asked) => matches!(asked.cmp(item), Ordering::Equal),
+            None => false,
+        }
+    }
+}
+
+/// A run that has not asked for an item since it was supplied with the last one.
+fn going(call: Call, header: Header, phase: Phase) -> State
+    ensures { result ≡ state.Live (record { call = call; header = header; phase = phase; asked = None }) }
+{
+    State::Live(Live {
+        call,
+        header,
+        phase,
+        asked: None,
+    })
+}
+
+/// A run that asks for this item.
+fn asking(call: Call, header: Header, phase: Phase, item: &Item) -> State
+    ensures { result ≡ state.Live (record { call = call; header = header; phase = phase; asked = Some item.now }) }
+{
+    State::Live(Live {
+        call,
+        header,
+        phase,
+        asked: Some(item.copied()),
+    })
+}
+
+/// The finished call: what it writes without what has the value of before.
+fn finished(call: Call, header: Header, closed: Closed) -> Finished
+    requires result { answer_from (value_in closed.reads) (call_result call header) ≡ Ok (closed.outcome, closed.writes) }
+    requires asked { AreAskedFor closed.reads call header }
+    ensures same { (result.call ≡ call) × (result.header ≡ header) × (result.reads ≡ closed.reads) }
+    ensures outcome { result.outcome ≡ closed.outcome }
+{
+    let Closed {
+        reads,
+        writes,
+        outcome,
+    } = closed;
+    let mut writes = writes;
+    writes.prune(&reads);
+    Finished::new(call, header, reads, writes, outcome)
 }
 
 /// A run of a call, which contracts see as its progress, or as none where it is spent.
@@ -88,9 +176,12 @@ impl CallRun {
     ) -> Result<CallRun, AllocError>
         ensures { IfOk result (λ run. run ≡ Some (record { call = call.now; header = header.now; reads = []; asked = None; steps = None })) }
     {
-        let live = Live::start(alloc, call, header)?;
+        let call = call.clone()?;
+        // That it keeps the rules of calls, its type says.
+        let _fields = call.fields();
+        let phase = Phase::Tests(ItemMap::new(alloc));
         Ok(CallRun {
-            state: State::Live(live),
+            state: going(call, *header, phase),
             spare,
         })
     }
@@ -106,12 +197,25 @@ impl CallRun {
         }
     }
 
+    /// The value of an item, if the program of the run has begun and the value is known: what the call has written; else, of
+    /// a key of the application that it makes, that it is absent; else what the run was supplied with. It is the item's value
+    /// in the ledger with the writes so far, on each ledger that the run may be supplied from; of a key or the counts of an
+    /// application only where the application is known to stand.
+    pub fn value(&self, item: &Item) -> Option<&ItemValue>
+        ensures { Knows self.now item.now (option_copied result) }
+    {
+        match &self.state {
+            State::Live(live) => live.value(item),
+            State::Spent => None,
+        }
+    }
+
     /// The machine of a run, for the next one, if it has one: a run has none whose program has not begun and that was not
     /// handed one, or that was refused memory in its program.
     pub fn into_spare(self) -> Option<Cpu> {
         let CallRun { state, spare } = self;
         match state {
-            State::Live(live) => live.into_machine().or(spare),
+            State::Live(live) => live.phase.into_machine().or(spare),
             State::Spent => spare,
         }
     }
@@ -127,9 +231,15 @@ impl CallRun {
                     self.state = State::Live(live);
                     return Err(RunFault::NotAsked);
                 }
-                match live.supplied(item, value) {
-                    Ok(live) => {
-                        self.state = State::Live(live);
+                let Live {
+                    call,
+                    header,
+                    phase,
+                    asked: _asked,
+                } = live;
+                match phase.supplied(item, value) {
+                    Ok(phase) => {
+                        self.state = going(call, header, phase);
                         Ok(())
                     }
                     Err(AllocError) => Err(RunFault::Memory),
@@ -139,21 +249,30 @@ impl CallRun {
     }
 
     /// Runs on until the call ends or asks for an item that was not supplied. It goes on where it stopped; the tests
-    /// before the program may be made again.
+    /// before the program may be made again. A program makes no more steps than it has instructions, which cost at most 700
+    /// together (AVM specification, "Execution Environment for Smart Contracts").
     pub fn advance(&mut self, alloc: Global, ops: &OpSet) -> Result<Advance, RunFault>
         requires full { IsFull ⟦<BoxedOp as Op>⟧.opcode ops.now }
         ensures { Advances self.old self.new result }
     {
         match mem::replace(&mut self.state, State::Spent) {
             State::Spent => Err(RunFault::Spent),
-            State::Live(live) => match run_on(alloc, ops, live, &mut self.spare) {
-                Ok(Ran::Need(live, item)) => {
-                    self.state = State::Live(live);
-                    Ok(Advance::Need(item))
+            State::Live(live) => {
+                let Live {
+                    call,
+                    header,
+                    phase,
+                    asked: _asked,
+                } = live;
+                match run_on(alloc, ops, &call, &header, phase, &mut self.spare) {
+                    Ok(Ran::Need(phase, item)) => {
+                        self.state = asking(call, header, phase, &item);
+                        Ok(Advance::Need(item))
+                    }
+                    Ok(Ran::Done(closed)) => Ok(Advance::Done(finished(call, header, closed))),
+                    Err(AllocError) => Err(RunFault::Memory),
                 }
-                Ok(Ran::Done(closed)) => Ok(Advance::Done(closed.finished())),
-                Err(AllocError) => Err(RunFault::Memory),
-            },
+            }
         }
     }
 
@@ -167,24 +286,32 @@ impl CallRun {
     {
         match mem::replace(&mut self.state, State::Spent) {
             State::Spent => Err(RunFault::Spent),
-            State::Live(live) => match step_on(alloc, ops, live, &mut self.spare) {
-                Ok(Went::On(live)) => {
-                    self.state = State::Live(live);
-                    Ok(Step::Moved)
-                }
-                Ok(Went::Ends(live, ended)) => {
-                    self.state = State::Live(live);
-                    Ok(Step::Ended(ended))
-                }
-                Ok(Went::Stops(ran)) => match ran {
-                    Ran::Need(live, item) => {
-                        self.state = State::Live(live);
-                        Ok(Step::Need(item))
+            State::Live(live) => {
+                let Live {
+                    call,
+                    header,
+                    phase,
+                    asked: _asked,
+                } = live;
+                match step_on(alloc, ops, &call, &header, phase, &mut self.spare) {
+                    Ok(Went::On(phase)) => {
+                        self.state = going(call, header, phase);
+                        Ok(Step::Moved)
                     }
-                    Ran::Done(closed) => Ok(Step::Done(closed.finished())),
-                },
-                Err(AllocError) => Err(RunFault::Memory),
-            },
+                    Ok(Went::Ends(phase, ended)) => {
+                        self.state = going(call, header, phase);
+                        Ok(Step::Ended(ended))
+                    }
+                    Ok(Went::Stops(ran)) => match ran {
+                        Ran::Need(phase, item) => {
+                            self.state = asking(call, header, phase, &item);
+                            Ok(Step::Need(item))
+                        }
+                        Ran::Done(closed) => Ok(Step::Done(finished(call, header, closed))),
+                    },
+                    Err(AllocError) => Err(RunFault::Memory),
+                }
+            }
         }
     }
 }

@@ -7,9 +7,10 @@ mod admission;
 mod call_run;
 mod ending;
 mod finished;
+mod known;
 pub mod laws;
-mod live;
 mod on_ledger;
+mod phase;
 mod running;
 mod shown;
 

@@ -7,10 +7,10 @@ ghost use Rattle.avm_items.specs.LedgerItems.{at};
 ghost use Rattle.avm_call.specs.Calls.{call_result};
 ghost use Rattle.avm_call.specs.Replay.{ledger_after, outcome_on};
 
-use crate::live::{Closed, Live, Ran, run_on};
+use crate::phase::{Closed, Phase, Ran, run_on};
 use avm_call::{Call, Outcome};
 use avm_cpu::Cpu;
-use avm_items::{item_of, put_items};
+use avm_items::{ItemMap, item_of, put_items};
 use avm_laws::rule_laws::every_call_keeps_order;
 use avm_ledger::{Header, Ledger};
 use avm_ops::{BoxedOp, Op, OpSet};
@@ -73,12 +73,14 @@ fn run_over(
     requires full { IsFull ⟦<BoxedOp as Op>⟧.opcode ops.now }
     ensures { IfOk result (λ closed. (closed.outcome, closed.writes) ≡ result_over (at ledger.now) (call_result call.now header.now)) }
 {
-    let mut live = Live::start(alloc, call, header)?;
+    // That the call keeps the rules of calls, its type says.
+    let _fields = call.fields();
+    let mut phase = Phase::Tests(ItemMap::new(alloc));
     loop {
-        match run_on(alloc, ops, live, spare)? {
+        match run_on(alloc, ops, call, header, phase, spare)? {
             Ran::Need(asking, item) => {
                 let value = item_of(ledger, &item)?;
-                live = asking.supplied(item, value)?;
+                phase = asking.supplied(item, value)?;
             }
             Ran::Done(closed) => return Ok(closed),
         }

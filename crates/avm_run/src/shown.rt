@@ -6,7 +6,8 @@ ghost use Rattle.avm_run.specs.Progress.{Follows};
 ghost use Rattle.avm_run.specs.Showing.{ShowsPath, ShowsPhase, sight_of};
 ghost use Rattle.avm_run.specs.Standing.{StandsIn};
 
-use crate::live::{Live, Phase};
+use crate::call_run::Live;
+use crate::phase::Phase;
 use crate::running::Running;
 use avm_cpu::Cpu;
 use avm_items::ItemMap;

@@ -737,7 +737,9 @@ pub fn first_wrong(alloc: Global, ops: &OpSet) -> Result<Option<&'static str>, F
     if !runs_ask_once(alloc, ops)? || !calls_are_checked(alloc)? {
         return Ok(Some("runs and checked calls"));
     }
-    if !steps::runs_step_by_instruction(alloc, ops)? {
+    if !steps::runs_step_by_instruction(alloc, ops)?
+        || !steps::runs_know_what_they_wrote(alloc, ops)?
+    {
         return Ok(Some("steps of runs"));
     }
     Ok(None)

@@ -4,7 +4,7 @@ ghost use Rattle.avm_ops.specs.Objects.{IsFull};
 
 use crate::calls::{APPROVES, COUNTS, FAULTS, NO_ENTRY, ONE_UINT, checked, fields, header};
 use avm_call::{Call, Outcome, Why};
-use avm_items::{Completion, item_of};
+use avm_items::{Completion, Item, ItemValue, item_of};
 use avm_ledger::{Ledger, Profile, Schema};
 use avm_ops::{BoxedOp, Op, OpSet};
 use avm_run::{Advance, CallRun, Step};
@@ -97,4 +97,37 @@ pub fn runs_step_by_instruction(alloc: Global, ops: &OpSet) -> Result<bool, Fail
         }
     }
     Ok(true)
+}
+
+/// What a run knows of the next application's id, as the number.
+fn known_next_id(run: &CallRun) -> Option<u64> {
+    match run.value(&Item::NextApp) {
+        Some(ItemValue::NextApp(id)) => Some(*id),
+        _ => None,
+    }
+}
+
+/// A run that makes an application knows nothing before its program. Then it knows the next id by its own write, and not as
+/// it was supplied, and of an application that it did not ask for nothing. At its end it is spent, and knows nothing.
+pub fn runs_know_what_they_wrote(alloc: Global, ops: &OpSet) -> Result<bool, Fail>
+    requires full { IsFull ⟦<BoxedOp as Op>⟧.opcode ops.now }
+{
+    let fields = fields(alloc, 0, Completion::NoOp, APPROVES, APPROVES, NO_ENTRY)?;
+    let call = checked(alloc, fields)?;
+    let mut run = CallRun::start(alloc, &call, &header(Profile::Two), None)?;
+    let asks = matches!(run.step_one(alloc, ops), Ok(Step::Need(Item::NextApp)));
+    let supplied = run.supply(Item::NextApp, ItemValue::NextApp(7)) == Ok(());
+    let before = known_next_id(&run);
+    let begins = matches!(run.step_one(alloc, ops), Ok(Step::Moved));
+    let within = known_next_id(&run);
+    let other = run.value(&Item::App(1)).is_some();
+    let ends = matches!(run.advance(alloc, ops), Ok(Advance::Done(_)));
+    let after = known_next_id(&run);
+    Ok(
+        asks && supplied
+            && begins
+            && ends
+            && !other
+            && (before, within, after) == (None, Some(8), None),
+    )
 }

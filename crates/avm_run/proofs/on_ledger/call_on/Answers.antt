@@ -1,6 +1,5 @@
 use Rattle.std.proofs.Common.{◌≡◌, subst, sym, ap, ◌∙◌}
 use Rattle.avm_ledger.specs.Ledgers.{IsOrderly}
-use Rattle.avm_items.specs.Items.{ItemMap}
 use Rattle.avm_items.specs.LedgerItems.{at, put, pruned}
 use Rattle.avm_call.specs.Replay.{ledger_after}
 use Rattle.avm_run.proofs.on_ledger.call_on.Goals as goal

@@ -1,4 +1,4 @@
-use Rattle.std.proofs.Common.{◌≡◌, ◌-◌, length}
+use Rattle.std.proofs.Common.{◌-◌, length}
 use Rattle.avm_items.specs.Items.{value_in}
 use Rattle.avm_items.specs.LedgerItems.{at}
 use Rattle.avm_items.specs.Locality.{Agrees}
@@ -7,11 +7,9 @@ use Rattle.avm_run.proofs.on_ledger.run_over.Given as goal
 
 abbrev pub invariant-loop-asking : goal.invariant-loop-asking
 invariant-loop-asking g l = record {
-  same_call : l.live.call ≡ l.call;
-  same_header : l.live.header ≡ l.header;
-  alive : IsAlive l.live;
-  agrees : Agrees (value_in (reads_of l.live.phase)) (at l.ledger);
+  alive : IsAlive l.call l.header l.phase;
+  agrees : Agrees (value_in (reads_of l.phase)) (at l.ledger);
 }
 
 abbrev pub decreases-loop-asking : goal.decreases-loop-asking
-decreases-loop-asking g l = most_items - length (reads_of l.live.phase)
+decreases-loop-asking g l = most_items - length (reads_of l.phase)

@@ -1,0 +1,281 @@
+//! The steps of a run: the tests before the program, the program, and what comes after it. What moves from step to step is
+//! the phase alone; the call and the header are lent.
+
+ghost use Rattle.std.specs.Prelude.{◌≡◌, Ok, Some, IfOk, IsTrue};
+ghost use Rattle.avm_call.specs.CallPaths.{outcome_of};
+ghost use Rattle.avm_call.specs.Ends.{has_programs};
+ghost use Rattle.avm_ops.specs.Objects.{IsFull};
+ghost use Rattle.avm_run.specs.Progress.{ClosesAs, EndsRun, Follows, GoesTo, IsSupplied, RunsTo, TestsTo, reads_of, steps_of};
+ghost use Rattle.avm_run.specs.Standing.{BeginsRun};
+
+use crate::admission::{Admitted, Halt, admit};
+use crate::ending::{cleared, end_call};
+use crate::running::{Running, Stepped, begin, step};
+use avm_call::{Call, Cause, Ended, Outcome};
+use avm_cpu::Cpu;
+use avm_items::{Item, ItemMap, ItemValue};
+use avm_ledger::Header;
+use avm_ops::{BoxedOp, Op, OpSet};
+use std::alloc::{AllocError, Global};
+use std::mem;
+
+/// How far a run has come.
+#[derive(Drop)]
+pub(crate) enum Phase {
+    /// Before its program, with the items supplied.
+    Tests(ItemMap),
+    /// In its program.
+    Runs(Box<Running>),
+}
+
+/// How a run has ended.
+#[derive(Drop)]
+pub(crate) struct Closed {
+    pub reads: ItemMap,
+    /// All that it writes, also what has the value of before.
+    pub writes: ItemMap,
+    pub outcome: Outcome,
+}
+
+/// What running on leads to.
+#[derive(Drop)]
+pub(crate) enum Ran {
+    Need(Phase, Item),
+    Done(Closed),
+}
+
+/// What the tests before a program lead to.
+#[derive(Drop)]
+pub(crate) enum Tested {
+    /// The program of the call, before its first instruction.
+    Begins(Box<Running>),
+    Stops(Ran),
+}
+
+/// What one step of the program's path leads to.
+#[derive(Drop)]
+pub(crate) enum Went {
+    On(Phase),
+    /// The program has ended where it stands.
+    Ends(Phase, Ended),
+    Stops(Ran),
+}
+
+impl Phase {
+    /// The phase with one item more supplied. An application that is supplied has programs, as its type keeps.
+    pub(crate) fn supplied(self, item: Item, value: ItemValue) -> Result<Phase, AllocError>
+        ensures supplied { IfOk result (λ phase. IsSupplied self phase item value) }
+        ensures programs { IsTrue (has_programs value) }
+    {
+        keeps_programs(&value);
+        match self {
+            Phase::Tests(items) => {
+                let mut items = items;
+                items.insert(item, value)?;
+                Ok(Phase::Tests(items))
+            }
+            Phase::Runs(running) => {
+                let mut running = running;
+                running.env.read(item, value)?;
+                Ok(Phase::Runs(running))
+            }
+        }
+    }
+
+    /// The machine of its program, if that has begun.
+    pub(crate) fn into_machine(self) -> Option<Cpu> {
+        match self {
+            Phase::Tests(_items) => None,
+            Phase::Runs(running) => {
+                let Running { cpu, .. } = Box::into_inner(running);
+                Some(cpu)
+            }
+        }
+    }
+}
+
+/// That an application has programs, as its type keeps.
+fn keeps_programs(value: &ItemValue)
+    ensures { IsTrue (has_programs value.now) }
+{
+    if let ItemValue::App(row) = value {
+        let _approval = row.approval.program();
+        let _clear = row.clear.program();
+    }
+}
+
+/// Runs on to the end of the call, or to an item that was not supplied. A program begins on the spare machine, where there
+/// is one, and leaves its machine there at its end.
+pub(crate) fn run_on(
+    alloc: Global,
+    ops: &OpSet,
+    call: &Call,
+    header: &Header,
+    phase: Phase,
+    spare: &mut Option<Cpu>,
+) -> Result<Ran, AllocError>
+    requires full { IsFull ⟦<BoxedOp as Op>⟧.opcode ops.now }
+    requires follows { Follows call.now header.now phase }
+    ensures { IfOk result (λ ran. RunsTo call.now header.now (reads_of phase) ran) }
+{
+    match phase {
+        Phase::Tests(items) => match run_tests(alloc, call, header, items, spare)? {
+            Tested::Begins(running) => run_program(alloc, ops, call, header, running, spare),
+            Tested::Stops(ran) => Ok(ran),
+        },
+        Phase::Runs(running) => run_program(alloc, ops, call, header, running, spare),
+    }
+}
+
+/// Makes the next step of the path of the call's program. The first leads to the start of the program. The spare machine is
+/// used as by [`run_on`].
+pub(crate) fn step_on(
+    alloc: Global,
+    ops: &OpSet,
+    call: &Call,
+    header: &Header,
+    phase: Phase,
+    spare: &mut Option<Cpu>,
+) -> Result<Went, AllocError>
+    requires full { IsFull ⟦<BoxedOp as Op>⟧.opcode ops.now }
+    requires follows { Follows call.now header.now phase }
+    ensures { IfOk result (λ went. GoesTo call.now header.now (reads_of phase) (steps_of phase) went) }
+{
+    match phase {
+        Phase::Tests(items) => match run_tests(alloc, call, header, items, spare)? {
+            Tested::Begins(running) => Ok(Went::On(Phase::Runs(running))),
+            Tested::Stops(ran) => Ok(Went::Stops(ran)),
+        },
+        Phase::Runs(running) => step_program(alloc, ops, call, header, running),
+    }
+}
+
+/// Makes the tests before the program, and stands before its first instruction where they pass.
+fn run_tests(
+    alloc: Global,
+    call: &Call,
+    header: &Header,
+    items: ItemMap,
+    spare: &mut Option<Cpu>,
+) -> Result<Tested, AllocError>
+    ensures { IfOk result (λ tested. TestsTo call.now header.now items tested) }
+{
+    match admit(call, &items) {
+        Ok(Admitted { id, row: Some(row) }) => {
+            let running = begin(alloc, call, header, items, id, row, spare)?;
+            Ok(Tested::Begins(running))
+        }
+        Ok(Admitted { id, row: None }) => {
+            let end = cleared(alloc, call, id, Cause::Gone)?;
+            Ok(Tested::Stops(Ran::Done(Closed {
+                reads: items,
+                writes: end.writes,
+                outcome: end.outcome,
+            })))
+        }
+        Err(Halt::Refused(why)) => Ok(Tested::Stops(Ran::Done(Closed {
+            reads: items,
+            writes: ItemMap::new(alloc),
+            outcome: Outcome::Refused(why),
+        }))),
+        Err(Halt::Need(item)) => Ok(Tested::Stops(Ran::Need(Phase::Tests(items), item))),
+        Err(Halt::Memory) => Err(AllocError),
+    }
+}
+
+/// Makes one step of the program's path.
+fn step_program(
+    alloc: Global,
+    ops: &OpSet,
+    call: &Call,
+    header: &Header,
+    running: Box<Running>,
+) -> Result<Went, AllocError>
+    requires full { IsFull ⟦<BoxedOp as Op>⟧.opcode ops.now }
+    requires begun { BeginsRun call.now header.now running.value.env.reads running.value }
+    ensures { IfOk result (λ went. GoesTo call.now header.now running.value.env.reads (Some running.value.steps) went) }
+{
+    let mut running = running;
+    match step(alloc, ops, &mut running)? {
+        Stepped::On => Ok(Went::On(Phase::Runs(running))),
+        Stepped::Need(item) => Ok(Went::Stops(Ran::Need(
+            Phase::Runs(running),
+            Box::into_inner(item),
+        ))),
+        Stepped::Ended(ended) => Ok(Went::Ends(Phase::Runs(running), ended)),
+    }
+}
+
+/// Runs the program on to its end, or to an item that was not supplied.
+fn run_program(
+    alloc: Global,
+    ops: &OpSet,
+    call: &Call,
+    header: &Header,
+    running: Box<Running>,
+    spare: &mut Option<Cpu>,
+) -> Result<Ran, AllocError>
+    requires full { IsFull ⟦<BoxedOp as Op>⟧.opcode ops.now }
+    requires begun { BeginsRun call.now header.now running.value.env.reads running.value }
+    ensures { IfOk result (λ ran. RunsTo call.now header.now running.value.env.reads ran) }
+{
+    let mut running = running;
+    loop {
+        match step(alloc, ops, &mut running) {
+            Ok(Stepped::On) => {}
+            Ok(Stepped::Need(item)) => {
+                return Ok(Ran::Need(Phase::Runs(running), Box::into_inner(item)));
+            }
+            Ok(Stepped::Ended(ended)) => {
+                return Ok(Ran::Done(close(alloc, call, header, running, ended, spare)?));
+            }
+            Err(AllocError) => {
+                discard(running);
+                return Err(AllocError);
+            }
+        }
+    }
+}
+
+/// Drops a run out of line: who drops a machine has room for its stack among the own variables, and who makes steps is to
+/// have none.
+#[cold]
+#[inline(never)]
+fn discard(_running: Box<Running>) {}
+
+/// Drops a machine, out of line too.
+#[cold]
+#[inline(never)]
+fn discard_machine(_cpu: Cpu) {}
+
+/// Leaves a machine for the next run.
+fn give_back(spare: &mut Option<Cpu>, cpu: Cpu) {
+    if let Some(before) = mem::replace(spare, Some(cpu)) {
+        discard_machine(before);
+    }
+}
+
+/// A run whose program has ended so. Its machine is spare again.
+fn close(
+    alloc: Global,
+    call: &Call,
+    header: &Header,
+    running: Box<Running>,
+    ended: Ended,
+    spare: &mut Option<Cpu>,
+) -> Result<Closed, AllocError>
+    requires ends { ClosesAs call.now header.now running.value ended }
+    ensures ends { IfOk result (λ closed. EndsRun call.now header.now running.value.env.reads closed) }
+    ensures outcome { IfOk result (λ closed. closed.outcome ≡ outcome_of call.now.completion ended) }
+{
+    let Running { env, cpu, row, .. } = Box::into_inner(running);
+    give_back(spare, cpu);
+    let id = env.current();
+    let (reads, writes) = env.into_items();
+    let end = end_call(alloc, call, id, row, writes, ended)?;
+    Ok(Closed {
+        reads,
+        writes: end.writes,
+        outcome: end.outcome,
+    })
+}
