@@ -17,14 +17,16 @@ use Rattle.avm_call.specs.declared.outcome.Why.{Why}
 use Rattle.avm_call.specs.Runs.{Position}
 use Rattle.avm_call.specs.Calls.{Target, admitted}
 use Rattle.avm_call.specs.CallPaths.{call_path, path_of_row, path_of_target}
-use Rattle.avm_run.specs.Advances.{AsksFor, MakesStep}
+use Rattle.avm_run.specs.declared.call_run.Step.TheVariants as step
+use Rattle.avm_run.specs.Advances.{AsksFor, MakesStep, Steps}
 use Rattle.avm_run.specs.Progress.{HasNoStep, HasStep, IsOutcomeAt, most_items, next_step}
+use Rattle.avm_run.specs.Results.{CallRecord}
 use Rattle.avm_run.specs.RunState.{Progress}
 use Rattle.avm_debug.specs.declared.opening.Begun.{Begun}
 use Rattle.avm_debug.specs.declared.opening.Begun.TheVariants as begun
 use Rattle.avm_debug.specs.DebugRuns.{IsKept, seen}
 use Rattle.avm_debug.specs.Opening.{HasNoProgram, HasProgram, row_of}
-use Rattle.avm_debug.specs.Starting.{Begins, HasBegun, HasNothing, StartsOver}
+use Rattle.avm_debug.specs.Starting.{Begins, HasBegun, HasNothing, IsAtTests, StartsOver}
 use Rattle.avm_debug.specs.Stepping.{reads_in, supplied}
 use Rattle.avm_debug.proofs.OneMore.{agrees_after, one_longer}
 
@@ -165,3 +167,8 @@ starts_at_first l call header run is = record {
 
 pub nothing_opened : (l : Ledger) (call : CallData) (header : Header) (old : Option Progress) → old ≡ Some (first_run call header) → HasNothing l old → HasNoProgram l call
 nothing_opened l call header old start n = subst (λ c. HasNoProgram l c) (ap (λ (q : Progress). q.call) (same_run (sym n.was ∙ start))) n.none
+
+-- a run at its tests whose call ends with the next step has no program
+pub ends_at_tests : (old after : Option Progress) (f : CallRecord) → IsAtTests old → Steps old after (Ok (step.Done f)) → Begins old after begun.Nothing
+ends_at_tests (Some p) after f tests done = (f.outcome, subst (λ s. HasNoStep p.call p.header p.reads (next_step s) f.outcome) done.2 done.1)
+ends_at_tests None after f tests done = absurd tests

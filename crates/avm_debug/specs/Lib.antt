@@ -10,3 +10,4 @@ pub mod Shown
 pub mod Laws
 pub mod LiveOpening
 pub mod Sources
+pub mod FaultNames

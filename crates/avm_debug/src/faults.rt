@@ -1,9 +1,14 @@
 //! Why a debugger refuses.
 
+ghost use Rattle.std.specs.Prelude.{◌≡◌};
+ghost use Rattle.avm_debug.specs.FaultNames.{open_fault_name, past_fault_name, step_fault_name};
+
 use teal_value::Failure;
+use thiserror::Error;
 
 /// Why a call is not opened. The tests come in this order.
-#[derive(Clone, Copy, Debug, PartialEq, Eq)]
+#[derive(Clone, Copy, Debug, PartialEq, Eq, Error)]
+#[error("{name}", name = self.name())]
 pub enum OpenFault {
     /// The block has no entry of this number. Entries are numbered from 1.
     NoEntry = 1,
@@ -15,11 +20,26 @@ pub enum OpenFault {
     Pruned = 5,
 }
 
+impl OpenFault {
+    /// Its name, as commands print it.
+    pub fn name(self) -> &'static str
+        ensures { result.now ≡ open_fault_name self }
+    {
+        match self {
+            OpenFault::NoEntry => "NoEntry",
+            OpenFault::WrongBase => "WrongBase",
+            OpenFault::NoProgram => "NoProgram",
+            OpenFault::Pruned => "Pruned",
+        }
+    }
+}
+
 /// An [`OpenFault`], or want of memory.
 pub type OpenError = Failure<OpenFault>;
 
 /// Why no step is made.
-#[derive(Clone, Copy, Debug, PartialEq, Eq)]
+#[derive(Clone, Copy, Debug, PartialEq, Eq, Error)]
+#[error("{name}", name = self.name())]
 pub enum StepFault {
     /// A step has faulted, or no instruction is left.
     Ended = 4,
@@ -27,16 +47,41 @@ pub enum StepFault {
     Spent = 6,
 }
 
+impl StepFault {
+    /// Its name.
+    pub fn name(self) -> &'static str
+        ensures { result.now ≡ step_fault_name self }
+    {
+        match self {
+            StepFault::Ended => "Ended",
+            StepFault::Spent => "Spent",
+        }
+    }
+}
+
 /// A [`StepFault`], or want of memory.
 pub type StepError = Failure<StepFault>;
 
 /// Why there is no ledger of the past.
-#[derive(Clone, Copy, Debug, PartialEq, Eq)]
+#[derive(Clone, Copy, Debug, PartialEq, Eq, Error)]
+#[error("{name}", name = self.name())]
 pub enum PastFault {
     /// The block stands over another ledger.
     WrongBase = 2,
     /// The timestamp is below the store's low mark.
     Pruned = 5,
+}
+
+impl PastFault {
+    /// Its name.
+    pub fn name(self) -> &'static str
+        ensures { result.now ≡ past_fault_name self }
+    {
+        match self {
+            PastFault::WrongBase => "WrongBase",
+            PastFault::Pruned => "Pruned",
+        }
+    }
 }
 
 /// A [`PastFault`], or want of memory.

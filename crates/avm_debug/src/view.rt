@@ -1,7 +1,11 @@
 //! What a debugger shows.
 
+ghost use Rattle.std.specs.Prelude.{◌≡◌};
+ghost use Rattle.avm_debug.specs.FaultNames.{view_fault_name};
+
 use teal_code::Instr;
 use teal_value::{Address, ByteString, Failure, Fault, StateKey, Value};
+use thiserror::Error;
 
 /// What comes next.
 #[derive(Drop)]
@@ -59,10 +63,22 @@ pub struct View<'a> {
 }
 
 /// Why nothing is shown.
-#[derive(Clone, Copy, Debug, PartialEq, Eq)]
+#[derive(Clone, Copy, Debug, PartialEq, Eq, Error)]
+#[error("{name}", name = self.name())]
 pub enum ViewFault {
     /// A step before was refused memory.
     Spent = 6,
+}
+
+impl ViewFault {
+    /// Its name.
+    pub fn name(self) -> &'static str
+        ensures { result.now ≡ view_fault_name self }
+    {
+        match self {
+            ViewFault::Spent => "Spent",
+        }
+    }
 }
 
 /// A [`ViewFault`], or want of memory.

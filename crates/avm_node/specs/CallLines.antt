@@ -1,36 +1,19 @@
 -- A line for a call: what it reads as, and the names of what it breaks.
-use Rattle.std.specs.Prelude.{ℕ, List, Option, Some, None, Result, Ok, Err, codes}
+use Rattle.std.specs.Prelude.{ℕ, List, Option, Some, None, Result, Ok, Err}
 use Rattle.teal_value.specs.Answer.{◌>>=◌}
 use Rattle.avm_items.specs.declared.call_data.CallData.{CallData}
 use Rattle.avm_items.specs.declared.call_fault.CallDataFault.{CallDataFault}
-use Rattle.avm_items.specs.declared.call_fault.CallDataFault.TheVariants as spelling
 use Rattle.avm_items.specs.CallReader.{call_at}
+use Rattle.avm_items.specs.FaultNames.{call_data_fault_name}
 use Rattle.avm_call.specs.declared.call_fault.CallFault.{CallFault}
-use Rattle.avm_call.specs.declared.call_fault.CallFault.TheVariants as rule
 use Rattle.avm_call.specs.CallRules.{call_fault}
+use Rattle.avm_call.specs.FaultNames.{call_fault_name}
 use Rattle.avm_node.specs.declared.call_line.CallLineFault.{CallLineFault}
 use Rattle.avm_node.specs.declared.call_line.CallLineFault.TheVariants as fault
 
-abbrev pub data_name : CallDataFault → List ℕ
-data_name spelling.Field = codes "Field"
-data_name spelling.Truncated = codes "Truncated"
-data_name spelling.Rest = codes "Rest"
-
-abbrev pub rule_name : CallFault → List ℕ
-rule_name rule.Accounts = codes "Accounts"
-rule_name rule.Args = codes "Args"
-rule_name rule.ArgBytes = codes "ArgBytes"
-rule_name rule.Foreign = codes "Foreign"
-rule_name rule.Note = codes "Note"
-rule_name rule.ProgramsMissing = codes "ProgramsMissing"
-rule_name rule.ProgramsGiven = codes "ProgramsGiven"
-rule_name rule.SchemaSize = codes "SchemaSize"
-rule_name rule.ClearOnCreate = codes "ClearOnCreate"
-rule_name (rule.Program f) = codes "Program"
-
 abbrev pub call_line_name : CallLineFault → List ℕ
-call_line_name (fault.Bytes f) = data_name f
-call_line_name (fault.Rule f) = rule_name f
+call_line_name (fault.Bytes f) = call_data_fault_name f
+call_line_name (fault.Rule f) = call_fault_name f
 
 abbrev pub on_bytes : {A : Type 0} → Result A CallDataFault → Result A CallLineFault
 on_bytes (Ok fields) = Ok fields

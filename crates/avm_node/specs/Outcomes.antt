@@ -2,18 +2,11 @@
 use Rattle.std.specs.Prelude.{ℕ, ◌++◌, List, codes, decimal}
 use Rattle.teal_value.specs.declared.fault.Fault.{Fault}
 use Rattle.teal_value.specs.FaultNames.{fault_name}
-use Rattle.avm_call.specs.declared.outcome.Why.{Why}
-use Rattle.avm_call.specs.declared.outcome.Why.TheVariants as why
 use Rattle.avm_call.specs.declared.outcome.Cause.{Cause}
 use Rattle.avm_call.specs.declared.outcome.Cause.TheVariants as cause
 use Rattle.avm_call.specs.declared.outcome.Outcome.{Outcome}
 use Rattle.avm_call.specs.declared.outcome.Outcome.TheVariants as outcome
-
-abbrev pub why_name : Why → List ℕ
-why_name why.NoApp = codes "NoApp"
-why_name why.AlreadyIn = codes "AlreadyIn"
-why_name why.NotIn = codes "NotIn"
-why_name why.IdsEnd = codes "IdsEnd"
+use Rattle.avm_call.specs.FaultNames.{why_name}
 
 abbrev pub faulted_text : Fault → ℕ → List ℕ
 faulted_text f place = codes "faulted " ++ (fault_name f ++ (codes " " ++ decimal place))

@@ -7,6 +7,7 @@ use Rattle.avm_block.specs.BlockSpelling.{block_bytes}
 use Rattle.avm_pool.specs.declared.pool_fault.PoolFault.{PoolFault}
 use Rattle.avm_pool.specs.declared.pool_fault.PoolFault.TheVariants as fault
 use Rattle.avm_pool.specs.declared.proposal.Proposal.{Proposal}
+use Rattle.avm_pool.specs.FaultNames.{pool_fault_name}
 use Rattle.avm_pool.specs.Proposals.{IsProposal}
 use Rattle.avm_node.specs.declared.refusal.Refusal.{Refusal}
 use Rattle.avm_node.specs.DigitLines.{digit_lines}
@@ -25,15 +26,8 @@ left_line number = codes "left " ++ (decimal number ++ codes "\n")
 abbrev pub proposal_reply : Proposal → Reply
 proposal_reply p = record { text = encode_lower (block_bytes p.block) ++ (codes "\n" ++ flat_map left_line p.left.items); status = done }
 
-abbrev pub pool_name : PoolFault → List ℕ
-pool_name fault.Workers = codes "Workers"
-pool_name (fault.OpMissing code) = codes "OpMissing"
-pool_name (fault.Profile number) = codes "Profile"
-pool_name fault.Spawn = codes "Spawn"
-pool_name fault.ClockEnd = codes "ClockEnd"
-
 abbrev pub pool_reply : PoolFault → Reply
-pool_reply f = record { text = codes "refused pool " ++ (pool_name f ++ codes "\n"); status = refused }
+pool_reply f = record { text = codes "refused pool " ++ (pool_fault_name f ++ codes "\n"); status = refused }
 
 -- There are more calls than a block has; or there are not, and threads or timestamps were wanting.
 abbrev pub IsPoolFault : List CallData → PoolFault → Type 0

@@ -4,21 +4,35 @@ ghost use Rattle.std.specs.Prelude.{◌≡◌};
 ghost use Rattle.teal_value.specs.Answer.{Gives};
 ghost use Rattle.avm_items.specs.CallReader.{call_at};
 ghost use Rattle.avm_call.specs.CallRules.{call_fault};
-ghost use Rattle.avm_node.specs.CallLines.{call_line_name, checked_call, data_name, on_bytes, rule_name, unless_broken};
+ghost use Rattle.avm_node.specs.CallLines.{call_line_name, checked_call, on_bytes, unless_broken};
 
 use avm_call::{Call, CallFault};
 use avm_call_codec::CallCodec;
 use avm_items::{CallData, CallDataFault};
 use std::alloc::Global;
 use teal_value::Failure;
+use thiserror::Error;
 
 /// Why the bytes of a line are no call.
-#[derive(Clone, Copy, Debug, PartialEq, Eq)]
+#[derive(Clone, Copy, Debug, PartialEq, Eq, Error)]
+#[error("{name}", name = self.name())]
 pub enum CallLineFault {
     /// They spell no call.
     Bytes(CallDataFault),
     /// They spell a call that breaks this rule.
     Rule(CallFault),
+}
+
+impl CallLineFault {
+    /// The name of the fault or the rule, as commands print it.
+    pub fn name(self) -> &'static str
+        ensures { result.now ≡ call_line_name self }
+    {
+        match self {
+            CallLineFault::Bytes(fault) => fault.name(),
+            CallLineFault::Rule(fault) => fault.name(),
+        }
+    }
 }
 
 /// The call that the bytes are. The rules are tested once all of it is read.
@@ -48,42 +62,5 @@ fn call_of_fields(alloc: Global, fields: CallData) -> Result<Call, Failure<CallL
             Failure::Fault(fault) => Err(Failure::Fault(CallLineFault::Rule(fault))),
             Failure::Memory => Err(Failure::Memory),
         },
-    }
-}
-
-/// The name of a fault.
-pub fn call_line_name(fault: CallLineFault) -> &'static str
-    ensures { result.now ≡ call_line_name fault }
-{
-    match fault {
-        CallLineFault::Bytes(fault) => data_name(fault),
-        CallLineFault::Rule(fault) => rule_name(fault),
-    }
-}
-
-fn data_name(fault: CallDataFault) -> &'static str
-    ensures { result.now ≡ data_name fault }
-{
-    match fault {
-        CallDataFault::Field => "Field",
-        CallDataFault::Truncated => "Truncated",
-        CallDataFault::Rest => "Rest",
-    }
-}
-
-fn rule_name(fault: CallFault) -> &'static str
-    ensures { result.now ≡ rule_name fault }
-{
-    match fault {
-        CallFault::Accounts => "Accounts",
-        CallFault::Args => "Args",
-        CallFault::ArgBytes => "ArgBytes",
-        CallFault::Foreign => "Foreign",
-        CallFault::Note => "Note",
-        CallFault::ProgramsMissing => "ProgramsMissing",
-        CallFault::ProgramsGiven => "ProgramsGiven",
-        CallFault::SchemaSize => "SchemaSize",
-        CallFault::ClearOnCreate => "ClearOnCreate",
-        CallFault::Program(_fault) => "Program",
     }
 }

@@ -1,9 +1,9 @@
 //! Outcomes in words.
 
 ghost use Rattle.std.specs.Prelude.{◌≡◌, IfOk, string_bytes};
-ghost use Rattle.avm_node.specs.Outcomes.{cause_text, faulted_text, outcome_text, why_name};
+ghost use Rattle.avm_node.specs.Outcomes.{cause_text, faulted_text, outcome_text};
 
-use avm_call::{Cause, Outcome, Why};
+use avm_call::{Cause, Outcome};
 use std::alloc::{AllocError, Global};
 use teal_value::Fault;
 
@@ -16,7 +16,7 @@ pub fn outcome_text(alloc: Global, outcome: Outcome) -> Result<String, AllocErro
         Outcome::Rejected => String::from_str(alloc, "rejected"),
         Outcome::Faulted(fault, place) => faulted_text(alloc, fault, place),
         Outcome::Refused(why) => {
-            let name = why_name(why);
+            let name = why.name();
             format!(in alloc; "refused {name}")
         }
         Outcome::ClearedAnyway(cause) => {
@@ -41,15 +41,4 @@ fn faulted_text(alloc: Global, fault: Fault, place: u16) -> Result<String, Alloc
 {
     let name = fault.name();
     format!(in alloc; "faulted {name} {place}")
-}
-
-fn why_name(why: Why) -> &'static str
-    ensures { result.now ≡ why_name why }
-{
-    match why {
-        Why::NoApp => "NoApp",
-        Why::AlreadyIn => "AlreadyIn",
-        Why::NotIn => "NotIn",
-        Why::IdsEnd => "IdsEnd",
-    }
 }

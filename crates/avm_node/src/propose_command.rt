@@ -4,7 +4,7 @@ ghost use Rattle.std.specs.Prelude.{◌≡◌, ◌++◌, IfOk, OnOk, string_byte
 ghost use Rattle.std.specs.List.{flat_map};
 ghost use Rattle.avm_ledger.specs.declared.header.Profile.TheVariants.{Three};
 ghost use Rattle.avm_ops.specs.Objects.{IsFull};
-ghost use Rattle.avm_node.specs.ProposeCommands.{IsPoolReply, IsProposeReply, left_line, pool_name, pool_reply, proposal_reply};
+ghost use Rattle.avm_node.specs.ProposeCommands.{IsPoolReply, IsProposeReply, left_line, pool_reply, proposal_reply};
 ghost use Rattle.avm_node.specs.ProposeShown.{seen};
 ghost use Rattle.avm_node.specs.Shown.{shown};
 ghost use Rattle.avm_node.specs.WorkerSets.{AreWorkerSets};
@@ -88,22 +88,10 @@ fn add_left(alloc: Global, text: &mut String, left: &[u32]) -> Result<(), AllocE
 fn pool_reply(alloc: Global, fault: PoolFault) -> Result<Reply, AllocError>
     ensures { IfOk result (λ reply. shown reply ≡ pool_reply fault) }
 {
-    let name = pool_name(fault);
+    let name = fault.name();
     let text = format!(in alloc; "refused pool {name}\n")?;
     Ok(Reply {
         text,
         status: REFUSED,
     })
-}
-
-fn pool_name(fault: PoolFault) -> &'static str
-    ensures { result.now ≡ pool_name fault }
-{
-    match fault {
-        PoolFault::Workers => "Workers",
-        PoolFault::OpMissing(_code) => "OpMissing",
-        PoolFault::Profile { number: _number } => "Profile",
-        PoolFault::Spawn => "Spawn",
-        PoolFault::ClockEnd => "ClockEnd",
-    }
 }

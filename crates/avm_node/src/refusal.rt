@@ -1,10 +1,10 @@
 //! Why an input of lines of digits is refused, and what is answered to it.
 
 ghost use Rattle.std.specs.Prelude.{◌≡◌, IfOk, string_bytes};
-ghost use Rattle.avm_node.specs.Refusals.{block_text, call_text, check_place, check_text, ledger_text, opening_text, refusal_reply};
+ghost use Rattle.avm_node.specs.Refusals.{block_text, call_text, check_place, check_text, ledger_text, opening_text, refusal_reply, state_text};
 ghost use Rattle.avm_node.specs.Shown.{shown};
 
-use crate::call_line::{CallLineFault, call_line_name};
+use crate::call_line::CallLineFault;
 use crate::output::{REFUSED, Reply};
 use avm_block::BlockFault;
 use avm_debug::OpenFault;
@@ -48,10 +48,7 @@ pub fn refusal_reply(alloc: Global, refusal: Refusal) -> Result<Reply, AllocErro
         Refusal::Check(fault) => check_text(alloc, fault)?,
         Refusal::Ledger(fault) => ledger_text(alloc, fault)?,
         Refusal::Block(fault) => block_text(alloc, fault)?,
-        Refusal::State(StateFault::WrongBase) => String::from_str(
-            alloc,
-            "refused state WrongBase\n",
-        )?,
+        Refusal::State(fault) => state_text(alloc, fault)?,
         Refusal::Header => String::from_str(alloc, "refused header\n")?,
         Refusal::Call(number, fault) => call_text(alloc, number, fault)?,
         Refusal::Opening(fault) => opening_text(alloc, fault)?,
@@ -76,45 +73,35 @@ fn check_text(alloc: Global, fault: CheckFault) -> Result<String, AllocError>
 fn call_text(alloc: Global, number: usize, fault: CallLineFault) -> Result<String, AllocError>
     ensures { IfOk result (λ text. string_bytes text ≡ call_text number fault) }
 {
-    let name = call_line_name(fault);
+    let name = fault.name();
     format!(in alloc; "refused call {number} {name}\n")
 }
 
 fn ledger_text(alloc: Global, fault: LedgerFault) -> Result<String, AllocError>
     ensures { IfOk result (λ text. string_bytes text ≡ ledger_text fault) }
 {
-    let name = match fault {
-        LedgerFault::Malformed => "Malformed",
-        LedgerFault::Truncated => "Truncated",
-        LedgerFault::Rest => "Rest",
-    };
+    let name = fault.name();
     format!(in alloc; "refused ledger {name}\n")
 }
 
 fn block_text(alloc: Global, fault: BlockFault) -> Result<String, AllocError>
     ensures { IfOk result (λ text. string_bytes text ≡ block_text fault) }
 {
-    let name = match fault {
-        BlockFault::Magic => "Magic",
-        BlockFault::Format => "Format",
-        BlockFault::Truncated => "Truncated",
-        BlockFault::Rest => "Rest",
-        BlockFault::Order => "Order",
-        BlockFault::Field => "Field",
-        BlockFault::Digest => "Digest",
-    };
+    let name = fault.name();
     format!(in alloc; "refused block {name}\n")
+}
+
+fn state_text(alloc: Global, fault: StateFault) -> Result<String, AllocError>
+    ensures { IfOk result (λ text. string_bytes text ≡ state_text fault) }
+{
+    let name = fault.name();
+    format!(in alloc; "refused state {name}\n")
 }
 
 fn opening_text(alloc: Global, fault: OpenFault) -> Result<String, AllocError>
     ensures { IfOk result (λ text. string_bytes text ≡ opening_text fault) }
 {
-    let name = match fault {
-        OpenFault::NoEntry => "NoEntry",
-        OpenFault::WrongBase => "WrongBase",
-        OpenFault::NoProgram => "NoProgram",
-        OpenFault::Pruned => "Pruned",
-    };
+    let name = fault.name();
     format!(in alloc; "refused debug {name}\n")
 }
 

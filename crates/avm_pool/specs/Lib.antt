@@ -3,3 +3,4 @@ pub mod Proposals
 pub mod Refusals
 pub mod Resting
 pub mod Running
+pub mod FaultNames

@@ -1,9 +1,14 @@
 //! Why nothing is proposed.
 
+ghost use Rattle.std.specs.Prelude.{◌≡◌};
+ghost use Rattle.avm_pool.specs.FaultNames.{pool_fault_name};
+
 use teal_value::Failure;
+use thiserror::Error;
 
 /// Why nothing is proposed, in the order of the tests. The last two depend on what the threads do.
-#[derive(Clone, Copy, Debug, PartialEq, Eq)]
+#[derive(Clone, Copy, Debug, PartialEq, Eq, Error)]
+#[error("{name}", name = self.name())]
 pub enum PoolFault {
     /// There are no workers' sets of objects, or more than 8, or there are more calls than a block has entries.
     Workers,
@@ -15,6 +20,21 @@ pub enum PoolFault {
     Spawn,
     /// The last timestamp was given.
     ClockEnd,
+}
+
+impl PoolFault {
+    /// Its name, as commands print it.
+    pub fn name(self) -> &'static str
+        ensures { result.now ≡ pool_fault_name self }
+    {
+        match self {
+            PoolFault::Workers => "Workers",
+            PoolFault::OpMissing(_code) => "OpMissing",
+            PoolFault::Profile { number: _number } => "Profile",
+            PoolFault::Spawn => "Spawn",
+            PoolFault::ClockEnd => "ClockEnd",
+        }
+    }
 }
 
 /// A [`PoolFault`], or want of memory.

@@ -2,3 +2,4 @@ pub mod Verdicts
 pub mod Past
 pub mod Plain
 pub mod WorkedVerdicts
+pub mod FaultNames

@@ -5,6 +5,7 @@ ghost use Rattle.avm_ops.specs.Objects.{IsFull};
 ghost use Rattle.avm_ledger.specs.Spellings.{ledger_digest};
 ghost use Rattle.avm_call.specs.Replay.{replayed};
 ghost use Rattle.avm_block.specs.Blocks.{RisesAbove, calls_in};
+ghost use Rattle.avm_replay.specs.FaultNames.{state_fault_name};
 ghost use Rattle.avm_replay.specs.Past.{IsRefused, entries_until, ledger_at};
 
 use crate::base::Base;
@@ -14,12 +15,25 @@ use avm_ops::{BoxedOp, Op, OpSet};
 use avm_run::call_on;
 use std::alloc::{AllocError, Global};
 use teal_value::Failure;
+use thiserror::Error;
 
 /// Why there is no ledger of the past.
-#[derive(Clone, Copy, Debug, PartialEq, Eq)]
+#[derive(Clone, Copy, Debug, PartialEq, Eq, Error)]
+#[error("{name}", name = self.name())]
 pub enum StateFault {
     /// The block stands over another ledger.
     WrongBase = 1,
+}
+
+impl StateFault {
+    /// Its name, as commands print it.
+    pub fn name(self) -> &'static str
+        ensures { result.now ≡ state_fault_name self }
+    {
+        match self {
+            StateFault::WrongBase => "WrongBase",
+        }
+    }
 }
 
 /// A [`StateFault`], or want of memory.

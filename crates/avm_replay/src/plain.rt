@@ -3,6 +3,7 @@
 ghost use Rattle.std.specs.Prelude.{◌≡◌, ◌≤◌, ◌+◌, true, All, IfErr, IfOk, IfSome, None, length, vec_len};
 ghost use Rattle.avm_ops.specs.Objects.{IsFull};
 ghost use Rattle.avm_block.specs.AcceptedCalls.{is_accepted};
+ghost use Rattle.avm_replay.specs.FaultNames.{plain_block_fault_name};
 ghost use Rattle.avm_replay.specs.Plain.{AreMade, IsFaultOf, IsPlainBlock, first_beyond, plain_fault};
 
 use avm_block::{Block, Entry, MAX_ENTRIES, accepts, outcome_has_place};
@@ -12,14 +13,28 @@ use avm_ops::{BoxedOp, Op, OpSet};
 use avm_run::call_on;
 use std::alloc::{AllocError, Global};
 use teal_value::Failure;
+use thiserror::Error;
 
 /// Why calls make no block.
-#[derive(Clone, Copy, Debug, PartialEq, Eq)]
+#[derive(Clone, Copy, Debug, PartialEq, Eq, Error)]
+#[error("{name}", name = self.name())]
 pub enum PlainBlockFault {
     /// There are more than a block has entries.
     TooMany,
     /// The call of this number, counted from 1, needs a newer profile than the header's.
     Profile { number: usize },
+}
+
+impl PlainBlockFault {
+    /// Its name.
+    pub fn name(self) -> &'static str
+        ensures { result.now ≡ plain_block_fault_name self }
+    {
+        match self {
+            PlainBlockFault::TooMany => "TooMany",
+            PlainBlockFault::Profile { number: _number } => "Profile",
+        }
+    }
 }
 
 /// A [`PlainBlockFault`], or want of memory.

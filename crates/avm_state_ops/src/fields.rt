@@ -4,11 +4,11 @@ ghost use Rattle.std.specs.Prelude.{◌≡◌, IfOk};
 ghost use Rattle.teal_value.specs.declared.value.Value.TheVariants.{Bytes};
 ghost use Rattle.teal_value.specs.Answer.{Gives};
 ghost use Rattle.teal_value.specs.declared.fault.Fault.TheVariants.{NoAccount};
-ghost use Rattle.avm_items.specs.CallFields.{account, completion_number};
+ghost use Rattle.avm_items.specs.CallFields.{account};
 ghost use Rattle.avm_ops.specs.Fields.{array_field, scalar_field, txn_array_value, txn_value, zero_address};
 ghost use Rattle.avm_ops.specs.Frame.{there};
 
-use avm_items::{CallData, Completion};
+use avm_items::CallData;
 use std::alloc::{AllocError, Global};
 use teal_table::{TxnField, txn_field};
 use teal_value::{Address, ByteString, Failure, Fault, Value};
@@ -21,20 +21,6 @@ pub(crate) fn bytes_value(alloc: Global, bytes: &[u8]) -> Result<Value, AllocErr
     ensures { IfOk result (λ v. v ≡ Bytes bytes.now) }
 {
     Ok(Value::Bytes(ByteString::from_slice(alloc, bytes)?))
-}
-
-/// The number of a completion.
-fn completion_number(completion: Completion) -> u64
-    ensures { result ≡ completion_number completion }
-{
-    match completion {
-        Completion::NoOp => 0,
-        Completion::OptIn => 1,
-        Completion::CloseOut => 2,
-        Completion::ClearState => 3,
-        Completion::UpdateApplication => 4,
-        Completion::DeleteApplication => 5,
-    }
 }
 
 /// The account of an index: the sender at 0, and the call's accounts from 1 on.
@@ -66,7 +52,7 @@ fn txn_value(alloc: Global, call: &CallData, field: TxnField) -> Result<Value, F
         TxnField::Type => Ok(bytes_value(alloc, b"appl")?),
         TxnField::TypeEnum => Ok(Value::Uint(6)),
         TxnField::ApplicationId => Ok(Value::Uint(call.application)),
-        TxnField::OnCompletion => Ok(Value::Uint(completion_number(call.completion))),
+        TxnField::OnCompletion => Ok(Value::Uint(u64::from(call.completion.number()))),
         TxnField::NumAppArgs => Ok(Value::Uint(call.arguments.as_slice().len() as u64)),
         TxnField::NumAccounts => Ok(Value::Uint(call.accounts.as_slice().len() as u64)),
         TxnField::ApprovalProgram => Ok(bytes_value(alloc, call.approval.as_slice())?),

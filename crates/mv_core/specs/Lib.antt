@@ -5,3 +5,4 @@ pub mod Laws
 pub mod Calls
 pub mod Commits
 pub mod Worlds
+pub mod FaultNames

@@ -1,21 +1,38 @@
 //! Why a store refuses a call.
 
+ghost use Rattle.std.specs.Prelude.{◌≡◌};
+ghost use Rattle.mv_core.specs.FaultNames.{abandon_fault_name, commit_fault_name, read_fault_name, state_fault_name};
+
 use avm_items::Item;
 use avm_run::Finished;
 use teal_value::Failure;
+use thiserror::Error;
 
 /// Why an item is not read.
-#[derive(Clone, Copy, Debug, PartialEq, Eq)]
+#[derive(Clone, Copy, Debug, PartialEq, Eq, Error)]
+#[error("{name}", name = self.name())]
 pub enum ReadFault {
     /// The ticket is of no live attempt.
     Unknown,
+}
+
+impl ReadFault {
+    /// Its name.
+    pub fn name(self) -> &'static str
+        ensures { result.now ≡ read_fault_name self }
+    {
+        match self {
+            ReadFault::Unknown => "Unknown",
+        }
+    }
 }
 
 /// A [`ReadFault`], or want of memory.
 pub type ReadError = Failure<ReadFault>;
 
 /// Why a finished call does not commit, in the order of the tests.
-#[derive(Debug, Drop)]
+#[derive(Debug, Drop, Error)]
+#[error("{name}", name = self.name())]
 pub enum CommitFault {
     /// The ticket is of no live attempt.
     Unknown,
@@ -24,6 +41,19 @@ pub enum CommitFault {
     /// The version that a write would follow was read above its timestamp: the least such item, with the version and the
     /// last timestamp that read it.
     Late { item: Item, version: u64, mark: u64 },
+}
+
+impl CommitFault {
+    /// Its name.
+    pub fn name(&self) -> &'static str
+        ensures { result.now ≡ commit_fault_name self.now }
+    {
+        match self {
+            CommitFault::Unknown => "Unknown",
+            CommitFault::Stranger => "Stranger",
+            CommitFault::Late { .. } => "Late",
+        }
+    }
 }
 
 /// A [`CommitFault`], or want of memory.
@@ -37,17 +67,41 @@ pub struct RefusedCommit {
 }
 
 /// Why nothing is abandoned.
-#[derive(Clone, Copy, Debug, PartialEq, Eq)]
+#[derive(Clone, Copy, Debug, PartialEq, Eq, Error)]
+#[error("{name}", name = self.name())]
 pub enum AbandonFault {
     /// The ticket is of no live attempt.
     Unknown,
 }
 
+impl AbandonFault {
+    /// Its name.
+    pub fn name(self) -> &'static str
+        ensures { result.now ≡ abandon_fault_name self }
+    {
+        match self {
+            AbandonFault::Unknown => "Unknown",
+        }
+    }
+}
+
 /// Why there is no ledger of the past.
-#[derive(Clone, Copy, Debug, PartialEq, Eq)]
+#[derive(Clone, Copy, Debug, PartialEq, Eq, Error)]
+#[error("{name}", name = self.name())]
 pub enum StateFault {
     /// The timestamp is below the low mark.
     Pruned,
+}
+
+impl StateFault {
+    /// Its name.
+    pub fn name(self) -> &'static str
+        ensures { result.now ≡ state_fault_name self }
+    {
+        match self {
+            StateFault::Pruned => "Pruned",
+        }
+    }
 }
 
 /// A [`StateFault`], or want of memory.
