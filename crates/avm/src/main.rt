@@ -7,11 +7,11 @@ ghost use Rattle.std.specs.List.{AllByRecursion};
 ghost use Rattle.avm_node.specs.WorkerSets.{AreSets};
 ghost use Rattle.avm_ops.specs.Objects.{IsFull};
 
-use avm_arith::ArithOp;
-use avm_flow_ops::FlowOp;
+use avm_arith::{Binary, Bits, Comparison, Equality, Joined, OfBytes, Unary, Wide};
+use avm_flow_ops::{Block, Branch, Bytec, Intc, Literal, Scratch, Stack, Stops};
 use avm_node::run;
 use avm_ops::{BoxedOp, Op, OpSet, Ops};
-use avm_state_ops::StateOp;
+use avm_state_ops::{GlobalOp, StateRead, StateWrite, Txn};
 use std::env;
 use std::io::{self, ErrorKind};
 use std::process::ExitCode;
@@ -34,6 +34,18 @@ macro_rules! boxed {
     };
 }
 
+/// The object of a code, of the family that has it, or the next turn of the loop where none has. Each family is an object by
+/// itself, and not in a type of all of them, which would be told apart once more at each instruction.
+macro_rules! object_of {
+    ($alloc:expr, $code:expr, $($family:ident),+) => {
+        $(if let Some(op) = $family::of($code) {
+            boxed!($alloc, op)
+        } else)+ {
+            continue;
+        }
+    };
+}
+
 fn main(rt: HostRuntime) -> ExitCode {
     let alloc = rt.alloc();
     let mut sets = Vec::new(alloc);
@@ -44,15 +56,11 @@ fn main(rt: HostRuntime) -> ExitCode {
         };
         for code in 0..256usize {
             let code = code as u8;
-            let op: Box<dyn Op> = if let Some(op) = ArithOp::of(code) {
-                boxed!(alloc, op)
-            } else if let Some(op) = FlowOp::of(code) {
-                boxed!(alloc, op)
-            } else if let Some(op) = StateOp::of(code) {
-                boxed!(alloc, op)
-            } else {
-                continue;
-            };
+            let op: Box<dyn Op> = object_of!(
+                alloc, code, Binary, Bits, Comparison, Equality, Joined, OfBytes, Unary, Wide,
+                Block, Branch, Bytec, Intc, Literal, Scratch, Stack, Stops, GlobalOp, StateRead,
+                StateWrite, Txn
+            );
             if ops.push(BoxedOp { op }).is_err() {
                 return ExitCode::from(FAILED);
             }
