@@ -5,3 +5,4 @@ pub mod Shards
 pub mod Helds
 pub mod Writing
 pub mod Tests
+pub mod FaultNames
