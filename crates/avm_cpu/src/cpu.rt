@@ -7,16 +7,17 @@ ghost use Rattle.teal_value.specs.declared.value.Value.TheVariants.{Uint, Bytes}
 ghost use Rattle.avm_cpu.specs.Machine.{filled, machine_at, with_stack};
 ghost use Rattle.avm_cpu.specs.Operands.{one_uint, one_bytes, one_value, two_uints, two_bytes, two_values, uint_and_bytes, bytes_and_uint, bytes_and_value, value_and_uint, bytes_and_two_uints, value_and_two_uints, two_values_and_uint, two_uints_and_bytes, uint_bytes_and_value, value_below};
 
+use crate::constants::{ByteConstants, write_over};
 use arrayvec::ArrayVec;
 use std::alloc::{AllocError, Global};
 use std::marker::Model;
-use teal_value::{ByteString, ByteStrings, Fault, Uints, Value};
+use teal_value::{ByteString, Fault, Value};
 
 /// The machine of one run. At most 1000 values stand on the stack (AVM specification, "The Stack").
 ///
 /// A program's instruction reads its operands by `&self`, computes and tests, and then changes the machine: so a fault
 /// leaves it as it was. The stack and the scratch space lie in boxes: a machine is moved by a few words, and is made once
-/// for many runs, by [`Cpu::reset`].
+/// for many runs, by [`Cpu::reset`]. The memory for constants stays with it from run to run.
 #[derive(Drop)]
 pub struct Cpu {
     stack: Box<ArrayVec<Value, 1000>>,
@@ -24,8 +25,8 @@ pub struct Cpu {
     scratch: Box<ArrayVec<Value, 256>>,
     /// The value of a place that was not written, to be lent.
     zero: Value,
-    uint_constants: Uints,
-    byte_constants: ByteStrings,
+    uint_constants: Vec<u64>,
+    byte_constants: ByteConstants,
     place: u16,
 }
 
@@ -36,7 +37,7 @@ impl Model for Cpu {
 
     ghost Value = { Machine };
 
-    ghost view = { λ c. record { stack = reverse c.stack.value.items; scratch = filled c.scratch.value.items; uint_constants = c.uint_constants; byte_constants = c.byte_constants; place = c.place } };
+    ghost view = { λ c. record { stack = reverse c.stack.value.items; scratch = filled c.scratch.value.items; uint_constants = c.uint_constants.items; byte_constants = c.byte_constants; place = c.place } };
 
     ghost invariant = { λ c. (length c.scratch.value.items ≤ 256) × (c.zero ≡ Uint 0) };
 }
@@ -93,17 +94,6 @@ fn write(scratch: &mut ArrayVec<Value, 256>, index: u8, value: Value)
     scratch.as_mut_slice()[place] = value;
 }
 
-/// A copy of byte strings.
-fn copied(alloc: Global, strings: &[ByteString]) -> Result<ByteStrings, AllocError>
-    ensures { IfOk result (λ copies. copies ≡ strings.now) }
-{
-    let mut copies = Vec::with_capacity(alloc, strings.len())?;
-    for string in strings {
-        copies.push(string.clone()?)?;
-    }
-    Ok(ByteStrings::from_vec(copies))
-}
-
 impl Cpu {
     /// The machine before a program's first instruction, which stands at the place. It is made out of line, as its parts are.
     #[inline(never)]
@@ -116,21 +106,21 @@ impl Cpu {
             stack,
             scratch,
             zero: Value::Uint(0),
-            uint_constants: Uints::from_vec(Vec::new(alloc)),
-            byte_constants: ByteStrings::from_vec(Vec::new(alloc)),
+            uint_constants: Vec::new(alloc),
+            byte_constants: ByteConstants::new(alloc),
             place,
         })
     }
 
-    /// Becomes the machine before a program's first instruction, which stands at the place. It takes no memory, and costs
-    /// what the machine holds.
-    pub fn reset(&mut self, alloc: Global, place: u16)
+    /// Becomes the machine before a program's first instruction, which stands at the place. It takes no memory, costs no
+    /// more than what stands on the stack and in the scratch space, and keeps the memory for constants.
+    pub fn reset(&mut self, place: u16)
         ensures { self.new ≡ machine_at place }
     {
         self.stack.clear();
         self.scratch.clear();
-        self.uint_constants = Uints::from_vec(Vec::new(alloc));
-        self.byte_constants = ByteStrings::from_vec(Vec::new(alloc));
+        self.uint_constants.clear();
+        self.byte_constants.clear();
         self.place = place;
     }
 
@@ -500,13 +490,12 @@ impl Cpu {
             .copied()
     }
 
-    /// Puts other uint constants in force. At want of memory those of before stay.
-    pub fn set_uint_constants(&mut self, alloc: Global, numbers: &[u64]) -> Result<(), AllocError>
+    /// Puts other uint constants in force, and takes memory only where the machine has not held as many before. At want of
+    /// memory those of before stay.
+    pub fn set_uint_constants(&mut self, numbers: &[u64]) -> Result<(), AllocError>
         ensures { MatchResult result (λ _. self.new ≡ record self.old { uint_constants = numbers.now }) (λ _. self.new ≡ self.old) }
     {
-        let copies = Vec::from_slice(alloc, numbers)?;
-        self.uint_constants = Uints::from_vec(copies);
-        Ok(())
+        write_over(&mut self.uint_constants, numbers)
     }
 
     /// The byte constants in force.
@@ -526,7 +515,8 @@ impl Cpu {
         }
     }
 
-    /// Puts other byte constants in force. At want of memory those of before stay.
+    /// Puts other byte constants in force, and takes memory only where what the machine held before has no room for them.
+    /// At want of memory those of before stay.
     pub fn set_byte_constants(
         &mut self,
         alloc: Global,
@@ -534,9 +524,7 @@ impl Cpu {
     ) -> Result<(), AllocError>
         ensures { MatchResult result (λ _. self.new ≡ record self.old { byte_constants = strings.now }) (λ _. self.new ≡ self.old) }
     {
-        let copies = copied(alloc, strings)?;
-        self.byte_constants = copies;
-        Ok(())
+        self.byte_constants.set(alloc, strings)
     }
 
     /// The place of the instruction that runs.

@@ -2,6 +2,7 @@
 //! call for each kind of operands (`specs/Operands.antt`).
 #![tactic(auto)]
 
+mod constants;
 mod cpu;
 mod flow;
 

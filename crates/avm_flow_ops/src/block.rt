@@ -59,7 +59,7 @@ impl Op for Block {
         _env: &mut Env,
     ) -> Result<Flow, Stop> {
         match self {
-            Block::Intcblock => cpu.set_uint_constants(alloc, uints_of(&instr.immediates))?,
+            Block::Intcblock => cpu.set_uint_constants(uints_of(&instr.immediates))?,
             Block::Bytecblock => {
                 cpu.set_byte_constants(alloc, byte_strings_of(&instr.immediates))?
             }

@@ -7,6 +7,4 @@ use Rattle.avm_cpu.proofs.cpu.Cpu.reset.Goals as goal
 pub returns : goal.returns
 returns c =
     let scratch = ap filled c.clear-2.ensures ∙ none_written in
-    let uints = c.from_vec.ensures ∙ c.new.ensures.items in
-    let strings = c.from_vec-2.ensures ∙ c.new-2.ensures.items in
-    λ i. record { stack = reverse (c.clear.ensures i); scratch = scratch i; uint_constants = uints i; byte_constants = strings i; place = c.args.place }
+    λ i. record { stack = reverse (c.clear.ensures i); scratch = scratch i; uint_constants = c.clear-3.ensures.items i; byte_constants = c.clear-4.ensures i; place = c.args.place }
