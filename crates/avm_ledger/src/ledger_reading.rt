@@ -61,7 +61,8 @@ fn next_id_of(fields: Fields<'_>) -> Result<(u64, Fields<'_>), LedgerError>
     Ok((next_id, rest))
 }
 
-/// So many applications by rising id, each below the next id.
+/// So many applications by rising id, each below the next id. Programs are shared with the application before where they
+/// are the same, since applications of one kind mostly stand one behind another.
 fn applications_of(
     alloc: Global,
     count: u32,
@@ -75,7 +76,10 @@ fn applications_of(
     let mut rest = fields;
     for _ in 0..count {
         let (id, next) = id_of(before, next_id, rest)?;
-        let (application, next) = application_of(alloc, next)?;
+        let last = applications
+            .last_key_value()
+            .map(|entry: (&u64, &StoredApplication)| &entry.1.row);
+        let (application, next) = application_of(alloc, last, next)?;
         applications.insert(id, application)?;
         before = id;
         rest = next;
@@ -94,15 +98,17 @@ fn id_of(before: u64, next_id: u64, fields: Fields<'_>) -> Result<(u64, Fields<'
     Ok((id, rest))
 }
 
-fn application_of(
+/// An application that stands behind the last one, if any.
+fn application_of<'a>(
     alloc: Global,
-    fields: Fields<'_>,
-) -> Result<(StoredApplication, Fields<'_>), LedgerError>
+    last: Option<&Application>,
+    fields: Fields<'a>,
+) -> Result<(StoredApplication, Fields<'a>), LedgerError>
     ensures { Gives (λ x. x) result (stored_application_at fields.entry) }
 {
     let (creator, rest) = fields.address(LedgerFault::Truncated)?;
-    let (approval, rest) = program_of(alloc, rest)?;
-    let (clear, rest) = program_of(alloc, rest)?;
+    let (approval, rest) = program_of(alloc, last.map(|last| &last.approval), rest)?;
+    let (clear, rest) = program_of(alloc, last.map(|last| &last.clear), rest)?;
     let (global_schema, rest) = schema_of(MAX_GLOBAL_ENTRIES, rest)?;
     let (local_schema, rest) = schema_of(MAX_LOCAL_ENTRIES, rest)?;
     let (state, rest) = state_of(alloc, entries_within(global_schema), global_schema, rest)?;
@@ -116,12 +122,21 @@ fn application_of(
     Ok((StoredApplication { row, state }, rest))
 }
 
-/// A program, checked.
-fn program_of(alloc: Global, fields: Fields<'_>) -> Result<(StoredProgram, Fields<'_>), LedgerError>
+/// A program, checked; or that of the last application, shared, where it has the same bytes.
+fn program_of<'a>(
+    alloc: Global,
+    last: Option<&StoredProgram>,
+    fields: Fields<'a>,
+) -> Result<(StoredProgram, Fields<'a>), LedgerError>
     ensures { Gives (λ x. x) result (program_at fields.entry) }
 {
-    let (program, rest) = fields.string(LedgerFault::Truncated)?;
-    match check(alloc, program) {
+    let (bytes, rest) = fields.string(LedgerFault::Truncated)?;
+    if let Some(last) = last {
+        if last.program().bytes() == bytes {
+            return Ok((last.clone()?, rest));
+        }
+    }
+    match check(alloc, bytes) {
         Ok(program) => Ok((StoredProgram::new(program), rest)),
         Err(Failure::Memory) => Err(Failure::Memory),
         Err(Failure::Fault(_)) => Err(Failure::Fault(LedgerFault::Malformed)),

@@ -29,6 +29,14 @@ const WITH_STATES: &str =
 
 const DIGEST_WITH_STATES: &str = "8580375461f564535e0a5b2a484235f6aa9366aa5852edb6745a5d6c9a600471";
 
+/// Four applications of the zero address without states. Both programs of each are `int 1`, but for the third, whose
+/// approval program is `int 0`.
+const FOUR_CREATIONS: &str =
+    "000000000000000500000004000000000000000100000000000000000000000000000000000000000000000000000000000000000005022001012200050220010122000000000000000000000000020000000000000000000000000000000000000000000000000000000000000000000502200101220005022001012200000000000000000000000003000000000000000000000000000000000000000000000000000000000000000000050220010022000502200101220000000000000000000000000400000000000000000000000000000000000000000000000000000000000000000005022001012200050220010122000000000000000000";
+
+const DIGEST_OF_FOUR_CREATIONS: &str =
+    "3f4852a5a94319cabbf04ad21600b53405b122b0b54004ce80271b34dd773d2b";
+
 /// A call of application 5 that closes out, with the note `a`, an argument of the bytes 7 and 8, the zero address as an
 /// account, and the foreign application 9.
 const CALL: &str =
@@ -87,6 +95,7 @@ fn ledgers_are_read_and_spelled_back(rt: HostRuntime) -> Result<(), Fail> {
         (EMPTY, DIGEST_OF_EMPTY),
         (ONE_CREATION, DIGEST_OF_ONE_CREATION),
         (WITH_STATES, DIGEST_WITH_STATES),
+        (FOUR_CREATIONS, DIGEST_OF_FOUR_CREATIONS),
     ];
     for (digits, digest) in ledgers {
         let bytes = hex::decode(alloc, digits)?;
@@ -121,7 +130,7 @@ fn a_ledger_that_is_read_has_its_states(rt: HostRuntime) -> Result<(), Fail> {
 
 #[test]
 fn every_proper_beginning_of_a_ledger_is_truncated(rt: HostRuntime) -> Result<(), Fail> {
-    for digits in [EMPTY, ONE_CREATION, WITH_STATES] {
+    for digits in [EMPTY, ONE_CREATION, WITH_STATES, FOUR_CREATIONS] {
         let mut bytes = hex::decode(rt.alloc(), digits)?;
         bytes.push(0)?;
         assert_eq!(rt;
@@ -158,6 +167,10 @@ fn the_first_fault_of_a_ledger_counts(rt: HostRuntime) -> Result<(), Fail> {
         // Programs of version 1.
         (ONE_CREATION, 54, 1, LedgerFault::Malformed),
         (ONE_CREATION, 61, 1, LedgerFault::Malformed),
+        // Programs of version 1 of the second and the third application.
+        (FOUR_CREATIONS, 113, 1, LedgerFault::Malformed),
+        (FOUR_CREATIONS, 120, 1, LedgerFault::Malformed),
+        (FOUR_CREATIONS, 172, 1, LedgerFault::Malformed),
         // Schemas above the limits.
         (ONE_CREATION, 66, 65, LedgerFault::Malformed),
         (ONE_CREATION, 68, 17, LedgerFault::Malformed),
