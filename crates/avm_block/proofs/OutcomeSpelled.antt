@@ -4,6 +4,8 @@ use Rattle.std.specs.Int.{w8, w16}
 use Rattle.std.specs.Option.{ok_or}
 use Rattle.std.proofs.lemmas.Bool.{eqb-true, leb-true}
 use Rattle.teal_value.specs.Answer.{◌>>=◌}
+use Rattle.teal_value.specs.FaultNumbers.{fault_number, faults, numbered}
+use Rattle.teal_value.proofs.FaultsNumbered.{small_fault}
 use Rattle.teal_value.specs.declared.fault.Fault.{Fault}
 use Rattle.teal_value.proofs.Binding.{chosen}
 use Rattle.teal_code.proofs.Bytes.{AllBytes}
@@ -14,12 +16,12 @@ use Rattle.avm_call.specs.declared.outcome.Cause.{Cause}
 use Rattle.avm_call.specs.declared.outcome.Cause.TheVariants as cause
 use Rattle.avm_call.specs.declared.outcome.Outcome.{Outcome}
 use Rattle.avm_call.specs.declared.outcome.Outcome.TheVariants as outcome
-use Rattle.avm_call.specs.OutcomeSpelling.{fault_number, why_number, outcome_bytes}
+use Rattle.avm_call.specs.OutcomeSpelling.{why_number, whys, outcome_bytes}
 use Rattle.avm_block.specs.declared.block_fault.BlockFault.{BlockFault}
 use Rattle.avm_block.specs.declared.block_fault.BlockFault.TheVariants.{Truncated, Field}
-use Rattle.avm_block.specs.OutcomeReader.{numbered, faults, whys, one_at, place_at, fault_at, cause_of_kind, outcome_of_kind, outcome_at}
+use Rattle.avm_block.specs.OutcomeReader.{one_at, place_at, fault_at, cause_of_kind, outcome_of_kind, outcome_at}
 use Rattle.avm_call.specs.Places.{HasCausePlace, HasPlace}
-use Rattle.avm_block.proofs.OutcomeBack.{cause_bytes, byte_as_it_is, small_fault, small_why}
+use Rattle.avm_block.proofs.OutcomeBack.{cause_bytes, byte_as_it_is, small_why}
 
 -- a field that keeps its rule
 pub kept : {A : Type 0} (rule : A → Bool) (d : BlockFault) (x y : A) → cond (rule x) (Ok x) (Err d) ≡ Ok y → (rule y ≡ true) × (x ≡ y)

@@ -4,7 +4,7 @@ use Rattle.std.specs.Option.{ok_or}
 use Rattle.std.specs.Int.{w8, w16}
 use Rattle.teal_value.specs.Answer.{◌>>=◌}
 use Rattle.teal_value.specs.declared.fault.Fault.{Fault}
-use Rattle.teal_value.specs.declared.fault.Fault.TheVariants as fault
+use Rattle.teal_value.specs.FaultNumbers.{fault_number, faults, numbered}
 use Rattle.avm_ledger.specs.FieldReader.{Front, number_at}
 use Rattle.avm_call.specs.declared.outcome.Why.{Why}
 use Rattle.avm_call.specs.declared.outcome.Why.TheVariants as why
@@ -12,23 +12,9 @@ use Rattle.avm_call.specs.declared.outcome.Cause.{Cause}
 use Rattle.avm_call.specs.declared.outcome.Cause.TheVariants as cause
 use Rattle.avm_call.specs.declared.outcome.Outcome.{Outcome}
 use Rattle.avm_call.specs.declared.outcome.Outcome.TheVariants as outcome
-use Rattle.avm_call.specs.OutcomeSpelling.{fault_number, why_number}
+use Rattle.avm_call.specs.OutcomeSpelling.{why_number, whys}
 use Rattle.avm_block.specs.declared.block_fault.BlockFault.{BlockFault}
 use Rattle.avm_block.specs.declared.block_fault.BlockFault.TheVariants.{Truncated, Field}
-
--- the value of a number among these
-abbrev pub numbered : {A : Type 0} → (A → ℕ) → ℕ → List A → Option A
-numbered number n [] = None
-numbered number n (x ∷ xs) = if number x == n then Some x else numbered number n xs
-
-abbrev pub faults : List Fault
-faults =
-    fault.Err ∷ fault.Underflow ∷ fault.WrongType ∷ fault.Compare ∷ fault.Overflow ∷ fault.Negative ∷ fault.DivZero ∷ fault.TooLong ∷ fault.Range
-    ∷ fault.BtoiLength ∷ fault.StackFull ∷ fault.NoConstant ∷ fault.BadField ∷ fault.NoTxn ∷ fault.NoArg ∷ fault.NoAccount ∷ fault.NoForeign
-    ∷ fault.NotOptedIn ∷ fault.NoSuchApp ∷ fault.Schema ∷ fault.KeyLength ∷ fault.FinalDepth ∷ fault.FinalBytes ∷ fault.Assert ∷ []
-
-abbrev pub whys : List Why
-whys = why.NoApp ∷ why.AlreadyIn ∷ why.NotIn ∷ why.IdsEnd ∷ []
 
 -- one of these values, by its number of one byte
 abbrev pub one_at : {A : Type 0} → (A → ℕ) → List A → List ℕ → Front BlockFault A

@@ -1,8 +1,9 @@
 //! How programs and calls end.
 
 ghost use Rattle.std.specs.Prelude.{◌≡◌};
+ghost use Rattle.teal_value.specs.FaultNumbers.{numbered};
 ghost use Rattle.avm_call.specs.FaultNames.{why_name};
-ghost use Rattle.avm_call.specs.OutcomeSpelling.{why_number};
+ghost use Rattle.avm_call.specs.OutcomeSpelling.{why_number, whys};
 
 use teal_value::Fault;
 
@@ -15,7 +16,7 @@ pub enum Ended {
     Faulted(Fault, u16),
 }
 
-/// Why a call is refused before its program runs, by its number in the block format.
+/// Why a call is refused before its program runs, by its number in the bytes of outcomes.
 #[derive(Clone, Copy, Debug, PartialEq, Eq)]
 pub enum Why {
     /// The application is gone.
@@ -29,7 +30,7 @@ pub enum Why {
 }
 
 impl Why {
-    /// Its number in the block format.
+    /// Its number in the bytes of outcomes.
     pub fn number(self) -> u8
         ensures { result ≡ why_number self }
     {
@@ -38,6 +39,19 @@ impl Why {
             Why::AlreadyIn => 2,
             Why::NotIn => 3,
             Why::IdsEnd => 4,
+        }
+    }
+
+    /// The reason of this number in the bytes of outcomes.
+    pub fn numbered(number: u8) -> Option<Why>
+        ensures { result ≡ numbered why_number number whys }
+    {
+        match number {
+            1 => Some(Why::NoApp),
+            2 => Some(Why::AlreadyIn),
+            3 => Some(Why::NotIn),
+            4 => Some(Why::IdsEnd),
+            _ => None,
         }
     }
 

@@ -5,3 +5,4 @@ pub mod Base32Bytes
 pub mod Base32Law
 pub mod AddressLaw
 mod Rows
+pub mod FaultsNumbered

@@ -4,3 +4,4 @@ pub mod AddressText
 pub mod SameValues
 pub mod SameValueLaws
 pub mod FaultNames
+pub mod FaultNumbers

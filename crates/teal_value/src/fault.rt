@@ -2,10 +2,11 @@
 
 ghost use Rattle.std.specs.Prelude.{◌≡◌};
 ghost use Rattle.teal_value.specs.FaultNames.{fault_name};
+ghost use Rattle.teal_value.specs.FaultNumbers.{fault_number, faults, numbered};
 
 use thiserror::Error;
 
-/// The fault of an instruction or of a program's end, by its number in the block format.
+/// The fault of an instruction or of a program's end, by its number in the bytes of outcomes.
 ///
 /// The rules that raise each are those of the opcode table (AVM specification, version 2 and 3 opcodes, application mode).
 #[derive(Clone, Copy, Debug, PartialEq, Eq, Error)]
@@ -91,6 +92,89 @@ impl Fault {
             Fault::FinalDepth => "FinalDepth",
             Fault::FinalBytes => "FinalBytes",
             Fault::Assert => "Assert",
+        }
+    }
+
+    /// Its number in the bytes of outcomes.
+    pub fn number(self) -> u8
+        ensures { result ≡ fault_number self }
+    {
+        match self {
+            Fault::Err => 1,
+            Fault::Underflow => 2,
+            Fault::WrongType => 3,
+            Fault::Compare => 4,
+            Fault::Overflow => 5,
+            Fault::Negative => 6,
+            Fault::DivZero => 7,
+            Fault::TooLong => 8,
+            Fault::Range => 9,
+            Fault::BtoiLength => 10,
+            Fault::StackFull => 11,
+            Fault::NoConstant => 12,
+            Fault::BadField => 13,
+            Fault::NoTxn => 14,
+            Fault::NoArg => 15,
+            Fault::NoAccount => 16,
+            Fault::NoForeign => 17,
+            Fault::NotOptedIn => 18,
+            Fault::NoSuchApp => 19,
+            Fault::Schema => 20,
+            Fault::KeyLength => 21,
+            Fault::FinalDepth => 22,
+            Fault::FinalBytes => 23,
+            Fault::Assert => 24,
+        }
+    }
+
+    /// The fault of this number in the bytes of outcomes.
+    pub fn numbered(number: u8) -> Option<Fault>
+        ensures { result ≡ numbered fault_number number faults }
+    {
+        fault_numbered(number, &FAULTS)
+    }
+}
+
+/// All faults, by their numbers.
+const FAULTS: [Fault; 24] = [
+    Fault::Err,
+    Fault::Underflow,
+    Fault::WrongType,
+    Fault::Compare,
+    Fault::Overflow,
+    Fault::Negative,
+    Fault::DivZero,
+    Fault::TooLong,
+    Fault::Range,
+    Fault::BtoiLength,
+    Fault::StackFull,
+    Fault::NoConstant,
+    Fault::BadField,
+    Fault::NoTxn,
+    Fault::NoArg,
+    Fault::NoAccount,
+    Fault::NoForeign,
+    Fault::NotOptedIn,
+    Fault::NoSuchApp,
+    Fault::Schema,
+    Fault::KeyLength,
+    Fault::FinalDepth,
+    Fault::FinalBytes,
+    Fault::Assert,
+];
+
+// The first of these faults that has the number.
+fn fault_numbered(number: u8, faults: &[Fault]) -> Option<Fault>
+    ensures { result ≡ numbered fault_number number faults.now }
+{
+    match faults {
+        [] => None,
+        [first, rest @ ..] => {
+            if first.number() == number {
+                Some(*first)
+            } else {
+                fault_numbered(number, rest)
+            }
         }
     }
 }
