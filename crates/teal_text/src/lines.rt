@@ -1,6 +1,6 @@
 //! The lines of a text, read one by one.
 
-ghost use Rattle.std.specs.Prelude.{◌≡◌};
+ghost use Rattle.std.specs.Prelude.{◌≡◌, OnErr};
 
 use crate::fault::TextError;
 use crate::line::{Line, first_line, tokens_of};
@@ -59,9 +59,11 @@ impl<'a> Lines<'a> {
         self.read
     }
 
-    /// The next line, if there is one, or the fault of its tokens. They take the memory of `spare`.
+    /// The next line, if there is one, or the fault of its tokens, after which it is still the next. They take the memory
+    /// of `spare`.
     pub fn next_line(&mut self, spare: Vec<Token>) -> Result<Option<Line>, TextError>
-        ensures { IsRead result self.old self.new }
+        ensures read { IsRead result self.old self.new }
+        ensures unchanged { OnErr result (self.new ≡ self.old) }
     {
         if self.rest.is_empty() {
             return Ok(None);

@@ -14,7 +14,10 @@ pub returns-then-is_empty : goal.returns-then-is_empty
 returns-then-is_empty c =
     let at = c.self.inside in
     let none : length at.rest.now ≡ 0 = grind (arith, nat_tests) in
-    (ap (λ u. u.lines) (sym c.self.view_is) ∙ none_left (at.read + 1) (length at.text.now - length at.rest.now) at.rest.now none, refl)
+    record {
+      read = (ap (λ u. u.lines) (sym c.self.view_is) ∙ none_left (at.read + 1) (length at.text.now - length at.rest.now) at.rest.now none, refl);
+      unchanged = tt;
+    }
 
 pub returns-in_err-tokens : goal.returns-in_err-tokens
 returns-in_err-tokens c =
@@ -23,7 +26,7 @@ returns-in_err-tokens c =
     let some : 0 < length at.rest.now = grind (arith, nat_tests) in
     let before : Unread = unread_behind at.read at.text.now at.rest.now in
     let fails : Fails c.in_err-tokens.field-0.0 before.lines = refuses c.in_err-tokens.field-0.0 (at.read + 1) (length at.text.now - length at.rest.now) at.rest.now some (rw (← c.first_line.ensures.line) c.in_err-tokens.ensures.value) in
-    rw (p.1, p.2) (subst (λ (u : Unread). Fails c.in_err-tokens.field-0.0 u.lines) c.self.view_is fails)
+    rw (p.1, p.2) (record { read = subst (λ (u : Unread). Fails c.in_err-tokens.field-0.0 u.lines) c.self.view_is fails; unchanged = refl })
 
 pub returns : goal.returns
 returns c =
@@ -43,4 +46,7 @@ returns c =
       left = omega (arith, len);
       within = inside;
     } in
-    subst (λ (u : Unread). IsBehind (record { number = at.read + 1; tokens = c.in_ok-tokens.tokens }) u (unread_behind (at.read + 1) text c.first_line.result.1.now)) c.self.view_is behind
+    record {
+      read = subst (λ (u : Unread). IsBehind (record { number = at.read + 1; tokens = c.in_ok-tokens.tokens }) u (unread_behind (at.read + 1) text c.first_line.result.1.now)) c.self.view_is behind;
+      unchanged = tt;
+    }
