@@ -132,7 +132,7 @@ fn program_of<'a>(
 {
     let (bytes, rest) = fields.string(LedgerFault::Truncated)?;
     if let Some(last) = last {
-        if last.program().bytes() == bytes {
+        if last.as_slice() == bytes {
             return Ok((last.clone()?, rest));
         }
     }
