@@ -5,7 +5,7 @@ ghost use Rattle.avm_ledger.specs.Entries.{with_entry, without_entry};
 ghost use Rattle.avm_items.specs.Items.{with_state};
 ghost use Rattle.avm_items.specs.SameValues.{is_same_application, is_same_schema, is_same_value};
 
-use avm_ledger::{Application, Schema, State};
+use avm_ledger::{Application, EntryCounts, Schema, State};
 use std::alloc::AllocError;
 use teal_value::{StateKey, Value};
 
@@ -16,7 +16,7 @@ pub enum ItemValue {
     Absent,
     NextApp(u64),
     App(Application),
-    Counts(Schema),
+    Counts(EntryCounts),
     Key(Value),
     Local(State),
 }
@@ -26,6 +26,13 @@ pub(crate) fn is_same_schema(schema: Schema, other: Schema) -> bool
     ensures { result ≡ is_same_schema schema other }
 {
     schema.uints == other.uints && schema.bytes == other.bytes
+}
+
+/// Whether two states have as many entries of each kind.
+pub(crate) fn is_same_counts(counts: EntryCounts, other: EntryCounts) -> bool
+    ensures { result ≡ is_same_schema counts other }
+{
+    counts.uints() == other.uints() && counts.bytes() == other.bytes()
 }
 
 /// Whether two applications are the same.
@@ -63,7 +70,7 @@ impl ItemValue {
             (ItemValue::Absent, ItemValue::Absent) => true,
             (ItemValue::NextApp(id), ItemValue::NextApp(other)) => id == other,
             (ItemValue::App(row), ItemValue::App(other)) => is_same_application(row, other),
-            (ItemValue::Counts(counts), ItemValue::Counts(other)) => is_same_schema(
+            (ItemValue::Counts(counts), ItemValue::Counts(other)) => is_same_counts(
                 *counts, *other,
             ),
             (ItemValue::Key(value), ItemValue::Key(other)) => value == other,

@@ -5,7 +5,7 @@ ghost use Rattle.avm_items.specs.LedgerItems.{at};
 ghost use Rattle.avm_items.specs.SameValues.{is_same_value};
 
 use crate::item::Item;
-use crate::item_value::{ItemValue, is_same_application, is_same_schema};
+use crate::item_value::{ItemValue, is_same_application, is_same_counts};
 use avm_ledger::Ledger;
 use std::alloc::AllocError;
 
@@ -50,7 +50,7 @@ pub fn is_value_in(ledger: &Ledger, item: &Item, value: &ItemValue) -> bool
             _ => false,
         },
         Item::Counts(id) => match (ledger.global_state(*id), value) {
-            (Some(state), ItemValue::Counts(other)) => is_same_schema(state.counts(), *other),
+            (Some(state), ItemValue::Counts(other)) => is_same_counts(state.counts(), *other),
             (None, ItemValue::Absent) => true,
             _ => false,
         },

@@ -1,6 +1,5 @@
 -- The counts of a state follow its entries: one value more or less, whatever stands before it.
-use Rattle.std.proofs.Common.{◌≡◌, ◌<◌, ◌≤◌, ◌+◌, ℕ, Bool, true, false, List, [], ◌∷◌, length, Option, None, Some, refl, sym, ap, ◌∙◌, subst, cond, inl, inr, arith}
-use Rattle.std.specs.Prelude.{◌⊎◌, is_some}
+use Rattle.std.proofs.Common.{◌≡◌, ◌<◌, ◌≤◌, ◌+◌, ◌^◌, ℕ, Bool, true, false, List, [], ◌∷◌, length, Option, None, Some, refl, sym, ap, ◌∙◌, subst, cond, arith}
 use Rattle.std.specs.Ordering.{is_eq, match_ordering}
 use Rattle.std.specs.declared.cmp.Ordering.{Ordering}
 use Rattle.std.specs.declared.cmp.Ordering.TheVariants.{Less, Equal, Greater}
@@ -140,7 +139,7 @@ total-counts_in : (es : Entries) → (counts_in es).uints + (counts_in es).bytes
 total-counts_in [] = refl
 total-counts_in (e ∷ es) = omega (arith, total-count_with e.1 (counts_in es) (length es) (total-counts_in es))
 
-pub few : (es : Entries) (n : Schema) → IsCounted es n → (n.uints ≤ 255) × (n.bytes ≤ 255)
+pub few : (es : Entries) (n : Schema) → IsCounted es n → (n.uints < 2 ^ 64) × (n.bytes < 2 ^ 64)
 few es n h =
     let total : (counts_in es).uints + (counts_in es).bytes ≡ length es = total-counts_in es in
     let uints : (counts_in es).uints ≡ n.uints = ap (λ m. m.uints) h.counts in
@@ -157,7 +156,7 @@ count_with-by_sum (Uint a) n = schema_is _ _ refl (omega arith)
 count_with-by_sum (Bytes a) n = schema_is _ _ (omega arith) refl
 
 pub counted_after_put : (es es' : Entries) (key : List ℕ) (v : Value) (n rest count : Schema) (old : Option Value) → IsInKeyOrder es → IsCounted es n → es' ≡ with_entry es key v
-    → old ≡ value_of_key es key → rest ≡ uncounted old n → count ≡ count_with v no_entries → length es' ≤ 255 → length key ≤ 64
+    → old ≡ value_of_key es key → rest ≡ uncounted old n → count ≡ count_with v no_entries → length es' < 2 ^ 64 → length key ≤ 64
     → IsCounted es' (record { uints = rest.uints + count.uints; bytes = rest.bytes + count.bytes })
 unfolding both
 counted_after_put es es' key v n rest count old s h is was left one room short = record {
@@ -168,17 +167,12 @@ counted_after_put es es' key v n rest count old s h is was left one room short =
 }
 
 pub counted_after_delete : (es es' : Entries) (key : List ℕ) (n rest : Schema) (old : Option Value) → IsCounted es n → es' ≡ without_entry es key
-    → old ≡ value_of_key es key → rest ≡ uncounted old n → length es' ≤ 255 → IsCounted es' rest
+    → old ≡ value_of_key es key → rest ≡ uncounted old n → length es' < 2 ^ 64 → IsCounted es' rest
 counted_after_delete es es' key n rest old h is was left room = record {
   counts = ap counts_in is ∙ follow_deletes es key ∙ ap (uncounted (value_of_key es key)) h.counts ∙ ap (λ o. uncounted o n) (sym was) ∙ sym left;
   room = room;
   keys = subst (λ xs. All (λ k. length k ≤ 64) (keys_of xs)) (sym is) (All-map-remove_entry (is_at (byte_cmp key)) (λ e. e.0) (λ k. length k ≤ 64) es h.keys);
 }
-
-pub room_after_put : (n m : ℕ) (old : Option Value) → m ≡ n + cond (is_some old) 0 1 → n ≤ 255 → (n < 255) ⊎ (is_some old ≡ true) → m ≤ 255
-room_after_put n m None e h (inl below) = omega arith
-room_after_put n m None e h (inr there) = absurd cc
-room_after_put n m (Some v) e h there = omega arith
 
 -- no key has more than 64 bytes
 pub no_long_key : (es : Entries) (key : List ℕ) → All (λ k. length k ≤ 64) (keys_of es) → 64 < length key → value_of_key es key ≡ None

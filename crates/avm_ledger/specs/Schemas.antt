@@ -1,5 +1,5 @@
 -- How many uints and byte strings a state has, and the limit that its schema sets.
-use Rattle.std.specs.Prelude.{◌≡◌, ℕ, ◌+◌, ◌-◌, ◌≤◌, ◌&&◌, Bool, true, false, nat_le, length, List, [], ◌∷◌, Option, Some, None}
+use Rattle.std.specs.Prelude.{◌≡◌, ℕ, ◌+◌, ◌-◌, ◌<◌, ◌≤◌, ◌^◌, ◌&&◌, Bool, true, false, nat_le, length, List, [], ◌∷◌, Option, Some, None}
 use Rattle.std.specs.List.{All}
 use Rattle.std.specs.Map.{keys_of}
 use Rattle.teal_value.specs.declared.value.Value.{Value}
@@ -24,10 +24,10 @@ abbrev pub counts_in : Entries → Schema
 counts_in [] = no_entries
 counts_in (e ∷ es) = count_with e.1 (counts_in es)
 
--- The counts are those of the entries, of which there are at most 255, under keys of at most 64 bytes.
+-- The counts are those of the entries, which are as many as memory may hold, under keys of at most 64 bytes.
 pub record IsCounted (state : Entries) (n : Schema) : Type 0 where
   pub counts : counts_in state ≡ n
-  pub room : length state ≤ 255
+  pub room : length state < 2 ^ 64
   pub keys : All (λ k. length k ≤ 64) (keys_of state)
 
 -- whether so many may stand under the schema

@@ -5,6 +5,7 @@
 
 mod application;
 mod codec;
+mod entry_counts;
 mod fields;
 mod header;
 mod ids_end;
@@ -21,6 +22,7 @@ mod state_reading;
 mod stored_program;
 
 pub use application::{Application, StoredApplication};
+pub use entry_counts::EntryCounts;
 pub use fields::Fields;
 pub use header::{Header, Profile};
 pub use ids_end::IdsEnd;

@@ -1,26 +1,22 @@
 //! States of applications and accounts.
 
-ghost use Rattle.std.specs.Prelude.{◌≡◌, ◌+◌, ◌<◌, ◌≤◌, [], None, IfErr, IfOk, IfSome, is_some, length, List, ℕ};
+ghost use Rattle.std.specs.Prelude.{◌≡◌, ◌≤◌, [], None, IfErr, IfOk, IfSome, length, List, ℕ};
 ghost use Rattle.std.specs.Option.{option_copied};
 ghost use Rattle.avm_ledger.specs.Entries.{value_of_key, with_entry, without_entry, IsInKeyOrder};
-ghost use Rattle.avm_ledger.specs.Schemas.{count_with, counts_in, uncounted};
+ghost use Rattle.avm_ledger.specs.Schemas.{counts_in};
 
-use crate::schema::Schema;
+use crate::entry_counts::EntryCounts;
 use sorted_entries::{put, take, value_of};
 use std::alloc::{AllocError, Global};
 use std::marker::Model;
 use teal_value::{StateKey, Value};
 
-/// The most entries that a state has room for. Schemas allow at most 64, and a call's changes pass through at most twice
-/// as many.
-const MOST_ENTRIES: usize = 255;
-
-/// A global or local state: its entries by rising key, which contracts see as the list of them. It has room for 255.
+/// A global or local state: its entries by rising key, which contracts see as the list of them.
 #[derive(Debug, Drop)]
 pub struct State {
     entries: Vec<(StateKey, Value)>,
     /// How many of the entries are uints, and how many byte strings.
-    counts: Schema,
+    counts: EntryCounts,
 }
 
 impl Model for State {
@@ -37,45 +33,6 @@ impl Model for State {
     ghost invariant = { λ s. IsCounted s.entries.items s.counts × IsInKeyOrder s.entries.items };
 }
 
-/// The counts without a value, if one is there.
-fn uncounted(counts: Schema, value: &Option<Value>) -> Schema
-    ensures { result ≡ uncounted value.now counts }
-{
-    let Schema { uints, bytes } = counts;
-    match value {
-        None => counts,
-        Some(Value::Uint(_)) => Schema {
-            uints: uints.saturating_sub(1),
-            bytes,
-        },
-        Some(Value::Bytes(_)) => Schema {
-            uints,
-            bytes: bytes.saturating_sub(1),
-        },
-    }
-}
-
-/// What one value counts.
-fn count_of(value: &Value) -> Schema
-    ensures { result ≡ count_with value.now (record { uints = 0; bytes = 0 }) }
-{
-    match value {
-        Value::Uint(_) => Schema { uints: 1, bytes: 0 },
-        Value::Bytes(_) => Schema { uints: 0, bytes: 1 },
-    }
-}
-
-/// Two counts together.
-fn sum(counts: Schema, more: Schema) -> Schema
-    requires { (counts.uints + more.uints ≤ 255) × (counts.bytes + more.bytes ≤ 255) }
-    ensures { result ≡ record { uints = counts.uints + more.uints; bytes = counts.bytes + more.bytes } }
-{
-    Schema {
-        uints: counts.uints + more.uints,
-        bytes: counts.bytes + more.bytes,
-    }
-}
-
 impl State {
     /// No entries. It takes no memory.
     pub fn new(alloc: Global) -> Self
@@ -83,14 +40,13 @@ impl State {
     {
         State {
             entries: Vec::new(alloc),
-            counts: Schema { uints: 0, bytes: 0 },
+            counts: EntryCounts::none(),
         }
     }
 
     /// How many entries there are.
     pub fn len(&self) -> usize
         ensures len { result ≡ length self.now }
-        ensures room { length self.now ≤ 255 }
         ensures order { IsInKeyOrder self.now }
     {
         let _counts = self.counts;
@@ -98,7 +54,7 @@ impl State {
     }
 
     /// How many uints and how many byte strings there are.
-    pub fn counts(&self) -> Schema
+    pub fn counts(&self) -> EntryCounts
         ensures { result ≡ counts_in self.now }
     {
         self.counts
@@ -109,12 +65,6 @@ impl State {
         ensures { option_copied result ≡ value_of_key self.now key.now }
     {
         value_of(self.entries.as_slice(), key)
-    }
-
-    fn contains_key(&self, key: &StateKey) -> bool
-        ensures { result ≡ is_some (value_of_key self.now key.now) }
-    {
-        self.get(key).is_some()
     }
 
     /// The value of the key of these bytes. No key has more than 64.
@@ -141,8 +91,8 @@ impl State {
         self.entries.as_slice()
     }
 
-    /// Gives a key a value, in place of the one that it may have had, which is answered. Only a new key can be refused:
-    /// for want of memory, or where there are 255.
+    /// Gives a key a value, in place of the one that it may have had, which is answered. Only a new key can want
+    /// memory.
     pub fn insert(&mut self, key: StateKey, value: Value) -> Result<Option<Value>, AllocError>
         ensures old { IfOk result (λ old. old ≡ value_of_key self.old key) }
         ensures set { IfOk result (λ _. self.new ≡ with_entry self.old key value) }
@@ -151,13 +101,11 @@ impl State {
         ensures order { IsInKeyOrder self.new }
     {
         let _bytes = key.as_slice();
-        if self.entries.len() >= MOST_ENTRIES && !self.contains_key(&key) {
-            return Err(AllocError);
-        }
-        let count = count_of(&value);
+        let counts = self.counts;
+        let count = EntryCounts::of(&value);
         let old = put(&mut self.entries, key, value)?;
-        let rest = uncounted(self.counts, &old);
-        self.counts = sum(rest, count);
+        let _room = self.entries.len();
+        self.counts = counts.without(old.as_ref()).and(count);
         Ok(old)
     }
 
@@ -168,7 +116,7 @@ impl State {
         ensures order { IsInKeyOrder self.new }
     {
         let old = take(&mut self.entries, key);
-        self.counts = uncounted(self.counts, &old);
+        self.counts = self.counts.without(old.as_ref());
         old
     }
 

@@ -11,7 +11,7 @@ ghost use Rattle.avm_run.specs.Tests.{HasRoom, IsAdmitted, Tests};
 
 use avm_call::{Call, Why};
 use avm_items::{CallData, Completion, Item, ItemMap, ItemValue};
-use avm_ledger::{Application, Schema, State};
+use avm_ledger::{Application, EntryCounts, State};
 use std::alloc::{AllocError, Global};
 
 /// Why the tests before a program give nothing.
@@ -166,10 +166,7 @@ fn creation(alloc: Global, call: &Call, id: u64) -> Result<ItemMap, AllocError>
     let mut writes = ItemMap::new(alloc);
     writes.insert(Item::NextApp, ItemValue::NextApp(id + 1))?;
     writes.insert(Item::App(id), ItemValue::App(row))?;
-    writes.insert(
-        Item::Counts(id),
-        ItemValue::Counts(Schema { uints: 0, bytes: 0 }),
-    )?;
+    writes.insert(Item::Counts(id), ItemValue::Counts(EntryCounts::none()))?;
     Ok(writes)
 }
 

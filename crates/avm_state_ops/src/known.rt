@@ -8,7 +8,7 @@ ghost use Rattle.avm_ops.specs.States.{application, global_counts, global_entry,
 ghost use Rattle.avm_state_ops.specs.Parts.{Answers, StopsFor};
 
 use avm_items::{Env, Item, ItemValue};
-use avm_ledger::{Application, Schema, State};
+use avm_ledger::{Application, EntryCounts, State};
 use avm_ops::Stop;
 use std::alloc::Global;
 use teal_value::{Address, StateKey, Value};
@@ -74,11 +74,11 @@ pub(crate) fn global_entry<'a>(
 }
 
 /// The counts of the global state of the application that runs.
-pub(crate) fn global_counts(alloc: Global, env: &Env) -> Result<Schema, Stop>
+pub(crate) fn global_counts(alloc: Global, env: &Env) -> Result<EntryCounts, Stop>
     ensures { Answers (λ n. n) result (answer_from (known_to env.now) (global_counts env.now.current)) }
 {
     match known(alloc, env, &Item::Counts(env.current()))? {
         ItemValue::Counts(counts) => Ok(*counts),
-        _ => Ok(Schema { uints: 0, bytes: 0 }),
+        _ => Ok(EntryCounts::none()),
     }
 }

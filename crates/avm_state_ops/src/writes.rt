@@ -3,7 +3,7 @@
 ghost use Rattle.std.specs.Prelude.{◌≡◌, ◌||◌, ℕ, List, Some, false, true, IfSome, MatchOption};
 ghost use Rattle.std.specs.Option.{option_copied};
 ghost use Rattle.teal_table.specs.Table.{code_of};
-ghost use Rattle.avm_ledger.specs.Schemas.{count_without, counts_after, is_within, keeps_kind};
+ghost use Rattle.avm_ledger.specs.Schemas.{counts_after, is_within, keeps_kind};
 ghost use Rattle.avm_items.specs.Asks.{answer_from};
 ghost use Rattle.avm_items.specs.Environments.{known_to};
 ghost use Rattle.avm_cpu.specs.Machine.{Machine};
@@ -16,7 +16,7 @@ use crate::fields::account;
 use crate::known::{application, global_counts, global_entry, local_state};
 use avm_cpu::{Cpu, Flow};
 use avm_items::{Env, Item, ItemValue};
-use avm_ledger::{Application, Schema, State};
+use avm_ledger::{Application, EntryCounts, Schema, State};
 use avm_ops::{Op, Stop};
 use std::alloc::Global;
 use teal_code::Instr;
@@ -104,44 +104,18 @@ fn keeps_kind(old: Option<&Value>, new: &Value) -> bool
     )
 }
 
-/// The counts without a value.
-fn count_without(value: &Value, counts: Schema) -> Schema
-    ensures { result ≡ count_without value.now counts }
-{
-    let Schema { uints, bytes } = counts;
-    match value {
-        Value::Uint(_) => Schema {
-            uints: uints.saturating_sub(1),
-            bytes,
-        },
-        Value::Bytes(_) => Schema {
-            uints,
-            bytes: bytes.saturating_sub(1),
-        },
-    }
-}
-
 /// The counts where an entry's value becomes another, if they keep to the limit.
-fn counts_within(old: Option<&Value>, new: &Value, counts: Schema, limit: Schema) -> Option<Schema>
+fn counts_within(
+    old: Option<&Value>,
+    new: &Value,
+    counts: EntryCounts,
+    limit: Schema,
+) -> Option<EntryCounts>
     ensures { MatchOption result
         (is_within (counts_after (option_copied old.entry) (Some new.now) counts) limit ≡ false)
         (λ after. (after ≡ counts_after (option_copied old.entry) (Some new.now) counts) × (is_within after limit ≡ true)) }
 {
-    let Schema { uints, bytes } = match old {
-        Some(value) => count_without(value, counts),
-        None => counts,
-    };
-    match new {
-        Value::Uint(_) if uints < limit.uints && bytes <= limit.bytes => Some(Schema {
-            uints: uints + 1,
-            bytes,
-        }),
-        Value::Bytes(_) if uints <= limit.uints && bytes < limit.bytes => Some(Schema {
-            uints,
-            bytes: bytes + 1,
-        }),
-        _ => None,
-    }
+    counts.without(old).with_within(new, limit)
 }
 
 /// Whether a value may be put under a key of a state: it is of the old one's kind, or the counts then keep to the limit.
@@ -165,7 +139,7 @@ fn counts_of_put(
     env: &Env,
     old: Option<&Value>,
     new: &Value,
-) -> Result<Option<Schema>, Stop>
+) -> Result<Option<EntryCounts>, Stop>
     ensures { (m : Machine) (key : List ℕ) → Answers (after_put (context_of m env.now) key new.now) result
         (answer_from (known_to env.now) (global_put_over (context_of m env.now) key new.now (option_copied old.entry) (keeps_kind (option_copied old.entry) (Some new.now)))) }
 {
@@ -181,12 +155,16 @@ fn counts_of_put(
 }
 
 /// The counts of the global state of the application that runs after a delete, where they change.
-fn counts_of_delete(alloc: Global, env: &Env, old: Option<&Value>) -> Result<Option<Schema>, Stop>
+fn counts_of_delete(
+    alloc: Global,
+    env: &Env,
+    old: Option<&Value>,
+) -> Result<Option<EntryCounts>, Stop>
     ensures { (m : Machine) (key : List ℕ) → Answers (after_delete (context_of m env.now) key) result
         (answer_from (known_to env.now) (global_delete_of (context_of m env.now) key (option_copied old.entry))) }
 {
     match old {
-        Some(old) => Ok(Some(count_without(old, global_counts(alloc, env)?))),
+        Some(_) => Ok(Some(global_counts(alloc, env)?.without(old))),
         None => Ok(None),
     }
 }

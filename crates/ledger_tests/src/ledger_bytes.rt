@@ -124,7 +124,8 @@ fn a_ledger_that_is_read_has_its_states(rt: HostRuntime) -> Result<(), Fail> {
     let a = StateKey::of(b"a").ok_or("a key is at most 64 bytes")?;
     assert!(rt; matches!(ledger.global_value(1, &a), Some(Value::Uint(7))));
     let state = ledger.local_state(&ZERO_ADDRESS, 1).ok_or("it is in")?;
-    assert_eq!(rt; state.counts(), Schema { uints: 0, bytes: 1 });
+    let counts = state.counts();
+    assert_eq!(rt; (counts.uints(), counts.bytes()), (0, 1));
     Ok(())
 }
 

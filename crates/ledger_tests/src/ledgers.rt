@@ -1,7 +1,7 @@
 //! Ledgers that are made, changed and read back.
 
 use avm_items::{Item, ItemMap, ItemValue, item_of, put_open};
-use avm_ledger::{IdsEnd, Ledger, Schema, State};
+use avm_ledger::{EntryCounts, IdsEnd, Ledger, Schema, State};
 use std::alloc::Global;
 use std::test::Fail;
 use teal_check::{Program, check};
@@ -81,6 +81,18 @@ fn the_last_number_is_no_id(rt: HostRuntime) -> Result<(), Fail> {
 }
 
 #[test]
+fn a_state_takes_more_entries_than_a_schema_allows(rt: HostRuntime) -> Result<(), Fail> {
+    let mut state = State::new(rt.alloc());
+    for number in 0..1000u16 {
+        let key = StateKey::of(&number.to_be_bytes()).ok_or("two bytes")?;
+        state.insert(key, Value::Uint(u64::from(number)))?;
+    }
+    assert_eq!(rt; state.len(), 1000);
+    assert_eq!(rt; (state.counts().uints(), state.counts().bytes()), (1000, 0));
+    Ok(())
+}
+
+#[test]
 fn keys_are_counted_by_kind(rt: HostRuntime) -> Result<(), Fail> {
     let alloc = rt.alloc();
     let mut ledger = one_application(alloc)?.open();
@@ -89,14 +101,14 @@ fn keys_are_counted_by_kind(rt: HostRuntime) -> Result<(), Fail> {
     ledger.set_key(1, key("m")?, Value::Bytes(bytes))?;
     assert_eq!(rt; uint_in(ledger.global_state(1), &key("n")?), Some(7));
     let counts = ledger.global_state(1).ok_or("its state")?.counts();
-    assert_eq!(rt; counts, Schema { uints: 1, bytes: 1 });
+    assert_eq!(rt; (counts.uints(), counts.bytes()), (1, 1));
     ledger.set_key(1, key("m")?, Value::Uint(8))?;
     let counts = ledger.global_state(1).ok_or("its state")?.counts();
-    assert_eq!(rt; counts, Schema { uints: 2, bytes: 0 });
+    assert_eq!(rt; (counts.uints(), counts.bytes()), (2, 0));
     ledger.remove_key(1, &key("n")?);
     assert_eq!(rt; uint_in(ledger.global_state(1), &key("n")?), None);
     let counts = ledger.global_state(1).ok_or("its state")?.counts();
-    assert_eq!(rt; counts, Schema { uints: 1, bytes: 0 });
+    assert_eq!(rt; (counts.uints(), counts.bytes()), (1, 0));
     Ok(())
 }
 
@@ -136,6 +148,6 @@ fn copies_stay(rt: HostRuntime) -> Result<(), Fail> {
     let row = item_of(&copy, &Item::App(1))?;
     assert!(rt; row.is_same(&item_of(&ledger, &Item::App(1))?));
     assert!(rt; item_of(&copy, &Item::App(2))?.is_same(&ItemValue::Absent));
-    assert!(rt; item_of(&copy, &Item::Counts(1))?.is_same(&ItemValue::Counts(NO_ENTRY)));
+    assert!(rt; item_of(&copy, &Item::Counts(1))?.is_same(&ItemValue::Counts(EntryCounts::none())));
     Ok(())
 }

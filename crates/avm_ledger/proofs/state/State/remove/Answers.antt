@@ -1,5 +1,6 @@
-use Rattle.std.proofs.Common.{arith, subst, sym}
+use Rattle.std.proofs.Common.{arith, subst, sym, ap, ◌∙◌}
 use Rattle.avm_ledger.specs.Entries.{IsInKeyOrder}
+use Rattle.avm_ledger.specs.Schemas.{uncounted}
 use Rattle.avm_ledger.proofs.Changes.{byte_total}
 use Rattle.avm_ledger.proofs.Maps.{sorted-removed}
 use Rattle.avm_ledger.proofs.Counts.{counted_after_delete}
@@ -8,7 +9,7 @@ use Rattle.avm_ledger.proofs.state.State.remove.Goals as goal
 pub invariant_of-self : goal.invariant_of-self
 invariant_of-self c =
     let h = c.self.invariant.0 in (
-      counted_after_delete _ _ c.args.key.now _ _ _ h c.take-old.ensures.rest c.take-old.ensures.value c.uncounted-self-inside.ensures (omega (arith, h.room, c.take-old.ensures.len)),
+      counted_after_delete _ _ c.args.key.now _ _ _ h c.take-old.ensures.rest c.take-old.ensures.value (c.without-self-inside.ensures ∙ ap (λ o. uncounted o c.self.inside.counts) c.as_ref.ensures.value) (omega (arith, h.room, c.take-old.ensures.len)),
       subst IsInKeyOrder (sym c.take-old.ensures.rest) (sorted-removed byte_total c.args.key.now _ c.self.invariant.1),
     )
 
