@@ -1,6 +1,6 @@
 -- That no spelling of an outcome, a header, a value, a state or a schema begins another of its kind.
 use Rattle.std.proofs.Common.{◌≡◌, ℕ, ◌%◌, ◌^◌, ◌<◌, ◌≤◌, if◌then◌else◌, List, [], ◌∷◌, ◌++◌, length, refl, sym, ap, ◌∙◌, append_assoc, arith}
-use Rattle.std.specs.Prelude.{◌==◌, All}
+use Rattle.std.specs.Prelude.{◌==◌, All, unwrap_or}
 use Rattle.std.specs.List.{flat_map}
 use Rattle.std.proofs.Math.Nat.{mod-eq_of_lt}
 use Rattle.std.proofs.lemmas.List.Elements.{All-head, All-tail}
@@ -9,7 +9,8 @@ use Rattle.teal_value.specs.declared.value.Value.TheVariants.{Uint, Bytes}
 use Rattle.std.specs.Int.{w16, w64, from_be_bytes}
 use Rattle.std.proofs.lemmas.Nat.{from_be_bytes-to_be_bytes_2, from_be_bytes-to_be_bytes_8}
 use Rattle.teal_value.specs.declared.fault.Fault.{Fault}
-use Rattle.teal_value.specs.declared.fault.Fault.TheVariants as fault
+use Rattle.teal_value.specs.FaultNumbers.{fault_number, faults, numbered}
+use Rattle.teal_value.proofs.FaultsNumbered.{fault_of_number}
 use Rattle.avm_ledger.specs.declared.header.Header.{Header}
 use Rattle.avm_ledger.specs.declared.schema.Schema.{Schema}
 use Rattle.avm_ledger.specs.Entries.{Entries}
@@ -20,7 +21,7 @@ use Rattle.avm_call.specs.declared.outcome.Why.TheVariants as why
 use Rattle.avm_call.specs.declared.outcome.Cause.TheVariants as cause
 use Rattle.avm_call.specs.declared.outcome.Outcome.{Outcome}
 use Rattle.avm_call.specs.declared.outcome.Outcome.TheVariants as outcome
-use Rattle.avm_call.specs.OutcomeSpelling.{fault_number, why_number, outcome_bytes}
+use Rattle.avm_call.specs.OutcomeSpelling.{why_number, outcome_bytes}
 use Rattle.avm_laws.specs.Rules.{HasWords}
 use Rattle.avm_laws.specs.Spellings.{HasPlace, HasSmallNumbers}
 use Rattle.avm_laws.proofs.Given.{heads}
@@ -44,62 +45,8 @@ same_word a b p q e = sym (from_be_bytes-to_be_bytes_8 a p) ∙ ap (from_be_byte
 
 -- ---- numbers of faults and refusals
 
-fault_numbered : ℕ → Fault
-fault_numbered n =
-    if n == 1 then fault.Err
-    else if n == 2 then fault.Underflow
-    else if n == 3 then fault.WrongType
-    else if n == 4 then fault.Compare
-    else if n == 5 then fault.Overflow
-    else if n == 6 then fault.Negative
-    else if n == 7 then fault.DivZero
-    else if n == 8 then fault.TooLong
-    else if n == 9 then fault.Range
-    else if n == 10 then fault.BtoiLength
-    else if n == 11 then fault.StackFull
-    else if n == 12 then fault.NoConstant
-    else if n == 13 then fault.BadField
-    else if n == 14 then fault.NoTxn
-    else if n == 15 then fault.NoArg
-    else if n == 16 then fault.NoAccount
-    else if n == 17 then fault.NoForeign
-    else if n == 18 then fault.NotOptedIn
-    else if n == 19 then fault.NoSuchApp
-    else if n == 20 then fault.Schema
-    else if n == 21 then fault.KeyLength
-    else if n == 22 then fault.FinalDepth
-    else if n == 23 then fault.FinalBytes
-    else fault.Assert
-
-fault_back : (f : Fault) → fault_numbered (fault_number f) ≡ f
-unfolding fault_numbered
-fault_back fault.Err = refl
-fault_back fault.Underflow = refl
-fault_back fault.WrongType = refl
-fault_back fault.Compare = refl
-fault_back fault.Overflow = refl
-fault_back fault.Negative = refl
-fault_back fault.DivZero = refl
-fault_back fault.TooLong = refl
-fault_back fault.Range = refl
-fault_back fault.BtoiLength = refl
-fault_back fault.StackFull = refl
-fault_back fault.NoConstant = refl
-fault_back fault.BadField = refl
-fault_back fault.NoTxn = refl
-fault_back fault.NoArg = refl
-fault_back fault.NoAccount = refl
-fault_back fault.NoForeign = refl
-fault_back fault.NotOptedIn = refl
-fault_back fault.NoSuchApp = refl
-fault_back fault.Schema = refl
-fault_back fault.KeyLength = refl
-fault_back fault.FinalDepth = refl
-fault_back fault.FinalBytes = refl
-fault_back fault.Assert = refl
-
 same_fault : (f g : Fault) → fault_number f ≡ fault_number g → f ≡ g
-same_fault f g e = sym (fault_back f) ∙ ap fault_numbered e ∙ fault_back g
+same_fault f g e = ap (λ o. unwrap_or o f) (sym (fault_of_number f) ∙ ap (λ n. numbered fault_number n faults) e ∙ fault_of_number g)
 
 why_numbered : ℕ → Why
 why_numbered n =
