@@ -94,6 +94,27 @@ fn write(scratch: &mut ArrayVec<Value, 256>, index: u8, value: Value)
     scratch.as_mut_slice()[place] = value;
 }
 
+/// Puts a value in the place of the last ones, so many, of which there is at least one.
+fn put_over(values: &mut ArrayVec<Value, 1000>, count: usize, value: Value)
+    requires some { 0 < count }
+    requires there { count ≤ length values.old.items }
+    ensures put { reverse values.new.items ≡ value ∷ drop count (reverse values.old.items) }
+    ensures len { length values.new.items + count ≡ length values.old.items + 1 }
+{
+    let kept = values.len() - count;
+    values.as_mut_slice()[kept] = value;
+    values.truncate(kept + 1);
+}
+
+/// Exchanges the last two values.
+fn swap_last(values: &mut ArrayVec<Value, 1000>)
+    requires { 2 ≤ length values.old.items }
+    ensures { IfOk (two_values (reverse values.old.items)) (λ p. reverse values.new.items ≡ p.0 ∷ p.1 ∷ drop 2 (reverse values.old.items)) }
+{
+    let last = values.len() - 1;
+    values.as_mut_slice().swap(last - 1, last);
+}
+
 impl Cpu {
     /// The machine before a program's first instruction, which stands at the place. It is made out of line, as its parts are.
     #[inline(never)]
@@ -407,9 +428,7 @@ impl Cpu {
         requires there { count ≤ length self.old.stack }
         ensures { self.new ≡ with_stack self.old (value ∷ drop count self.old.stack) }
     {
-        let _depth = self.depth();
-        self.drop_top(count);
-        self.stack.push(value);
+        put_over(&mut self.stack, count, value);
     }
 
     /// Puts two values in the place of those on top, so many, of which there are at least two; the second becomes the
@@ -420,8 +439,7 @@ impl Cpu {
         ensures { self.new ≡ with_stack self.old (top ∷ below ∷ drop count self.old.stack) }
     {
         let _depth = self.depth();
-        self.drop_top(count);
-        self.stack.push(below);
+        put_over(&mut self.stack, count, below);
         self.stack.push(top);
     }
 
@@ -439,11 +457,7 @@ impl Cpu {
         requires { 2 ≤ length self.old.stack }
         ensures { IfOk (two_values self.old.stack) (λ p. self.new ≡ with_stack self.old (p.0 ∷ p.1 ∷ drop 2 self.old.stack)) }
     {
-        let _depth = self.depth();
-        let top = self.take_top();
-        let below = self.take_top();
-        self.stack.push(top);
-        self.stack.push(below);
+        swap_last(&mut self.stack);
     }
 
     /// Leaves one value alone on the stack.
