@@ -4,13 +4,11 @@ ghost use Rattle.std.specs.Prelude.{◌≡◌, ◌↔◌, ◌∷◌, [], IfErr, 
 ghost use Rattle.std.specs.Option.{option_copied};
 ghost use Rattle.avm_ledger.specs.Entries.{with_entry, without_entry};
 ghost use Rattle.avm_items.specs.Items.{IsInItemOrder, is_global_of, state_of, value_in, with_item, with_state_changed};
-ghost use Rattle.avm_items.specs.LedgerItems.{at, pruned, value_before};
+ghost use Rattle.avm_items.specs.LedgerItems.{pruned, value_before};
 ghost use Rattle.avm_items.specs.SameValues.{is_same_value};
 
 use crate::item::Item;
 use crate::item_value::ItemValue;
-use crate::ledger_items::is_value_in;
-use avm_ledger::Ledger;
 use sorted_entries::{place_of, put, value_of};
 use std::alloc::{AllocError, Global};
 use std::cmp::Ordering;
@@ -105,14 +103,6 @@ impl ItemMap {
             Some(before) => before.is_same(value),
             None => value.is_same(&ItemValue::Absent),
         }
-    }
-
-    /// Takes the items out whose values are those of a ledger.
-    pub fn prune_by(&mut self, ledger: &Ledger)
-        ensures { self.new ≡ pruned (at ledger.now) self.old }
-    {
-        self.values
-            .retain(|entry| !is_value_in(ledger, &entry.0, &entry.1));
     }
 
     /// Takes the counts and the keys of an application's global state out.

@@ -11,6 +11,7 @@ use crate::phase::{Closed, Phase, Ran, run_on};
 use avm_call::{Call, Outcome};
 use avm_cpu::Cpu;
 use avm_items::{ItemMap, item_of, put_items};
+use avm_laws::call_laws::changes_are_handed_on;
 use avm_laws::rule_laws::every_call_keeps_order;
 use avm_ledger::{Header, Ledger};
 use avm_ops::{BoxedOp, Op, OpSet};
@@ -34,12 +35,11 @@ pub fn call_on(
     ensures unchanged { IfErr result (λ _. ledger.new ≡ ledger.old) }
 {
     let closed = run_over(alloc, ledger, call, header, ops, spare)?;
-    let mut writes = closed.writes;
-    writes.prune_by(ledger);
-    // What the call leaves is a ledger.
+    // What the call leaves is a ledger. All that it writes is put, also what is there already, which changes nothing.
     ledger.holds();
     every_call_keeps_order();
-    put_items(alloc, ledger, writes)?;
+    changes_are_handed_on();
+    put_items(alloc, ledger, closed.writes)?;
     Ok(closed.outcome)
 }
 

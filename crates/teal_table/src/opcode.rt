@@ -98,7 +98,7 @@ impl Opcode {
     /// Its byte in a program. It stands here beside its row: a row is several words to write, and an instruction needs
     /// the byte alone.
     #[tactic(auto, unfolding(crate::specs::Table::row_of))]
-    #[inline]
+    #[inline(always)]
     pub fn code(self) -> u8
         ensures { result ≡ code_of self }
     {
