@@ -34,10 +34,10 @@ fn kept(bytes: &[u8]) -> ArrayVec<u8, 64>
     ensures { result.items ≡ bytes.now }
 {
     let mut key = ArrayVec::new();
-    for byte in bytes {
-        key.push(*byte);
+    match key.try_extend_from_slice(bytes) {
+        Ok(()) => key,
+        Err(_) => unreachable!(),
     }
-    key
 }
 
 impl StateKey {
