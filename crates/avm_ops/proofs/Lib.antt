@@ -1,4 +1,3 @@
-pub mod Asked
 pub mod TakenOperands
-pub mod LeftValues
+pub mod RowFacts
 pub mod Sets

@@ -1,4 +1,4 @@
-use Rattle.avm_ops.proofs.Asked.{effect_asks}
+use Rattle.avm_ops.proofs.RowFacts.{effect_asks}
 use Rattle.avm_ops.proofs.laws.asks_little.Goals as goal
 
 pub returns : goal.returns
