@@ -2,7 +2,6 @@ pub mod PathSteps
 pub mod OnlyFaults
 pub mod OneMore
 pub mod Supplied
-pub mod Rows
 pub mod KnownItself
 pub mod ScratchSpace
 pub mod PathsAlike

@@ -12,7 +12,7 @@ use Rattle.avm_ops.specs.Frame.{Stepped}
 use Rattle.avm_ops.specs.Effect.{effect}
 use Rattle.avm_call.specs.declared.outcome.Ended.{Ended}
 use Rattle.avm_call.specs.Runs.{Execution, Position, context_at, executed, instruction_at, known_itself, result_at_end, run_from, step, stepped}
-use Rattle.avm_laws.proofs.WrittenItems.{OnOk}
+use Rattle.avm_ops.proofs.RowFacts.{OnOk}
 use Rattle.avm_debug.proofs.KnownItself.{StaysKnown, effect_stays_known, remaining_alike}
 use Rattle.avm_debug.proofs.PathSteps.{run_parts}
 

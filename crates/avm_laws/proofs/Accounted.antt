@@ -1,5 +1,5 @@
 -- That a call writes no item but those that it has asked for, and those of a new application.
-use Rattle.std.proofs.Common.{◌≡◌, ℕ, zero, suc, ◌+◌, Bool, true, false, cond, List, [], length, if◌then◌else◌, Option, None, Some, Result, Ok, Err, refl, sym, ◌∙◌, subst, nat_le}
+use Rattle.std.proofs.Common.{◌≡◌, ℕ, zero, suc, ◌+◌, ◌-◌, Bool, true, false, cond, List, [], length, if◌then◌else◌, Option, None, Some, Result, Ok, Err, refl, sym, ◌∙◌, subst, nat_le}
 use Rattle.std.specs.Prelude.{◌==◌, ◌||◌, All, is_some, unwrap_or}
 use Rattle.std.specs.Ordering.{is_eq}
 use Rattle.std.proofs.lemmas.List.Elements.{All-head, All-tail}
@@ -19,10 +19,11 @@ use Rattle.avm_items.specs.declared.item.Item.TheVariants as item
 use Rattle.avm_items.specs.declared.item_value.ItemValue.{ItemValue}
 use Rattle.avm_items.specs.declared.item_value.ItemValue.TheVariants as value
 use Rattle.avm_items.specs.CallFields.{account, new_keys}
-use Rattle.avm_items.specs.Items.{ItemMap, Known, Look, item_cmp, value_in, with_item, or_else, over, application_in, entry_in, local_state_in, next_id_in}
+use Rattle.avm_items.specs.Items.{ItemMap, Known, Look, item_cmp, value_in, with_item, or_else, over, application_in, entry_in, local_state_in}
 use Rattle.avm_items.specs.Items as items
 use Rattle.avm_items.specs.Asks.{Ask, Gives, Asks, and_then, result_over, items_asked, remaining_at, remaining_questions}
 use Rattle.avm_items.specs.Acts.{Act, found, on_ok, reads, test}
+use Rattle.avm_items.specs.Counting.{AsksAtMost, Any}
 use Rattle.avm_cpu.specs.Operands.{one_bytes, bytes_and_value, uint_and_bytes, uint_bytes_and_value}
 use Rattle.avm_ops.specs.Frame.{Context, After, Stepped}
 use Rattle.avm_ops.specs.States.{value_length, schema_in, global_put_over, global_delete_of}
@@ -31,9 +32,9 @@ use Rattle.avm_call.specs.declared.outcome.Ended.{Ended}
 use Rattle.avm_call.specs.Runs.{Execution, Position, instruction_at, context_at, known_itself, result_at_end, stepped, executed, step, start, run_from, whole_path, ended_at, program_result}
 use Rattle.avm_call.proofs.Paths.{goes_on as path_goes_on}
 use Rattle.avm_laws.proofs.Given.{item_same}
-use Rattle.avm_laws.proofs.WrittenItems.{OnOk, Same}
+use Rattle.avm_ops.proofs.RowFacts.{OnOk, questions, writes_items}
+use Rattle.avm_laws.proofs.WrittenItems.{Same, effect_same}
 use Rattle.avm_laws.proofs.Following.{value_with}
-use Rattle.avm_laws.proofs.QuietRows.{Always, writes_items, effect_same}
 
 -- ---- what holds of the result where R holds of each item that is asked for
 
@@ -50,9 +51,9 @@ pub if-then : {A B : Type 0} (look : Look) (R : Item → Type 0) (P : A → Type
 if-then look R P S (Gives a) f h g = g a h
 if-then look R P S (Asks x k) f h g = λ r. if-then look R P S (k (look x)) f (h r) g
 
-if-always : {A : Type 0} (look : Look) (R : Item → Type 0) (P S : A → Type 0) (t : Ask A) → ((a : A) → P a → S a) → Always P t → If look R S t
-if-always look R P S (Gives a) f h = f a h
-if-always look R P S (Asks x k) f h = λ r. if-always look R P S (k (look x)) f (h (look x))
+if-at_most : {A : Type 0} (look : Look) (R : Item → Type 0) (n : ℕ) (P S : A → Type 0) (t : Ask A) → ((a : A) → P a → S a) → AsksAtMost Any n P t → If look R S t
+if-at_most look R n P S (Gives a) f h = f a h
+if-at_most look R n P S (Asks x k) f h = λ r. if-at_most look R (n - 1) P S (k (look x)) f (h.1 (look x) tt)
 
 -- a ledger under what is known
 abbrev under : Known → Look → Look
@@ -133,7 +134,7 @@ local_delete_by R c all who state r false = all
 
 effect_by : (look : Look) (R : Item → Type 0) (c : Context) → Accounted R c.writes → (o : Opcode) (i : Immediates) → (b : Bool) → writes_items o ≡ b → Row look R (effect c o i)
 unfolding effect
-effect_by look R c all o i false quiet = if-always look R (OnOk (Same c)) (OnOk (Writing R)) (effect c o i) same (effect_same c o i quiet)
+effect_by look R c all o i false quiet = if-at_most look R (questions o) (OnOk (Same c)) (OnOk (Writing R)) (effect c o i) same (effect_same c o i quiet)
   where
     same : (r : Stepped) → OnOk (Same c) r → OnOk (Writing R) r
     same (Ok after) e = subst (Accounted R) (sym e) all

@@ -18,9 +18,8 @@ use Rattle.avm_items.specs.declared.call_data.CallData.{CallData}
 use Rattle.avm_items.specs.declared.item.Item.{Item}
 use Rattle.avm_items.specs.declared.item.Item.TheVariants as item
 use Rattle.avm_items.specs.declared.item_value.ItemValue.TheVariants as value
-use Rattle.avm_items.specs.Items.{Look, key_value}
+use Rattle.avm_items.specs.Items.{key_value}
 use Rattle.avm_items.specs.LedgerItems.{at, row_value, counts_value, entry_value, local_value}
-use Rattle.avm_items.specs.Asks.{Ask, Gives, Asks, result_over}
 use Rattle.avm_ops.specs.Frame.{After, Stepped}
 use Rattle.avm_ops.specs.Effect.{effect}
 use Rattle.avm_call.specs.Ends.{is_program}
@@ -30,11 +29,13 @@ use Rattle.avm_call.proofs.Asked.{program_fits}
 use Rattle.avm_call.proofs.Placed.{program_is_short}
 use Rattle.avm_laws.specs.Rules.{MayCall, IsSound}
 use Rattle.avm_laws.specs.Bounds.{IsShortValue, IsWithinBounds, RunsStayWithinBounds}
-use Rattle.avm_laws.proofs.Along.{Along, along-both, along-each}
-use Rattle.avm_laws.proofs.WrittenItems.{Writes, OnOk}
-use Rattle.avm_laws.proofs.FollowedRuns.{StepsKeep, led}
+use Rattle.avm_ops.proofs.RowFacts.{OnOk}
+use Rattle.avm_laws.proofs.Along.{along-both, along-each}
+use Rattle.avm_laws.proofs.WrittenItems.{Writes, IsThere}
+use Rattle.avm_laws.proofs.FollowedRuns.{StepsKeep, led, row_stands}
 use Rattle.avm_laws.proofs.FollowedCalls.{IsKept}
-use Rattle.avm_laws.proofs.BoundedRows.{IsShort, IsShortCall, IsShortItem, Bounds, Good, effect_bounded}
+use Rattle.avm_laws.proofs.BoundedRows.{IsShort, IsShortCall, Bounds, Good, effect_bounded}
+use Rattle.avm_laws.proofs.RowValues.{Holds}
 use Rattle.avm_laws.proofs.ProgramValues.{read_short, constants_short}
 use Rattle.avm_laws.proofs.CheckedCalls.{checked_calls_are_short, checked_calls_bring_programs}
 use Rattle.avm_laws.proofs.KeptRules.{SoundAt, sound_kept, stored_row}
@@ -51,25 +52,25 @@ state_short [] all = All-nil (λ e. IsShortValue e.1)
 state_short (e ∷ state) all =
     All-cons (λ e. IsShortValue e.1) e state (value_short e.1 (All-head IsStateEntry e state all).1) (state_short state (All-tail IsStateEntry e state all))
 
-entry_short : (o : Option Value) → IfSome o IsShortValue → IsShortItem (key_value o)
+entry_short : (o : Option Value) → IfSome o IsShortValue → Holds IsShortValue (key_value o)
 entry_short None h = tt
 entry_short (Some v) h = h
 
-items_short : (m : Ledger) → IsSound m → (x : Item) → IsShortItem (at m x)
+items_short : (m : Ledger) → IsSound m → (x : Item) → Holds IsShortValue (at m x)
 items_short m s item.NextApp = tt
 items_short m s (item.App id) = by (application_at m id) refl
   where
-    by : (a : Option StoredApplication) → application_at m id ≡ a → IsShortItem (row_value a)
+    by : (a : Option StoredApplication) → application_at m id ≡ a → Holds IsShortValue (row_value a)
     by None is = tt
     by (Some app) is = omega (arith, (application_rules m id app s.rules is).creator)
 items_short m s (item.Counts id) = by (application_at m id)
   where
-    by : (a : Option StoredApplication) → IsShortItem (counts_value a)
+    by : (a : Option StoredApplication) → Holds IsShortValue (counts_value a)
     by None = tt
     by (Some app) = tt
 items_short m s (item.Key id key) = by (application_at m id) refl
   where
-    by : (a : Option StoredApplication) → application_at m id ≡ a → IsShortItem (entry_value a key)
+    by : (a : Option StoredApplication) → application_at m id ≡ a → Holds IsShortValue (entry_value a key)
     by None is = tt
     by (Some app) is =
         entry_short (value_of_key app.state key) (All-lookup IsShortValue (is_at (byte_cmp key)) app.state (state_short app.state (application_rules m id app s.rules is).state.entries))
@@ -80,7 +81,7 @@ items_short m s (item.Local who id) = by (local_state_at m who id) (All-lookup (
     entries_of (e ∷ es) all =
         All-cons (λ e. All IsStateEntry e.1) e es (All-head (IsLocalStateBelow m.next_id m.applications) e es all).state.entries (entries_of es (All-tail (IsLocalStateBelow m.next_id m.applications) e es all))
 
-    by : (a : Option Entries) → IfSome a (λ state. All IsStateEntry state) → IsShortItem (local_value a)
+    by : (a : Option Entries) → IfSome a (λ state. All IsStateEntry state) → Holds IsShortValue (local_value a)
     by None h = tt
     by (Some state) h = state_short state h
 
@@ -96,14 +97,10 @@ row_short c m id row s is =
 abbrev BoundedAt : Position → Ledger → Type 0
 BoundedAt p m = SoundAt p m × IsWithinBounds p.stack p.scratch
 
-of_result : {A : Type 0} (look : Look) (P : A → Type 0) (t : Ask A) → P (result_over look t) → Along look (λ x. Unit {0}) P t
-of_result look P (Gives a) h = h
-of_result look P (Asks x k) h = (tt, of_result look P (k (look x)) h)
-
 abbrev Keeps : Execution → Ledger → (Position → Ledger → Type 0) → Position → After → Type 0
 Keeps e m K p after = (place : ℕ) (w : Writes m (context_at e p) after.writes) → K (position_after p after place) (led m (context_at e p) after.writes w)
 
-both_keep : (e : Execution) (m : Ledger) (p : Position) (r : Stepped) → OnOk (Keeps e m SoundAt p) r × Good r → OnOk (Keeps e m BoundedAt p) r
+both_keep : (e : Execution) (m : Ledger) (p : Position) (r : Stepped) → OnOk (Keeps e m SoundAt p) r × OnOk Good r → OnOk (Keeps e m BoundedAt p) r
 both_keep e m p (Ok after) h = λ place w. (h.0 place w, h.1)
 both_keep e m p (Err f) h = tt
 
@@ -112,10 +109,16 @@ steps_bounded call header short id row sound p m i next read is k =
     let e = execution call header id row in
     let few = row_short call.completion m id row k.0.0 is in
     let t = effect (context_at e p) i.opcode i.immediates in
-    let bounds : Bounds (at m) (context_at e p) = record { here = k.1; strings = constants_short e.program p.passed few; call = short; items = items_short m k.0.0 } in
-    along-each (at m) (λ x. Unit {0}) (λ r. OnOk (Keeps e m SoundAt p) r × Good r) (OnOk (Keeps e m BoundedAt p)) t (both_keep e m p)
-    (along-both (at m) (λ x. Unit {0}) (λ x. Unit {0}) (OnOk (Keeps e m SoundAt p)) Good t (sound p m i next read is k.0)
-    (of_result (at m) Good t (effect_bounded (at m) (context_at e p) bounds i.opcode i.immediates (read_short e.program p.place i next few read))))
+    let bounds : Bounds m (context_at e p) = record {
+      here = k.1;
+      strings = constants_short e.program p.passed few;
+      call = short;
+      items = items_short m k.0.0;
+      stands = row_stands (application_at m id) row is;
+    } in
+    along-each (at m) (λ x. Unit {0}) (λ r. OnOk (Keeps e m SoundAt p) r × OnOk Good r) (OnOk (Keeps e m BoundedAt p)) t (both_keep e m p)
+    (along-both (at m) (λ x. Unit {0}) (IsThere m) (OnOk (Keeps e m SoundAt p)) (OnOk Good) t (sound p m i next read is k.0)
+    (effect_bounded m (context_at e p) bounds i.opcode i.immediates (read_short e.program p.place i next few read)))
 
 bounded_kept : (call : CallData) (header : Header) → MayCall call header → IsShortCall call → IsKept call header IsSound BoundedAt
 bounded_kept call header may short =

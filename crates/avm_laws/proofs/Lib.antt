@@ -9,6 +9,7 @@ pub mod Pruned
 pub mod CallChanges
 pub mod MachineValues
 pub mod Digests
+pub mod RowValues
 pub mod FittingRows
 pub mod BoundedRows
 pub mod ProgramValues
@@ -16,7 +17,6 @@ pub mod SoundPuts
 pub mod KeptRules
 pub mod AnyOrder
 pub mod SoundReading
-pub mod QuietRows
 pub mod Accounted
 pub mod AccountedCalls
 pub mod ReadCalls

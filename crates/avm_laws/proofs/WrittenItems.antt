@@ -1,9 +1,8 @@
--- What an instruction writes and asks for over a ledger, row by row.
-use Rattle.std.proofs.Common.{rules, ◌≡◌, ◌+◌, ℕ, Bool, true, false, nat_lt, nat_le, if◌then◌else◌, List, [], ◌∷◌, length, Option, None, Some, Result, Ok, Err, refl, sym, ap, ◌∙◌, subst}
-use Rattle.std.specs.Prelude.{◌||◌, drop, is_none, is_some, slice_get, unwrap_or}
+-- What an instruction writes and asks for over a ledger: each row that asks, and then all others.
+use Rattle.std.proofs.Common.{rules, ◌≡◌, ℕ, Bool, true, false, nat_lt, nat_le, if◌then◌else◌, List, [], ◌∷◌, length, Option, None, Some, Result, Ok, Err, refl, sym, ap, ◌∙◌, subst, arith}
+use Rattle.std.specs.Prelude.{◌||◌, is_none, is_some, unwrap_or}
 use Rattle.std.specs.List.{Contains}
 use Rattle.std.proofs.lemmas.List.Elements.{Contains-append_left, Contains-push}
-use Rattle.teal_value.specs.Answer.{◌>>=◌}
 use Rattle.teal_value.specs.declared.address.Address.{Address}
 use Rattle.teal_value.specs.declared.value.Value.{Value}
 use Rattle.teal_value.specs.declared.value.Value.TheVariants.{Uint, Bytes}
@@ -24,19 +23,20 @@ use Rattle.avm_ledger.specs.Ledgers.{Ledger, application_at}
 use Rattle.avm_items.specs.declared.item.Item.{Item}
 use Rattle.avm_items.specs.declared.item.Item.TheVariants as item
 use Rattle.avm_items.specs.declared.item_value.ItemValue.TheVariants as value
-use Rattle.avm_items.specs.Items.{ItemMap, with_item, application_in, entry_in, local_state_in}
+use Rattle.avm_items.specs.Items.{ItemMap, Look, with_item, application_in, entry_in, local_state_in}
 use Rattle.avm_items.specs.Items as items
 use Rattle.avm_items.specs.LedgerItems.{at, row_value, is_of_gone}
-use Rattle.avm_items.specs.Asks.{Gives, and_then}
+use Rattle.avm_items.specs.Asks.{Ask, Gives, Asks, and_then}
 use Rattle.avm_items.specs.Acts.{Act, on_ok, found, test, reads, done}
 use Rattle.avm_items.specs.CallFields.{account}
 use Rattle.avm_cpu.specs.Operands.{bytes_and_value, uint_and_bytes, uint_bytes_and_value, one_bytes}
-use Rattle.avm_ops.specs.Frame.{Context, After, Stepped, pushes, pushes_pair, next_with_stack, replaces, replaces_pair, flag}
-use Rattle.avm_ops.specs.Immediates.{index_of, field_of, uint_of, bytes_of}
-use Rattle.avm_ops.specs.Stack.{target_of}
+use Rattle.avm_ops.specs.Frame.{Context, After, Stepped, pushes, next_with_stack, replaces, replaces_pair, flag}
+use Rattle.avm_ops.specs.Immediates.{field_of}
 use Rattle.avm_ops.specs.Fields.{global_at}
 use Rattle.avm_ops.specs.States.{value_length, foreign_of, global_entry, may_put, global_put_over, global_delete_of, schema_in, key_written, counts_written, leaves, local_limit, the_account, the_local_state, application, or_zero}
 use Rattle.avm_ops.specs.Effect.{effect}
+use Rattle.avm_items.specs.Counting.{AsksAtMost, Any}
+use Rattle.avm_ops.proofs.RowFacts.{OnOk, FactsOf, questions, writes_items, row_facts, at_most-each}
 use Rattle.avm_laws.proofs.Along.{Along, along-each}
 
 -- ---- what may be written
@@ -71,10 +71,6 @@ pub data Writes (m : Ledger) (c : Context) (writes : ItemMap) : Type 0 where
 
 -- ---- what holds where an instruction doesn't fault
 
-abbrev pub OnOk : (After → Type 0) → Stepped → Type 0
-OnOk R (Ok after) = R after
-OnOk R (Err f) = Unit {0}
-
 abbrev pub IsThere : Ledger → Item → Type 0
 IsThere m x = is_of_gone m x ≡ false
 
@@ -85,25 +81,12 @@ Row m R t = Along (at m) (IsThere m) (OnOk R) t
 abbrev pub Same : Context → After → Type 0
 Same c after = after.writes ≡ c.writes
 
--- ---- rows without questions
-
-pub then_ok : {A : Type 0} (R : After → Type 0) (r : Result A Fault) (f : A → Stepped) → ((a : A) → OnOk R (f a)) → OnOk R (r >>= f)
-then_ok R (Ok a) f h = h a
-then_ok R (Err e) f h = tt
-
-pub either : (R : After → Type 0) (b : Bool) (x y : Stepped) → OnOk R x → OnOk R y → OnOk R (if b then x else y)
-either R true x y h g = h
-either R false x y h g = g
-
-pub pushed : (c : Context) (v : Value) → OnOk (Same c) (pushes c v)
-pushed c v = either (Same c) (nat_lt (length c.machine.stack) 1000) _ _ refl tt
-
-pub pushed_pair : (c : Context) (v top : Value) → OnOk (Same c) (pushes_pair c v top)
-pushed_pair c v top = either (Same c) (nat_le (length c.machine.stack + 2) 1000) _ _ refl tt
-
-pub branch_if : (c : Context) (offset : ℕ) (b : Bool) → OnOk (Same c) (Ok (if b then record (next_with_stack c (drop 1 c.machine.stack)) { flow = target_of c offset } else next_with_stack c (drop 1 c.machine.stack)))
-branch_if c offset true = refl
-branch_if c offset false = refl
+pub effect_same : (c : Context) (o : Opcode) (i : Immediates) → writes_items o ≡ false → AsksAtMost Any (questions o) (OnOk (Same c)) (effect c o i)
+effect_same c o i quiet = at_most-each (questions o) (questions o) (OnOk (FactsOf c o i)) (OnOk (Same c)) (effect c o i) (omega arith) same (row_facts c o i).leaves
+  where
+    same : (r : Stepped) → OnOk (FactsOf c o i) r → OnOk (Same c) r
+    same (Ok after) h = h.same quiet
+    same (Err f) h = tt
 
 -- ---- rows that ask
 
@@ -139,6 +122,13 @@ pub stands_if_row : (m : Ledger) (id : ℕ) (a : Option StoredApplication) → i
 stands_if_row m id None e = absurd cc
 stands_if_row m id (Some app) e = refl
 
+pushed : (c : Context) (v : Value) → OnOk (Same c) (pushes c v)
+pushed c v = either (nat_lt (length c.machine.stack) 1000)
+  where
+    either : (b : Bool) → OnOk (Same c) (if b then Ok (next_with_stack c (v ∷ c.machine.stack)) else Err fault.StackFull)
+    either true = refl
+    either false = tt
+
 global_reads : (m : Ledger) (c : Context) (f : Option GlobalField) → Row m (Same c) (and_then (global_at c f) (on_ok (λ v. Gives (pushes c v))))
 global_reads m c None = tt
 global_reads m c (Some global.CreatorAddress) = (refl, pushed c _)
@@ -164,6 +154,14 @@ quiet m c t h = along-each (at m) (IsThere m) (OnOk (Same c)) (OnOk (λ after. W
     each : (r : Stepped) → OnOk (Same c) r → OnOk (λ after. Writes m c after.writes) r
     each (Ok after) e = Nothing e
     each (Err f) e = tt
+
+along-none : {A : Type 0} (look : Look) (Q : Item → Type 0) (P : A → Type 0) (n : ℕ) (t : Ask A) → n ≡ 0 → AsksAtMost Any n P t → Along look Q P t
+along-none look Q P n (Gives a) none h = h
+along-none look Q P n (Asks x k) none h = absurd (omega (arith, h.0, none))
+
+-- a row that asks nothing
+silent : (m : Ledger) (c : Context) (o : Opcode) (i : Immediates) → questions o ≡ 0 → writes_items o ≡ false → Row m (λ after. Writes m c after.writes) (effect c o i)
+silent m c o i none same = quiet m c (effect c o i) (along-none (at m) (IsThere m) (OnOk (Same c)) (questions o) (effect c o i) none (effect_same c o i same))
 
 -- ---- rows that write
 
@@ -271,71 +269,7 @@ get_ex_row m c key f h id =
 -- writes nothing, a key with the counts that follow, or a local state.
 pub effect_writes : (m : Ledger) (c : Context) → is_none (application_at m c.current) ≡ false → (o : Opcode) (i : Immediates) → Row m (λ after. Writes m c after.writes) (effect c o i)
 unfolding effect
-effect_writes m c stands op.Err i = tt
-effect_writes m c stands op.Sha256 i = quiet m c (effect c op.Sha256 i) (search (rules, then_ok))
-effect_writes m c stands op.Sha512_256 i = quiet m c (effect c op.Sha512_256 i) (search (rules, then_ok))
-effect_writes m c stands op.Add i = quiet m c (effect c op.Add i) (search (rules, then_ok))
-effect_writes m c stands op.Subtract i = quiet m c (effect c op.Subtract i) (search (rules, then_ok))
-effect_writes m c stands op.Divide i = quiet m c (effect c op.Divide i) (search (rules, then_ok))
-effect_writes m c stands op.Multiply i = quiet m c (effect c op.Multiply i) (search (rules, then_ok))
-effect_writes m c stands op.Less i = quiet m c (effect c op.Less i) (search (rules, then_ok))
-effect_writes m c stands op.Greater i = quiet m c (effect c op.Greater i) (search (rules, then_ok))
-effect_writes m c stands op.LessOrEqual i = quiet m c (effect c op.LessOrEqual i) (search (rules, then_ok))
-effect_writes m c stands op.GreaterOrEqual i = quiet m c (effect c op.GreaterOrEqual i) (search (rules, then_ok))
-effect_writes m c stands op.And i = quiet m c (effect c op.And i) (search (rules, then_ok))
-effect_writes m c stands op.Or i = quiet m c (effect c op.Or i) (search (rules, then_ok))
-effect_writes m c stands op.Equal i = quiet m c (effect c op.Equal i) (search (rules, then_ok))
-effect_writes m c stands op.NotEqual i = quiet m c (effect c op.NotEqual i) (search (rules, then_ok))
-effect_writes m c stands op.Not i = quiet m c (effect c op.Not i) (search (rules, then_ok))
-effect_writes m c stands op.Len i = quiet m c (effect c op.Len i) (search (rules, then_ok))
-effect_writes m c stands op.Itob i = quiet m c (effect c op.Itob i) (search (rules, then_ok))
-effect_writes m c stands op.Btoi i = quiet m c (effect c op.Btoi i) (search (rules, then_ok))
-effect_writes m c stands op.Remainder i = quiet m c (effect c op.Remainder i) (search (rules, then_ok))
-effect_writes m c stands op.BitOr i = quiet m c (effect c op.BitOr i) (search (rules, then_ok))
-effect_writes m c stands op.BitAnd i = quiet m c (effect c op.BitAnd i) (search (rules, then_ok))
-effect_writes m c stands op.BitXor i = quiet m c (effect c op.BitXor i) (search (rules, then_ok))
-effect_writes m c stands op.BitNot i = quiet m c (effect c op.BitNot i) (search (rules, then_ok))
-effect_writes m c stands op.Mulw i = quiet m c (effect c op.Mulw i) (search (rules, then_ok))
-effect_writes m c stands op.Addw i = quiet m c (effect c op.Addw i) (search (rules, then_ok))
-effect_writes m c stands op.Intcblock i = quiet m c (effect c op.Intcblock i) (refl)
-effect_writes m c stands op.Intc i = quiet m c (effect c op.Intc i) (search (rules, then_ok, pushed))
-effect_writes m c stands op.Intc0 i = quiet m c (effect c op.Intc0 i) (search (rules, then_ok, pushed))
-effect_writes m c stands op.Intc1 i = quiet m c (effect c op.Intc1 i) (search (rules, then_ok, pushed))
-effect_writes m c stands op.Intc2 i = quiet m c (effect c op.Intc2 i) (search (rules, then_ok, pushed))
-effect_writes m c stands op.Intc3 i = quiet m c (effect c op.Intc3 i) (search (rules, then_ok, pushed))
-effect_writes m c stands op.Bytecblock i = quiet m c (effect c op.Bytecblock i) (refl)
-effect_writes m c stands op.Bytec i = quiet m c (effect c op.Bytec i) (search (rules, then_ok, pushed))
-effect_writes m c stands op.Bytec0 i = quiet m c (effect c op.Bytec0 i) (search (rules, then_ok, pushed))
-effect_writes m c stands op.Bytec1 i = quiet m c (effect c op.Bytec1 i) (search (rules, then_ok, pushed))
-effect_writes m c stands op.Bytec2 i = quiet m c (effect c op.Bytec2 i) (search (rules, then_ok, pushed))
-effect_writes m c stands op.Bytec3 i = quiet m c (effect c op.Bytec3 i) (search (rules, then_ok, pushed))
-effect_writes m c stands op.Txn i = quiet m c (effect c op.Txn i) (search (rules, then_act, pushed))
 effect_writes m c stands op.Global i = quiet m c (effect c op.Global i) (global_reads m c (global_field_at (field_of i)))
-effect_writes m c stands op.Gtxn i = quiet m c (effect c op.Gtxn i) (search (rules, then_act, pushed))
-effect_writes m c stands op.Load i = quiet m c (effect c op.Load i) (pushed c (unwrap_or (slice_get c.machine.scratch (index_of i)) (Uint 0)))
-effect_writes m c stands op.Store i = quiet m c (effect c op.Store i) (search (rules, then_ok))
-effect_writes m c stands op.Txna i = quiet m c (effect c op.Txna i) (search (rules, then_act, pushed))
-effect_writes m c stands op.Gtxna i = quiet m c (effect c op.Gtxna i) (search (rules, then_act, pushed))
-effect_writes m c stands op.Gtxns i = quiet m c (effect c op.Gtxns i) (search (rules, then_act))
-effect_writes m c stands op.Gtxnsa i = quiet m c (effect c op.Gtxnsa i) (search (rules, then_act))
-effect_writes m c stands op.Bnz i = quiet m c (effect c op.Bnz i) (search (rules, then_ok, branch_if))
-effect_writes m c stands op.Bz i = quiet m c (effect c op.Bz i) (search (rules, then_ok, branch_if))
-effect_writes m c stands op.B i = quiet m c (effect c op.B i) (refl)
-effect_writes m c stands op.Return i = quiet m c (effect c op.Return i) (search (rules, then_ok))
-effect_writes m c stands op.Assert i = quiet m c (effect c op.Assert i) (search (rules, then_ok))
-effect_writes m c stands op.Pop i = quiet m c (effect c op.Pop i) (search (rules, then_ok))
-effect_writes m c stands op.Dup i = quiet m c (effect c op.Dup i) (search (rules, then_ok, pushed))
-effect_writes m c stands op.Dup2 i = quiet m c (effect c op.Dup2 i) (search (rules, then_ok, pushed_pair))
-effect_writes m c stands op.Dig i = quiet m c (effect c op.Dig i) (search (rules, then_ok, pushed))
-effect_writes m c stands op.Swap i = quiet m c (effect c op.Swap i) (search (rules, then_ok))
-effect_writes m c stands op.Select i = quiet m c (effect c op.Select i) (search (rules, then_ok))
-effect_writes m c stands op.Concat i = quiet m c (effect c op.Concat i) (search (rules, then_ok))
-effect_writes m c stands op.Substring i = quiet m c (effect c op.Substring i) (search (rules, then_ok))
-effect_writes m c stands op.Substring3 i = quiet m c (effect c op.Substring3 i) (search (rules, then_ok))
-effect_writes m c stands op.Getbit i = quiet m c (effect c op.Getbit i) (search (rules, then_ok))
-effect_writes m c stands op.Setbit i = quiet m c (effect c op.Setbit i) (search (rules, then_ok))
-effect_writes m c stands op.Getbyte i = quiet m c (effect c op.Getbyte i) (search (rules, then_ok))
-effect_writes m c stands op.Setbyte i = quiet m c (effect c op.Setbyte i) (search (rules, then_ok))
 effect_writes m c stands op.AppOptedIn i = quiet m c (effect c op.AppOptedIn i) (search (rules, then_act, then_found))
 effect_writes m c stands op.AppLocalGet i = quiet m c (effect c op.AppLocalGet i) (search (rules, then_act, then_found))
 effect_writes m c stands op.AppLocalGetEx i = quiet m c (effect c op.AppLocalGetEx i) (search (rules, then_act, then_found))
@@ -345,5 +279,4 @@ effect_writes m c stands op.AppLocalPut i = then_act_is m (λ after. Writes m c 
 effect_writes m c stands op.AppGlobalPut i = global_put_row m c stands (bytes_and_value c.machine.stack) (λ a is. second_on_top c.machine.stack a is)
 effect_writes m c stands op.AppLocalDel i = then_act m (λ after. Writes m c after.writes) (uint_and_bytes c.machine.stack) (λ a. and_then (the_account c a.0) (on_ok (delete_of c a))) (λ a. then_found m (λ after. Writes m c after.writes) (account c.call a.0) fault.NoAccount (delete_of c a) (delete_of_row m c a))
 effect_writes m c stands op.AppGlobalDel i = then_act m (λ after. Writes m c after.writes) (one_bytes c.machine.stack) (λ key. and_then (global_entry c.current key) (on_ok (global_delete_of c key))) (λ key. entry_by m (λ after. Writes m c after.writes) c.current key (global_delete_of c key) stands (nat_le (length key) 64) (λ _. delete_row m c key (old_entry m c.current key) refl stands) (λ _. Nothing refl))
-effect_writes m c stands op.Pushbytes i = quiet m c (effect c op.Pushbytes i) (pushed c (Bytes (bytes_of i)))
-effect_writes m c stands op.Pushint i = quiet m c (effect c op.Pushint i) (pushed c (Uint (uint_of i)))
+effect_writes m c stands o i = silent m c o i refl refl
