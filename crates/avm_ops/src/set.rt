@@ -81,7 +81,8 @@ impl<O: Op> Ops<O> {
         self.slots[usize::from(code)].as_ref()
     }
 
-    /// The object of an opcode, in a set that has one of each.
+    /// The object of an opcode, in a set that has one of each. It is inlined, since it stands in every step of a run.
+    #[inline(always)]
     pub fn object(&self, opcode: Opcode) -> &O
         requires full { IsFull O.opcode self.now }
         ensures { O.opcode result.now ≡ opcode }
