@@ -10,7 +10,7 @@ ghost use Rattle.avm_run.specs.Standing.{BeginsRun};
 
 use crate::admission::{Admitted, Halt, admit};
 use crate::ending::{cleared, end_call};
-use crate::running::{Running, Stepped, begin, step};
+use crate::running::{Running, Stopped, begin, make_steps};
 use avm_call::{Call, Cause, Ended, Outcome};
 use avm_cpu::Cpu;
 use avm_items::{Item, ItemMap, ItemValue};
@@ -196,13 +196,13 @@ fn step_program(
     ensures { IfOk result (λ went. GoesTo call.now header.now running.value.env.reads (Some running.value.steps) went) }
 {
     let mut running = running;
-    match step(alloc, ops, &mut running)? {
-        Stepped::On => Ok(Went::On(Phase::Runs(running))),
-        Stepped::Need(item) => Ok(Went::Stops(Ran::Need(
+    match make_steps(alloc, ops, &mut running, 1)? {
+        Stopped::Made => Ok(Went::On(Phase::Runs(running))),
+        Stopped::Need(item) => Ok(Went::Stops(Ran::Need(
             Phase::Runs(running),
             Box::into_inner(item),
         ))),
-        Stepped::Ended(ended) => Ok(Went::Ends(Phase::Runs(running), ended)),
+        Stopped::Ended(ended) => Ok(Went::Ends(Phase::Runs(running), ended)),
     }
 }
 
@@ -220,19 +220,16 @@ fn run_program(
     ensures { IfOk result (λ ran. RunsTo call.now header.now running.value.env.reads ran) }
 {
     let mut running = running;
-    loop {
-        match step(alloc, ops, &mut running) {
-            Ok(Stepped::On) => {}
-            Ok(Stepped::Need(item)) => {
-                return Ok(Ran::Need(Phase::Runs(running), Box::into_inner(item)));
-            }
-            Ok(Stepped::Ended(ended)) => {
-                return Ok(Ran::Done(close(alloc, call, header, running, ended, spare)?));
-            }
-            Err(AllocError) => {
-                discard(running);
-                return Err(AllocError);
-            }
+    match make_steps(alloc, ops, &mut running, u16::MAX) {
+        // No path has so many.
+        Ok(Stopped::Made) => unreachable!(),
+        Ok(Stopped::Need(item)) => Ok(Ran::Need(Phase::Runs(running), Box::into_inner(item))),
+        Ok(Stopped::Ended(ended)) => Ok(Ran::Done(close(
+            alloc, call, header, running, ended, spare,
+        )?)),
+        Err(AllocError) => {
+            discard(running);
+            Err(AllocError)
         }
     }
 }

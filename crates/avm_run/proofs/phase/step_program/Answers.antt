@@ -1,27 +1,24 @@
-use Rattle.std.proofs.Common.{◌≡◌, ◌+◌, None, Some, Ok, Err, refl, sym, ap, ◌∙◌, subst}
-use Rattle.avm_items.specs.Items.{value_in}
-use Rattle.avm_items.specs.Asks.{answer_from}
-use Rattle.avm_call.specs.CallPaths.{call_path}
+use Rattle.std.proofs.Common.{◌≡◌, ◌+◌, None, Some, Ok, refl, sym, ap, ◌∙◌, subst}
 use Rattle.avm_run.specs.declared.running.Running.{Running}
-use Rattle.avm_run.specs.Standing.{AsksThere, BeginsRun}
+use Rattle.avm_run.specs.Standing.{AsksThere, BeginsRun, EndsThere, StopsWithin}
 use Rattle.avm_run.specs.Progress.{HasStep}
-use Rattle.avm_run.proofs.Leading.{still_runs, asks_over, begins_there, path_over_items}
+use Rattle.avm_run.proofs.Leading.{asks_behind, begins_there, path_over_items, still_runs, still_there, stops_there}
 use Rattle.avm_run.proofs.phase.step_program.Goals as goal
 
-pub returns-in-On : goal.returns-in-On
-returns-in-On g c =
+pub returns-in-Made : goal.returns-in-Made
+returns-in-Made g c =
     let call = c.args.call.now in
     let header = c.args.header.now in
     let old = c.deref_mut.result.now in
-    let new = c.step.new.running in
+    let new = c.make_steps.new.running in
     let items = c.args.running.value.env.reads in
     let begun = subst (BeginsRun call header items) (sym c.deref_mut.ensures.value) c.requires.begun in
-    let step = rw c.in-On.is at c.in_ok-step.ensures in
-    let runs = still_runs call header items old new begun step.same step.stands in
-    let counted : new.steps ≡ c.args.running.value.steps + 1 = step.counted ∙ ap (λ (r : Running). r.steps + 1) c.deref_mut.ensures.value in
+    let made = rw c.in-Made.is at c.in_ok-make_steps.ensures in
+    let runs = still_runs call header items old new begun made.same made.stands in
+    let counted : new.steps ≡ c.args.running.value.steps + 1 = made.counted ∙ ap (λ (r : Running). r.steps + 1) c.deref_mut.ensures.value in
     record {
       same_reads = runs.same_items;
-      follows = record { same_call = runs.same_call; same_header = runs.same_header; same_items = refl; stands = step.stands };
+      follows = record { same_call = runs.same_call; same_header = runs.same_header; same_items = refl; stands = made.stands };
       counted = ap Some counted;
       there = subst (HasStep call header items) counted (begins_there call header items new runs);
     }
@@ -31,18 +28,18 @@ returns-in-Need g c =
     let call = c.args.call.now in
     let header = c.args.header.now in
     let old = c.deref_mut.result.now in
-    let new = c.step.new.running in
+    let new = c.make_steps.new.running in
     let items = c.args.running.value.env.reads in
     let begun = subst (BeginsRun call header items) (sym c.deref_mut.ensures.value) c.requires.begun in
-    let step = subst (AsksThere old new) (sym c.into_inner.ensures) (rw c.in-Need.is at c.in_ok-step.ensures) in
-    let runs = still_runs call header items old new begun step.same step.stands in (
+    let stops = subst (λ x. StopsWithin 1 old (λ before. AsksThere before new x)) (sym c.into_inner.ensures) (rw c.in-Need.is at c.in_ok-make_steps.ensures) in
+    let asks = asks_behind call header items 1 old new c.into_inner.result begun stops in (
       record {
-        same_reads = runs.same_items;
-        follows = record { same_call = runs.same_call; same_header = runs.same_header; same_items = refl; stands = step.stands };
-        definition = asks_over call header items old c.into_inner.result begun step.asks;
-        next = ap (λ n. answer_from (value_in items) (call_path call header (n + 1))) step.counted ∙ path_over_items call header items old (old.steps + 1) (Err c.into_inner.result) begun step.next;
+        same_reads = asks.runs.same_items;
+        follows = record { same_call = asks.runs.same_call; same_header = asks.runs.same_header; same_items = refl; stands = asks.runs.stands };
+        definition = asks.definition;
+        next = asks.next;
       },
-      ap Some (step.counted ∙ ap (λ (r : Running). r.steps) c.deref_mut.ensures.value),
+      ap Some (stops.stops.counted ∙ still_there old _ stops ∙ ap (λ (r : Running). r.steps) c.deref_mut.ensures.value),
     )
 
 pub returns-in-Ended : goal.returns-in-Ended
@@ -50,21 +47,23 @@ returns-in-Ended g c =
     let call = c.args.call.now in
     let header = c.args.header.now in
     let old = c.deref_mut.result.now in
-    let new = c.step.new.running in
+    let new = c.make_steps.new.running in
     let items = c.args.running.value.env.reads in
     let begun = subst (BeginsRun call header items) (sym c.deref_mut.ensures.value) c.requires.begun in
-    let step = rw c.in-Ended.is at c.in_ok-step.ensures in
-    let runs = still_runs call header items old new begun step.same step.stands in
-    let counted = ap (λ (r : Running). r.steps) c.deref_mut.ensures.value in
+    let stops = rw c.in-Ended.is at c.in_ok-make_steps.ensures in
+    let end = stops.stops in
+    let there = stops_there call header items 1 old (λ before. EndsThere before new c.in-Ended.ended) begun stops in
+    let runs = still_runs call header items stops.before new there end.same end.stands in
+    let counted = still_there old (λ before. EndsThere before new c.in-Ended.ended) stops ∙ ap (λ (r : Running). r.steps) c.deref_mut.ensures.value in
     record {
       same_reads = runs.same_items;
-      follows = record { same_call = runs.same_call; same_header = runs.same_header; same_items = refl; stands = step.stands };
-      counted = ap Some (step.counted ∙ counted);
+      follows = record { same_call = runs.same_call; same_header = runs.same_header; same_items = refl; stands = end.stands };
+      counted = ap Some (end.counted ∙ counted);
       path = record {
-        number = old.steps;
+        number = stops.before.steps;
         counted = ap Some (sym counted);
-        position = step.position;
-        there = path_over_items call header items old old.steps (Ok (Some (step.position, None))) begun step.there;
-        next = path_over_items call header items old (old.steps + 1) (Ok (Some (step.position, Some c.in-Ended.ended))) begun step.next;
+        position = end.position;
+        there = path_over_items call header items stops.before stops.before.steps (Ok (Some (end.position, None))) there end.there;
+        next = path_over_items call header items stops.before (stops.before.steps + 1) (Ok (Some (end.position, Some c.in-Ended.ended))) there end.next;
       };
     }
