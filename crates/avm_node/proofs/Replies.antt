@@ -22,6 +22,6 @@ pub asm_reply-utf8 : (input text : List ℕ) (meant : Result (List ℕ) AsmFault
 asm_reply-utf8 input text meant u same means = rw (is_utf8-from_IsUtf8 input u, ← same, means) refl
 
 pub IsInput-taken : (limit : ℕ) (had : Option (List ℕ)) (input : List ℕ) → limit ≡ input_limit + 1
-    → IfSome (option_map (take limit) had) (λ xs. input ≡ [] ++ xs) → IsInput had input
+    → IfSome (option_map (take limit) had) (λ xs. input ≡ xs) → IsInput had input
 IsInput-taken limit None input is h = h
 IsInput-taken limit (Some bytes) input is h = h ∙ ap (λ n. take n bytes) is

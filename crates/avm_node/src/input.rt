@@ -1,6 +1,6 @@
 //! Reading the whole input.
 
-ghost use Rattle.std.specs.Prelude.{◌≡◌, ◌≤◌, ◌+◌, IfOk, length};
+ghost use Rattle.std.specs.Prelude.{◌≡◌, ◌≤◌, ◌+◌, IfOk, IfSome, length};
 ghost use Rattle.avm_node.specs.Answers.{IsInput, input_limit};
 
 use std::alloc::Global;
@@ -8,6 +8,9 @@ use std::io::{self, ErrorKind, Read};
 
 /// How many bytes an input has at most; this limit is the project's own.
 pub const INPUT_LIMIT: usize = 16_777_216;
+
+/// How many bytes are read at once.
+const CHUNK: usize = 4096;
 
 /// A reader at which an interrupted read is a failed one, and is not tried again.
 #[derive(Drop)]
@@ -32,9 +35,23 @@ impl<R: Read> Read for Uninterrupted<R> {
 pub fn read_input<R: Read>(alloc: Global, reader: &mut R) -> io::Result<Vec<u8>>
     ensures { IfOk result (λ input. IsInput (R.remaining reader.old) input.items) }
 {
-    let mut input = Vec::new(alloc);
-    Uninterrupted { inner: reader }
-        .take(INPUT_LIMIT as u64 + 1)
-        .read_to_end(&mut input)?;
+    let mut limited = Uninterrupted { inner: reader }.take(INPUT_LIMIT as u64 + 1);
+    let input = read_all(alloc, &mut limited)?;
     Ok(input)
+}
+
+/// The bytes of a reader to its end. Room is made for what was read, and not for what might be: it need not be zeroed.
+fn read_all<R: Read>(alloc: Global, reader: &mut R) -> io::Result<Vec<u8>>
+    ensures { IfOk result (λ input. IfSome (R.remaining reader.old) (λ bytes. input.items ≡ bytes)) }
+{
+    let mut input = Vec::new(alloc);
+    let mut chunk = [0u8; CHUNK];
+    'reads: for _ in 0..u64::MAX {
+        let count = reader.read(&mut chunk)?;
+        if count == 0 {
+            return Ok(input);
+        }
+        input.extend_from_slice(&chunk[..count])?;
+    }
+    Err(io::Error::other("a reader without an end"))
 }

@@ -2,6 +2,4 @@ use Rattle.avm_node.proofs.Replies.{IsInput-taken}
 use Rattle.avm_node.proofs.input.read_input.Goals as goal
 
 pub returns : goal.returns
-returns g c =
-    let bytes = rw (c.take.ensures.inner, c.new-input.ensures.items) at c.in_ok-read_to_end.ensures.bytes in
-    IsInput-taken _ _ _ c.take.ensures.limit bytes
+returns g c = IsInput-taken _ _ _ c.take-limited.ensures.limit (rw c.take-limited.ensures.inner at c.in_ok-input.ensures)
