@@ -23,6 +23,3 @@ pub use literal::{
 };
 pub use numbers::{decimal_reads_back, number, number_of_word};
 pub use token::Token;
-
-#[cfg(test)]
-mod tests;
