@@ -13,9 +13,6 @@ use std::alloc::{AllocError, Global};
 use std::collections::LinkedList;
 use std::sync::Wait;
 
-#[cfg(test)]
-mod tests;
-
 /// How many numbers a queue has room for: as many as a block has entries.
 pub const ROOM: usize = 4096;
 

@@ -4,6 +4,8 @@
 #[cfg(test)]
 mod cases;
 #[cfg(test)]
+mod numbers;
+#[cfg(test)]
 mod proposing;
 #[cfg(test)]
 mod random_blocks;

@@ -4,9 +4,9 @@ ghost use Rattle.std.specs.Prelude.{◌≡◌, true, []};
 ghost use Rattle.call_numbers.specs.Passes.{IsWith, view};
 ghost use Rattle.call_numbers.specs.Rule.{hand};
 
-use crate::{NumberPass, Numbers};
-use std::alloc::AllocError;
+use call_numbers::{NumberPass, Numbers};
 use std::sync::Wait;
+use std::test::Fail;
 use std::thread::join;
 
 /// Puts 1, 2 and 3; whether all of them were taken.
@@ -20,17 +20,15 @@ fn put_three<R: Wait>(rt: &R, numbers: &Numbers, pass: &mut NumberPass) -> bool
 }
 
 #[test]
-fn numbers_are_drawn_in_the_order_in_which_they_were_put(
-    rt: HostRuntime,
-) -> Result<(), AllocError> {
+fn numbers_are_drawn_in_the_order_in_which_they_were_put(rt: HostRuntime) -> Result<(), Fail> {
     let (numbers, mut pass) = Numbers::new(rt.alloc())?;
     let mut worker = numbers.worker(&mut pass);
-    assert_eq!(rt; numbers.draw(&rt, &mut worker), None);
+    assert!(rt; numbers.draw(&rt, &mut worker).is_none());
     assert!(rt; put_three(&rt, &numbers, &mut pass));
-    assert_eq!(rt; numbers.draw(&rt, &mut worker), Some(1));
-    assert_eq!(rt; numbers.draw(&rt, &mut pass), Some(2));
-    assert_eq!(rt; numbers.draw(&rt, &mut worker), Some(3));
-    assert_eq!(rt; numbers.draw(&rt, &mut worker), None);
+    assert!(rt; numbers.draw(&rt, &mut worker) == Some(1));
+    assert!(rt; numbers.draw(&rt, &mut pass) == Some(2));
+    assert!(rt; numbers.draw(&rt, &mut worker) == Some(3));
+    assert!(rt; numbers.draw(&rt, &mut worker).is_none());
     Ok(())
 }
 
@@ -43,7 +41,7 @@ fn draw_two<R: Wait>(rt: &R, numbers: &Numbers, mut pass: NumberPass) -> u64
 }
 
 #[test]
-fn two_threads_draw_each_number_once(rt: HostRuntime) -> Result<(), AllocError> {
+fn two_threads_draw_each_number_once(rt: HostRuntime) -> Result<(), Fail> {
     let (numbers, mut pass) = Numbers::new(rt.alloc())?;
     assert!(rt; put_three(&rt, &numbers, &mut pass));
     let left = numbers.worker(&mut pass);
@@ -53,6 +51,6 @@ fn two_threads_draw_each_number_once(rt: HostRuntime) -> Result<(), AllocError> 
         || draw_two(&rt, &numbers, left),
         || draw_two(&rt, &numbers, right),
     );
-    assert_eq!(rt; one.checked_add(other), Some(6));
+    assert!(rt; one.checked_add(other) == Some(6));
     Ok(())
 }
