@@ -9,6 +9,7 @@ use avm_arith::ArithOp;
 use avm_call::Call;
 use avm_flow_ops::FlowOp;
 use avm_items::{Item, ItemMap, ItemValue};
+use avm_ledger::Ledger;
 use avm_ops::{BoxedOp, Op, OpSet, Ops};
 use avm_run::{CallRun, Finished};
 use avm_state_ops::StateOp;
@@ -30,13 +31,32 @@ pub fn full_ops(alloc: Global) -> Result<OpSet, Fail>
     Ok(ops)
 }
 
-/// A journal of the calls of rows, over the ledger of these digits, with all its shards.
-pub fn parts_of(alloc: Global, digits: &str, rows: &[Row]) -> Result<(Journal, Held), Fail> {
+/// A journal and all its shards.
+#[derive(Drop)]
+pub struct Parts {
+    pub journal: Journal,
+    pub held: Held,
+}
+
+/// An attempt that has read all that its call asks for.
+#[derive(Drop)]
+pub struct Tried {
+    pub attempt: Attempt,
+    pub finished: Finished,
+}
+
+/// A journal of the calls of rows, over a ledger.
+pub fn parts_over(alloc: Global, base: Ledger, rows: &[Row]) -> Result<Parts, Fail> {
     let calls = Arc::new(alloc, calls_of(alloc, rows)?)?;
-    match open_parts(alloc, ledger_of(alloc, digits)?, HEADER, calls) {
-        Ok(parts) => Ok(parts),
+    match open_parts(alloc, base, HEADER, calls) {
+        Ok((journal, held)) => Ok(Parts { journal, held }),
         Err(_) => Err("few calls make a journal".into()),
     }
+}
+
+/// The same over the ledger of these digits.
+pub fn parts_of(alloc: Global, digits: &str, rows: &[Row]) -> Result<Parts, Fail> {
+    parts_over(alloc, ledger_of(alloc, digits)?, rows)
 }
 
 /// A call begins.
@@ -102,35 +122,53 @@ pub fn finished(
     })
 }
 
-/// A call begins, and reads all that it asks for.
-pub fn attempted(
+/// A run of the call of a number to its end, over what an attempt reads.
+fn finished_of(
     alloc: Global,
     ops: &OpSet,
-    journal: &mut Journal,
-    held: &mut Held,
+    parts: &mut Parts,
     number: u32,
-) -> Result<(Attempt, Finished), Fail>
+    attempt: &mut Attempt,
+) -> Result<Finished, Fail>
     requires full { IsFull ⟦<BoxedOp as Op>⟧.opcode ops.now }
 {
-    let mut attempt = begun(journal, number)?;
-    match journal.call(number) {
-        Some(call) => {
-            let done = finished(alloc, ops, call, held, &mut attempt)?;
-            Ok((attempt, done))
-        }
+    match parts.journal.call(number) {
+        Some(call) => finished(alloc, ops, call, &mut parts.held, attempt),
         None => Err("the number is a call's".into()),
     }
 }
 
-/// The timestamp at which an attempt's own call commits, or the refusal.
-pub fn committed(
-    journal: &mut Journal,
-    held: &mut Held,
-    attempt: Attempt,
-    done: Finished,
-) -> Result<Result<u64, RefusedCommit>, Fail> {
-    if !held.covers(attempt.reads()) || !held.covers(done.writes()) {
-        return Err("all shards are held".into());
+/// A call begins, and reads all that it asks for.
+pub fn attempted(alloc: Global, ops: &OpSet, parts: &mut Parts, number: u32) -> Result<Tried, Fail>
+    requires full { IsFull ⟦<BoxedOp as Op>⟧.opcode ops.now }
+{
+    let mut attempt = begun(&mut parts.journal, number)?;
+    let finished = finished_of(alloc, ops, parts, number, &mut attempt)?;
+    Ok(Tried { attempt, finished })
+}
+
+/// The timestamp at which an attempt's own call commits, or the refusal; nothing where a shard is not held.
+pub fn committed(parts: &mut Parts, tried: Tried) -> Option<Result<u64, RefusedCommit>> {
+    let Tried { attempt, finished } = tried;
+    if !parts.held.covers(attempt.reads()) || !parts.held.covers(finished.writes()) {
+        return None;
     }
-    Ok(journal.commit(held, attempt, done))
+    Some(parts.journal.commit(&mut parts.held, attempt, finished))
+}
+
+/// Whether a call begins at a timestamp, reads all that it asks for, and commits.
+pub fn is_committed_at(
+    alloc: Global,
+    ops: &OpSet,
+    parts: &mut Parts,
+    number: u32,
+    timestamp: u64,
+) -> Result<bool, Fail>
+    requires full { IsFull ⟦<BoxedOp as Op>⟧.opcode ops.now }
+{
+    let tried = attempted(alloc, ops, parts, number)?;
+    match committed(parts, tried) {
+        Some(Ok(given)) => Ok(given == timestamp),
+        _ => Ok(false),
+    }
 }

@@ -21,8 +21,6 @@ mod past;
 mod same_ledger;
 mod seal_fault;
 mod sealing;
-#[cfg(test)]
-mod tests;
 
 pub use begin_fault::{BeginError, BeginFault};
 pub use commit_fault::{CommitError, CommitFault, RefusedCommit};

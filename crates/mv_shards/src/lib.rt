@@ -14,8 +14,6 @@ mod part;
 mod read_fault;
 mod room;
 mod shard;
-#[cfg(test)]
-mod tests;
 mod writing;
 
 pub use attempt::Attempt;

@@ -1,4 +1,4 @@
--- What the tests begin with.
+-- What the tests of shards begin with.
 use Rattle.std.specs.Prelude.{◌≡◌, ℕ, [], ◌∷◌, None, Some}
 use Rattle.std.proofs.Common.{replicate}
 use Rattle.avm_ledger.specs.Ledgers.{empty_ledger}
