@@ -8,6 +8,3 @@ mod flow;
 
 pub use cpu::Cpu;
 pub use flow::Flow;
-
-#[cfg(test)]
-mod tests;

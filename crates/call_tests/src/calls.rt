@@ -118,60 +118,62 @@ fn all_end_so(
     Ok(true)
 }
 
-/// Ends, numbers, longer spellings, branches, blocks that are passed over, literals and fields.
+/// Programs of version 2: ends, numbers, longer spellings, branches, blocks that are passed over, literals and fields.
+const VERSION_2: [(&str, Outcome); 20] = [
+    (APPROVES, Outcome::Approved),
+    ("02", Outcome::Faulted(Fault::FinalDepth, 1)),
+    ("02200205072223", Outcome::Faulted(Fault::FinalDepth, 7)),
+    ("0220020507222309", Outcome::Faulted(Fault::Negative, 7)),
+    (
+        "022002ffffffffffffffffff0101222308",
+        Outcome::Faulted(Fault::Overflow, 16),
+    ),
+    (
+        "022002ffffffffffffffffff010122231e",
+        Outcome::Faulted(Fault::FinalDepth, 17),
+    ),
+    // The high word of the greatest square, and its low word.
+    (
+        "022002ffffffffffffffffff01feffffffffffffffff0122221d482312",
+        Outcome::Approved,
+    ),
+    (
+        "022002ffffffffffffffffff010122221d231243",
+        Outcome::Approved,
+    ),
+    ("022601002817", Outcome::Rejected),
+    (
+        "022001ffffffffffffffffff01260108ffffffffffffffff28172212",
+        Outcome::Approved,
+    ),
+    (
+        "02260109ffffffffffffffffff2817",
+        Outcome::Faulted(Fault::BtoiLength, 14),
+    ),
+    ("022081000122", Outcome::Approved),
+    ("0220010122420000", Outcome::Approved),
+    ("0220010142000320010022", Outcome::Approved),
+    ("0220010142000020010022", Outcome::Rejected),
+    ("022601026869282812", Outcome::Approved),
+    (
+        "0226020020e3b0c44298fc1c149afbf4c8996fb92427ae41e4649b934ca495991b7852b85528012912",
+        Outcome::Approved,
+    ),
+    (
+        "02260120000000000000000000000000000000000000000000000000000000000000000028320312",
+        Outcome::Approved,
+    ),
+    (
+        "02200101311922124000010022",
+        Outcome::Faulted(Fault::Err, 11),
+    ),
+    ("0220010332052212", Outcome::Rejected),
+];
+
+/// Whether programs of version 2 end so, one of them also where the sender opts in.
 fn programs_of_version_2_end(alloc: Global, ops: &OpSet) -> Result<bool, Fail>
     requires full { IsFull ⟦<BoxedOp as Op>⟧.opcode ops.now }
 {
-    let cases = [
-        (APPROVES, Outcome::Approved),
-        ("02", Outcome::Faulted(Fault::FinalDepth, 1)),
-        ("02200205072223", Outcome::Faulted(Fault::FinalDepth, 7)),
-        ("0220020507222309", Outcome::Faulted(Fault::Negative, 7)),
-        (
-            "022002ffffffffffffffffff0101222308",
-            Outcome::Faulted(Fault::Overflow, 16),
-        ),
-        (
-            "022002ffffffffffffffffff010122231e",
-            Outcome::Faulted(Fault::FinalDepth, 17),
-        ),
-        // The high word of the greatest square, and its low word.
-        (
-            "022002ffffffffffffffffff01feffffffffffffffff0122221d482312",
-            Outcome::Approved,
-        ),
-        (
-            "022002ffffffffffffffffff010122221d231243",
-            Outcome::Approved,
-        ),
-        ("022601002817", Outcome::Rejected),
-        (
-            "022001ffffffffffffffffff01260108ffffffffffffffff28172212",
-            Outcome::Approved,
-        ),
-        (
-            "02260109ffffffffffffffffff2817",
-            Outcome::Faulted(Fault::BtoiLength, 14),
-        ),
-        ("022081000122", Outcome::Approved),
-        ("0220010122420000", Outcome::Approved),
-        ("0220010142000320010022", Outcome::Approved),
-        ("0220010142000020010022", Outcome::Rejected),
-        ("022601026869282812", Outcome::Approved),
-        (
-            "0226020020e3b0c44298fc1c149afbf4c8996fb92427ae41e4649b934ca495991b7852b85528012912",
-            Outcome::Approved,
-        ),
-        (
-            "02260120000000000000000000000000000000000000000000000000000000000000000028320312",
-            Outcome::Approved,
-        ),
-        (
-            "02200101311922124000010022",
-            Outcome::Faulted(Fault::Err, 11),
-        ),
-        ("0220010332052212", Outcome::Rejected),
-    ];
     let opted_in = end_in(
         alloc,
         ops,
@@ -179,25 +181,54 @@ fn programs_of_version_2_end(alloc: Global, ops: &OpSet) -> Result<bool, Fail>
         Completion::OptIn,
         "02200101311922124000010022",
     )?;
-    Ok(all_end_so(alloc, ops, Profile::Two, &cases)? && opted_in == Outcome::Approved)
+    Ok(all_end_so(alloc, ops, Profile::Two, &VERSION_2)? && opted_in == Outcome::Approved)
 }
 
 /// Programs of version 3, and one of version 2 that asks for the newest version.
+const VERSION_3: [(&str, Outcome); 8] = [
+    ("03200305070122234c094424", Outcome::Approved),
+    ("0320010722220944", Outcome::Faulted(Fault::Assert, 7)),
+    ("03800180810053", Outcome::Approved),
+    ("038102810153", Outcome::Approved),
+    ("038102814053", Outcome::Faulted(Fault::Range, 5)),
+    ("03200104224b0012", Outcome::Approved),
+    ("03200104224b01", Outcome::Faulted(Fault::Underflow, 5)),
+    ("0220010332052212", Outcome::Approved),
+];
+
 fn programs_of_version_3_end(alloc: Global, ops: &OpSet) -> Result<bool, Fail>
     requires full { IsFull ⟦<BoxedOp as Op>⟧.opcode ops.now }
 {
-    let cases = [
-        ("03200305070122234c094424", Outcome::Approved),
-        ("0320010722220944", Outcome::Faulted(Fault::Assert, 7)),
-        ("03800180810053", Outcome::Approved),
-        ("038102810153", Outcome::Approved),
-        ("038102814053", Outcome::Faulted(Fault::Range, 5)),
-        ("03200104224b0012", Outcome::Approved),
-        ("03200104224b01", Outcome::Faulted(Fault::Underflow, 5)),
-        ("0220010332052212", Outcome::Approved),
-    ];
-    all_end_so(alloc, ops, Profile::Three, &cases)
+    all_end_so(alloc, ops, Profile::Three, &VERSION_3)
 }
+
+/// The first part of a program, another part, how often it stands, the last part, and the outcome.
+const LONG: [(&str, &str, usize, &str, Outcome); 3] = [
+    // A block and a load; 19 digests, `len`, `return`, and 31 times `err`: cost 700.
+    (
+        "0226010028",
+        "01",
+        19,
+        "154300000000000000000000000000000000000000000000000000000000000000",
+        Outcome::Approved,
+    ),
+    // 501 numbers, doubled 500 times two by two.
+    (
+        "022001012249",
+        "4a",
+        500,
+        "",
+        Outcome::Faulted(Fault::StackFull, 505),
+    ),
+    // 64 bytes, doubled seven times.
+    (
+        "022601406161616161616161616161616161616161616161616161616161616161616161616161616161616161616161616161616161616161616161616161616161616128",
+        "4950",
+        7,
+        "",
+        Outcome::Faulted(Fault::TooLong, 82),
+    ),
+];
 
 /// How a program ends that is spelled by a first part, another part so many times, and a last part.
 fn end_of_long(
@@ -223,33 +254,7 @@ fn end_of_long(
 fn long_programs_end(alloc: Global, ops: &OpSet) -> Result<bool, Fail>
     requires full { IsFull ⟦<BoxedOp as Op>⟧.opcode ops.now }
 {
-    let cases = [
-        // A block and a load; 19 digests, `len`, `return`, and 31 times `err`: cost 700.
-        (
-            "0226010028",
-            "01",
-            19,
-            "154300000000000000000000000000000000000000000000000000000000000000",
-            Outcome::Approved,
-        ),
-        // 501 numbers, doubled 500 times two by two.
-        (
-            "022001012249",
-            "4a",
-            500,
-            "",
-            Outcome::Faulted(Fault::StackFull, 505),
-        ),
-        // 64 bytes, doubled seven times.
-        (
-            "022601406161616161616161616161616161616161616161616161616161616161616161616161616161616161616161616161616161616161616161616161616161616128",
-            "4950",
-            7,
-            "",
-            Outcome::Faulted(Fault::TooLong, 82),
-        ),
-    ];
-    for (first, part, times, last, outcome) in cases {
+    for (first, part, times, last, outcome) in LONG {
         if end_of_long(alloc, ops, first, part, times, last)? != outcome {
             return Ok(false);
         }
@@ -601,11 +606,15 @@ fn end_of_run(
     }
 }
 
+/// A run of a call.
+pub fn started(alloc: Global, call: &Call) -> Result<CallRun, Fail> {
+    Ok(CallRun::start(alloc, call, &header(Profile::Two), None)?)
+}
+
 /// A run of a call of application 1.
 fn run_of(alloc: Global) -> Result<CallRun, Fail> {
     let fields = fields(alloc, 1, Completion::NoOp, "", "", NO_ENTRY)?;
-    let call = checked(alloc, fields)?;
-    Ok(CallRun::start(alloc, &call, &header(Profile::Two), None)?)
+    started(alloc, &checked(alloc, fields)?)
 }
 
 /// An application whose programs approve.
@@ -614,25 +623,24 @@ fn approving_application(alloc: Global) -> Result<ItemValue, Fail> {
     Ok(item_of(&ledger, &Item::App(1))?)
 }
 
+/// Whether a run takes no item before it asked for it.
+fn is_not_asked(run: &mut CallRun) -> bool {
+    run.supply(Item::App(2), ItemValue::Absent) == Err(RunFault::NotAsked)
+}
+
 /// A run asks for the row of its application until it is supplied, and then ends; it takes no other item, and is spent.
 fn runs_ask_once(alloc: Global, ops: &OpSet) -> Result<bool, Fail>
     requires full { IsFull ⟦<BoxedOp as Op>⟧.opcode ops.now }
 {
     let row = approving_application(alloc)?;
     let mut run = run_of(alloc)?;
-    let not_asked = run.supply(Item::App(2), ItemValue::Absent);
-    let first = asks_for(alloc, ops, &mut run, &Item::App(1));
-    let again = asks_for(alloc, ops, &mut run, &Item::App(1));
-    let supplied = run.supply(Item::App(1), row);
-    let end = end_of_run(alloc, ops, &mut run);
-    let spent = end_of_run(alloc, ops, &mut run);
     Ok(
-        not_asked == Err(RunFault::NotAsked)
-            && first
-            && again
-            && supplied == Ok(())
-            && end == Ok((Outcome::Approved, 1, 0))
-            && spent == Err(RunFault::Spent),
+        is_not_asked(&mut run)
+            && asks_for(alloc, ops, &mut run, &Item::App(1))
+            && asks_for(alloc, ops, &mut run, &Item::App(1))
+            && run.supply(Item::App(1), row) == Ok(())
+            && end_of_run(alloc, ops, &mut run) == Ok((Outcome::Approved, 1, 0))
+            && end_of_run(alloc, ops, &mut run) == Err(RunFault::Spent),
     )
 }
 
@@ -645,59 +653,97 @@ fn answer_of(alloc: Global, fields: CallData) -> Result<Result<Profile, CallFaul
     }
 }
 
-/// Fields with the first rule that they break, or with the profile that a call needs.
+const LARGE: Schema = Schema {
+    uints: 64,
+    bytes: 1,
+};
+
+const UNKNOWN_OP: CallFault = CallFault::Program(teal_check::CheckFault::Code {
+    place: 1,
+    fault: teal_code::CodeFault::UnknownOp,
+});
+
+/// `int 1` of version 3.
+const NEWEST: &str = "0320010122";
+
+/// Fields, each with the first rule that they break, or with the profile that a call needs: the application, the completion,
+/// the programs, and the schema of the global state.
+const CALLS: [(
+    u64,
+    Completion,
+    &str,
+    &str,
+    Schema,
+    Result<Profile, CallFault>,
+); 8] = [
+    (
+        0,
+        Completion::ClearState,
+        APPROVES,
+        APPROVES,
+        NO_ENTRY,
+        Err(CallFault::ClearOnCreate),
+    ),
+    (
+        0,
+        Completion::NoOp,
+        APPROVES,
+        "",
+        NO_ENTRY,
+        Err(CallFault::ProgramsMissing),
+    ),
+    (
+        1,
+        Completion::NoOp,
+        APPROVES,
+        "",
+        NO_ENTRY,
+        Err(CallFault::ProgramsGiven),
+    ),
+    (
+        0,
+        Completion::NoOp,
+        APPROVES,
+        APPROVES,
+        LARGE,
+        Err(CallFault::SchemaSize),
+    ),
+    (
+        1,
+        Completion::NoOp,
+        "",
+        "",
+        ONE_UINT,
+        Err(CallFault::SchemaSize),
+    ),
+    (
+        1,
+        Completion::UpdateApplication,
+        "0244",
+        "02ff",
+        NO_ENTRY,
+        Err(UNKNOWN_OP),
+    ),
+    (
+        0,
+        Completion::NoOp,
+        APPROVES,
+        NEWEST,
+        NO_ENTRY,
+        Ok(Profile::Three),
+    ),
+    (
+        0,
+        Completion::NoOp,
+        APPROVES,
+        APPROVES,
+        NO_ENTRY,
+        Ok(Profile::Two),
+    ),
+];
+
 fn calls_are_checked(alloc: Global) -> Result<bool, Fail> {
-    let large = Schema {
-        uints: 64,
-        bytes: 1,
-    };
-    let unknown = CallFault::Program(teal_check::CheckFault::Code {
-        place: 1,
-        fault: teal_code::CodeFault::UnknownOp,
-    });
-    let newest = "0320010122";
-    let create = Completion::NoOp;
-    let update = Completion::UpdateApplication;
-    let clears = Err(CallFault::ClearOnCreate);
-    let cases = [
-        (
-            0,
-            Completion::ClearState,
-            APPROVES,
-            APPROVES,
-            NO_ENTRY,
-            clears,
-        ),
-        (
-            0,
-            create,
-            APPROVES,
-            "",
-            NO_ENTRY,
-            Err(CallFault::ProgramsMissing),
-        ),
-        (
-            1,
-            create,
-            APPROVES,
-            "",
-            NO_ENTRY,
-            Err(CallFault::ProgramsGiven),
-        ),
-        (
-            0,
-            create,
-            APPROVES,
-            APPROVES,
-            large,
-            Err(CallFault::SchemaSize),
-        ),
-        (1, create, "", "", ONE_UINT, Err(CallFault::SchemaSize)),
-        (1, update, "0244", "02ff", NO_ENTRY, Err(unknown)),
-        (0, create, APPROVES, newest, NO_ENTRY, Ok(Profile::Three)),
-        (0, create, APPROVES, APPROVES, NO_ENTRY, Ok(Profile::Two)),
-    ];
-    for (application, completion, approval, clear, schema, answer) in cases {
+    for (application, completion, approval, clear, schema, answer) in CALLS {
         let fields = fields(alloc, application, completion, approval, clear, schema)?;
         if answer_of(alloc, fields)? != answer {
             return Ok(false);

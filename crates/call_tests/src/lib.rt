@@ -4,6 +4,8 @@
 #[cfg(test)]
 mod calls;
 #[cfg(test)]
+mod constants;
+#[cfg(test)]
 mod objects;
 #[cfg(test)]
 mod steps;

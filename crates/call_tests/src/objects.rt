@@ -159,65 +159,67 @@ fn all_run(alloc: Global, ops: &OpSet, cases: &[Case]) -> Result<bool, Fail>
     Ok(true)
 }
 
-/// Whether instructions without immediates run as the AVM specification says.
+/// Instructions without immediates, as the AVM specification has them.
+const PLAIN: [Case; 14] = [
+    (Opcode::Add, "18446744073709551615 1", Err(Fault::Overflow)),
+    (Opcode::Addw, "18446744073709551615 1", Ok("1 0")),
+    (
+        Opcode::Mulw,
+        "18446744073709551615 18446744073709551615",
+        Ok("18446744073709551614 1"),
+    ),
+    (Opcode::Btoi, "0x", Ok("0")),
+    (
+        Opcode::Btoi,
+        "0xffffffffffffffff",
+        Ok("18446744073709551615"),
+    ),
+    (Opcode::Btoi, "0xffffffffffffffffff", Err(Fault::BtoiLength)),
+    (Opcode::Equal, "0x6869 0x6869", Ok("1")),
+    (Opcode::Sha256, "0x", Ok(DIGEST_OF_NOTHING)),
+    (Opcode::Concat, "0x4156 0x4d", Ok("0x41564d")),
+    (Opcode::Swap, "5 7", Ok("7 5")),
+    (Opcode::Select, "5 6 0", Ok("5")),
+    (Opcode::Select, "5 6 9", Ok("6")),
+    (Opcode::Assert, "0", Err(Fault::Assert)),
+    (Opcode::Assert, "5 2", Ok("5")),
+];
+
 fn plain_instructions_run(alloc: Global, ops: &OpSet) -> Result<bool, Fail>
     requires full { IsFull ⟦<BoxedOp as Op>⟧.opcode ops.now }
 {
-    let cases = [
-        (Opcode::Add, "18446744073709551615 1", Err(Fault::Overflow)),
-        (Opcode::Addw, "18446744073709551615 1", Ok("1 0")),
-        (
-            Opcode::Mulw,
-            "18446744073709551615 18446744073709551615",
-            Ok("18446744073709551614 1"),
-        ),
-        (Opcode::Btoi, "0x", Ok("0")),
-        (
-            Opcode::Btoi,
-            "0xffffffffffffffff",
-            Ok("18446744073709551615"),
-        ),
-        (Opcode::Btoi, "0xffffffffffffffffff", Err(Fault::BtoiLength)),
-        (Opcode::Equal, "0x6869 0x6869", Ok("1")),
-        (Opcode::Sha256, "0x", Ok(DIGEST_OF_NOTHING)),
-        (Opcode::Concat, "0x4156 0x4d", Ok("0x41564d")),
-        (Opcode::Swap, "5 7", Ok("7 5")),
-        (Opcode::Select, "5 6 0", Ok("5")),
-        (Opcode::Select, "5 6 9", Ok("6")),
-        (Opcode::Assert, "0", Err(Fault::Assert)),
-        (Opcode::Assert, "5 2", Ok("5")),
-    ];
-    all_run(alloc, ops, &cases)
+    all_run(alloc, ops, &PLAIN)
 }
 
-/// Whether bits and bytes are read and set as the AVM specification says: bit 3 of the number 0 is 8, bit 3 of the one
-/// byte 0 is 16.
+/// How bits and bytes are read and set, as the AVM specification has it: bit 3 of the number 0 is 8, bit 3 of the one byte 0
+/// is 16.
+const BITS_AND_BYTES: [Case; 16] = [
+    (Opcode::Getbit, "0x80 0", Ok("1")),
+    (Opcode::Getbit, "0x80 7", Ok("0")),
+    (Opcode::Getbit, "0x80 8", Err(Fault::Range)),
+    (Opcode::Getbit, "2 1", Ok("1")),
+    (Opcode::Getbit, "2 64", Err(Fault::Range)),
+    (Opcode::Setbit, "0 3 1", Ok("8")),
+    (
+        Opcode::Setbit,
+        "18446744073709551615 0 0",
+        Ok("18446744073709551614"),
+    ),
+    (Opcode::Setbit, "0x00 3 1", Ok("0x10")),
+    (Opcode::Setbit, "0 3 2", Err(Fault::Range)),
+    (Opcode::Getbyte, "0x6869 1", Ok("105")),
+    (Opcode::Getbyte, "0x6869 2", Err(Fault::Range)),
+    (Opcode::Setbyte, "0x6869 0 72", Ok("0x4869")),
+    (Opcode::Setbyte, "0x6869 0 256", Err(Fault::Range)),
+    (Opcode::Substring3, "0x68656c6c6f 1 5", Ok("0x656c6c6f")),
+    (Opcode::Substring3, "0x68656c6c6f 1 6", Err(Fault::Range)),
+    (Opcode::Len, "0x68656c6c6f", Ok("5")),
+];
+
 fn bits_and_bytes_run(alloc: Global, ops: &OpSet) -> Result<bool, Fail>
     requires full { IsFull ⟦<BoxedOp as Op>⟧.opcode ops.now }
 {
-    let cases = [
-        (Opcode::Getbit, "0x80 0", Ok("1")),
-        (Opcode::Getbit, "0x80 7", Ok("0")),
-        (Opcode::Getbit, "0x80 8", Err(Fault::Range)),
-        (Opcode::Getbit, "2 1", Ok("1")),
-        (Opcode::Getbit, "2 64", Err(Fault::Range)),
-        (Opcode::Setbit, "0 3 1", Ok("8")),
-        (
-            Opcode::Setbit,
-            "18446744073709551615 0 0",
-            Ok("18446744073709551614"),
-        ),
-        (Opcode::Setbit, "0x00 3 1", Ok("0x10")),
-        (Opcode::Setbit, "0 3 2", Err(Fault::Range)),
-        (Opcode::Getbyte, "0x6869 1", Ok("105")),
-        (Opcode::Getbyte, "0x6869 2", Err(Fault::Range)),
-        (Opcode::Setbyte, "0x6869 0 72", Ok("0x4869")),
-        (Opcode::Setbyte, "0x6869 0 256", Err(Fault::Range)),
-        (Opcode::Substring3, "0x68656c6c6f 1 5", Ok("0x656c6c6f")),
-        (Opcode::Substring3, "0x68656c6c6f 1 6", Err(Fault::Range)),
-        (Opcode::Len, "0x68656c6c6f", Ok("5")),
-    ];
-    all_run(alloc, ops, &cases)
+    all_run(alloc, ops, &BITS_AND_BYTES)
 }
 
 /// Whether instructions run that hold what they push.
@@ -235,16 +237,17 @@ fn literals_run(alloc: Global, ops: &OpSet) -> Result<bool, Fail>
     Ok(runs(alloc, ops, &number, "", Ok("4"))? && runs(alloc, ops, &bytes, "", Ok("0x0a00"))?)
 }
 
-/// Whether a value is copied from a depth.
+/// Depths from which `dig` copies a value, with the stacks before and after.
+const DEPTHS: [(u8, &str, Result<&str, Fault>); 3] = [
+    (0, "4", Ok("4 4")),
+    (1, "4 9", Ok("4 9 4")),
+    (1, "4", Err(Fault::Underflow)),
+];
+
 fn depths_run(alloc: Global, ops: &OpSet) -> Result<bool, Fail>
     requires full { IsFull ⟦<BoxedOp as Op>⟧.opcode ops.now }
 {
-    let cases = [
-        (0, "4", Ok("4 4")),
-        (1, "4 9", Ok("4 9 4")),
-        (1, "4", Err(Fault::Underflow)),
-    ];
-    for (depth, before, after) in cases {
+    for (depth, before, after) in DEPTHS {
         let dig = Instr {
             opcode: Opcode::Dig,
             immediates: Immediates::Index(depth),

@@ -2,56 +2,129 @@
 
 ghost use Rattle.avm_ops.specs.Objects.{IsFull};
 
-use crate::calls::{APPROVES, COUNTS, FAULTS, NO_ENTRY, ONE_UINT, checked, fields, header};
-use avm_call::{Call, Outcome, Why};
+use crate::calls::{APPROVES, COUNTS, FAULTS, NO_ENTRY, ONE_UINT, checked, fields, started};
+use avm_call::{Outcome, Why};
 use avm_items::{Completion, Item, ItemValue, item_of};
-use avm_ledger::{Ledger, Profile, Schema};
+use avm_ledger::{Ledger, Schema};
 use avm_ops::{BoxedOp, Op, OpSet};
 use avm_run::{Advance, CallRun, Step};
 use std::alloc::Global;
 use std::test::Fail;
 use teal_value::Fault;
 
-/// The place where the program of a run stands, and how many values are on the stack there.
-fn stands_at(run: &CallRun) -> Option<(u16, usize)> {
+/// A place in a program, and how many values are on the stack there.
+type Place = Option<(u16, usize)>;
+
+/// The place where the program of a run stands.
+fn stands_at(run: &CallRun) -> Place {
     match run.shown() {
         Some(shown) => Some((shown.place, shown.machine.depth())),
         None => None,
     }
 }
 
-/// How many steps a run makes that is supplied with a ledger's items, where its program ends, and how the call does.
+/// What a step of a run comes to that is supplied with a ledger's items.
+#[derive(Clone, Copy)]
+enum Turn {
+    Moved,
+    Supplied,
+    Ended(Place),
+    Done(Outcome),
+    Failed,
+}
+
+fn supplied(ledger: &Ledger, run: &mut CallRun, item: Item) -> Result<Turn, Fail> {
+    let value = item_of(ledger, &item)?;
+    match run.supply(item, value) {
+        Ok(()) => Ok(Turn::Supplied),
+        Err(_fault) => Ok(Turn::Failed),
+    }
+}
+
+fn turned(alloc: Global, ops: &OpSet, ledger: &Ledger, run: &mut CallRun) -> Result<Turn, Fail>
+    requires full { IsFull ⟦<BoxedOp as Op>⟧.opcode ops.now }
+{
+    match run.step_one(alloc, ops) {
+        Ok(Step::Moved) => Ok(Turn::Moved),
+        Ok(Step::Need(item)) => supplied(ledger, run, item),
+        Ok(Step::Ended(_ended)) => Ok(Turn::Ended(stands_at(run))),
+        Ok(Step::Done(finished)) => Ok(Turn::Done(finished.outcome())),
+        Err(_fault) => Ok(Turn::Failed),
+    }
+}
+
+/// The outcome of a call whose program has ended.
+fn outcome_of(alloc: Global, ops: &OpSet, run: &mut CallRun) -> Option<Outcome>
+    requires full { IsFull ⟦<BoxedOp as Op>⟧.opcode ops.now }
+{
+    match run.advance(alloc, ops) {
+        Ok(Advance::Done(finished)) => Some(finished.outcome()),
+        _ => None,
+    }
+}
+
+/// How many steps a run makes, where its program ends, and how the call does.
 fn steps_of(
     alloc: Global,
     ops: &OpSet,
     ledger: &Ledger,
-    call: &Call,
-) -> Result<Option<(u32, Option<(u16, usize)>, Outcome)>, Fail>
+    run: &mut CallRun,
+) -> Result<Option<(u32, Place, Outcome)>, Fail>
     requires full { IsFull ⟦<BoxedOp as Op>⟧.opcode ops.now }
 {
-    let mut run = CallRun::start(alloc, call, &header(Profile::Two), None)?;
     let mut moved = 0;
     for _turn in 0..32u32 {
-        match run.step_one(alloc, ops) {
-            Ok(Step::Moved) => moved += 1,
-            Ok(Step::Need(item)) => {
-                let value = item_of(ledger, &item)?;
-                if run.supply(item, value) != Ok(()) {
-                    return Ok(None);
-                }
-            }
-            Ok(Step::Ended(_ended)) => {
-                let place = stands_at(&run);
-                return match run.advance(alloc, ops) {
-                    Ok(Advance::Done(finished)) => Ok(Some((moved, place, finished.outcome()))),
-                    _ => Ok(None),
+        match turned(alloc, ops, ledger, run)? {
+            Turn::Moved => moved += 1,
+            Turn::Supplied => {}
+            Turn::Ended(place) => {
+                return match outcome_of(alloc, ops, run) {
+                    Some(outcome) => Ok(Some((moved, place, outcome))),
+                    None => Ok(None),
                 };
             }
-            Ok(Step::Done(finished)) => return Ok(Some((moved, None, finished.outcome()))),
-            Err(_fault) => return Ok(None),
+            Turn::Done(outcome) => return Ok(Some((moved, None, outcome))),
+            Turn::Failed => return Ok(None),
         }
     }
     Ok(None)
+}
+
+/// Calls without entries in local states: the application, both programs, the schema of the global state, how many steps a
+/// run makes, where it stands at its end, and how it ends.
+const RUNS: [(u64, &str, Schema, u32, Place, Outcome); 5] = [
+    (0, APPROVES, NO_ENTRY, 3, Some((5, 1)), Outcome::Approved),
+    (
+        0,
+        "022001012243",
+        NO_ENTRY,
+        4,
+        Some((6, 1)),
+        Outcome::Approved,
+    ),
+    (
+        0,
+        FAULTS,
+        NO_ENTRY,
+        1,
+        Some((1, 0)),
+        Outcome::Faulted(Fault::Err, 1),
+    ),
+    (0, COUNTS, ONE_UINT, 10, Some((15, 1)), Outcome::Approved),
+    (1, "", NO_ENTRY, 0, None, Outcome::Refused(Why::NoApp)),
+];
+
+/// A run of a call without arguments.
+fn run_of(alloc: Global, application: u64, program: &str, schema: Schema) -> Result<CallRun, Fail> {
+    let fields = fields(
+        alloc,
+        application,
+        Completion::NoOp,
+        program,
+        program,
+        schema,
+    )?;
+    started(alloc, &checked(alloc, fields)?)
 }
 
 /// A run steps to the start of its program and then over one instruction after another, `return` among them; a fault is
@@ -60,39 +133,10 @@ fn steps_of(
 pub fn runs_step_by_instruction(alloc: Global, ops: &OpSet) -> Result<bool, Fail>
     requires full { IsFull ⟦<BoxedOp as Op>⟧.opcode ops.now }
 {
-    let cases: [(u64, &str, Schema, u32, Option<(u16, usize)>, Outcome); 5] = [
-        (0, APPROVES, NO_ENTRY, 3, Some((5, 1)), Outcome::Approved),
-        (
-            0,
-            "022001012243",
-            NO_ENTRY,
-            4,
-            Some((6, 1)),
-            Outcome::Approved,
-        ),
-        (
-            0,
-            FAULTS,
-            NO_ENTRY,
-            1,
-            Some((1, 0)),
-            Outcome::Faulted(Fault::Err, 1),
-        ),
-        (0, COUNTS, ONE_UINT, 10, Some((15, 1)), Outcome::Approved),
-        (1, "", NO_ENTRY, 0, None, Outcome::Refused(Why::NoApp)),
-    ];
     let ledger = Ledger::new(alloc);
-    for (application, program, schema, moved, place, outcome) in cases {
-        let fields = fields(
-            alloc,
-            application,
-            Completion::NoOp,
-            program,
-            program,
-            schema,
-        )?;
-        let call = checked(alloc, fields)?;
-        if steps_of(alloc, ops, &ledger, &call)? != Some((moved, place, outcome)) {
+    for (application, program, schema, moved, place, outcome) in RUNS {
+        let mut run = run_of(alloc, application, program, schema)?;
+        if steps_of(alloc, ops, &ledger, &mut run)? != Some((moved, place, outcome)) {
             return Ok(false);
         }
     }
@@ -107,27 +151,34 @@ fn known_next_id(run: &CallRun) -> Option<u64> {
     }
 }
 
+/// Whether a step of a run asks for the next id, and takes 7.
+fn takes_7(alloc: Global, ops: &OpSet, run: &mut CallRun) -> bool
+    requires full { IsFull ⟦<BoxedOp as Op>⟧.opcode ops.now }
+{
+    let asks = matches!(run.step_one(alloc, ops), Ok(Step::Need(Item::NextApp)));
+    asks && run.supply(Item::NextApp, ItemValue::NextApp(7)) == Ok(())
+}
+
+/// Whether a step of a run moves on.
+fn moves(alloc: Global, ops: &OpSet, run: &mut CallRun) -> bool
+    requires full { IsFull ⟦<BoxedOp as Op>⟧.opcode ops.now }
+{
+    matches!(run.step_one(alloc, ops), Ok(Step::Moved))
+}
+
 /// A run that makes an application knows nothing before its program. Then it knows the next id by its own write, and not as
 /// it was supplied, and of an application that it did not ask for nothing. At its end it is spent, and knows nothing.
 pub fn runs_know_what_they_wrote(alloc: Global, ops: &OpSet) -> Result<bool, Fail>
     requires full { IsFull ⟦<BoxedOp as Op>⟧.opcode ops.now }
 {
-    let fields = fields(alloc, 0, Completion::NoOp, APPROVES, APPROVES, NO_ENTRY)?;
-    let call = checked(alloc, fields)?;
-    let mut run = CallRun::start(alloc, &call, &header(Profile::Two), None)?;
-    let asks = matches!(run.step_one(alloc, ops), Ok(Step::Need(Item::NextApp)));
-    let supplied = run.supply(Item::NextApp, ItemValue::NextApp(7)) == Ok(());
-    let before = known_next_id(&run);
-    let begins = matches!(run.step_one(alloc, ops), Ok(Step::Moved));
-    let within = known_next_id(&run);
-    let other = run.value(&Item::App(1)).is_some();
-    let ends = matches!(run.advance(alloc, ops), Ok(Advance::Done(_)));
-    let after = known_next_id(&run);
+    let mut run = run_of(alloc, 0, APPROVES, NO_ENTRY)?;
     Ok(
-        asks && supplied
-            && begins
-            && ends
-            && !other
-            && (before, within, after) == (None, Some(8), None),
+        takes_7(alloc, ops, &mut run)
+            && known_next_id(&run) == None
+            && moves(alloc, ops, &mut run)
+            && known_next_id(&run) == Some(8)
+            && run.value(&Item::App(1)).is_none()
+            && outcome_of(alloc, ops, &mut run).is_some()
+            && known_next_id(&run) == None,
     )
 }
