@@ -15,6 +15,7 @@ use avm_arith::ArithOp;
 use avm_flow_ops::FlowOp;
 use avm_ops::{BoxedOp, Op, OpSet, Ops};
 use avm_state_ops::StateOp;
+use sample_calls::full_set;
 use std::env;
 use std::test::Fail;
 
@@ -22,30 +23,18 @@ use std::test::Fail;
 const NAMES: [&str; 5] = ["values", "skew", "parts", "prunes", "marks"];
 
 fn main(rt: HostRuntime) -> Result<(), Fail> {
-    let alloc = rt.alloc();
-    let mut ops: OpSet = Ops::new(alloc)?;
-    for code in 0..256usize {
-        let code = code as u8;
-        let op: Box<dyn Op> = if let Some(op) = ArithOp::of(code) {
-            Box::new(alloc, op)?
-        } else if let Some(op) = FlowOp::of(code) {
-            Box::new(alloc, op)?
-        } else if let Some(op) = StateOp::of(code) {
-            Box::new(alloc, op)?
-        } else {
-            continue;
-        };
-        if ops.push(BoxedOp { op }).is_err() {
-            return Err("an object of its code is there".into());
-        }
-    }
-    if ops.missing().is_some() {
-        return Err("an opcode has no object".into());
-    }
-    let words: Vec<String> = env::args(&rt)?.skip(1).collect(alloc)?;
+    let ops = full_set!(rt.alloc());
+    run(&rt, &ops)
+}
+
+/// The scenario that the first word names, or all.
+fn run(rt: &HostRuntime, ops: &OpSet) -> Result<(), Fail>
+    requires full { IsFull ⟦<BoxedOp as Op>⟧.opcode ops.now }
+{
+    let words: Vec<String> = env::args(rt)?.skip(1).collect(rt.alloc())?;
     match words.first() {
-        Some(name) => scenario(&rt, &ops, name.as_str()),
-        None => all_scenarios(&rt, &ops),
+        Some(name) => scenario(rt, ops, name.as_str()),
+        None => all_scenarios(rt, ops),
     }
 }
 

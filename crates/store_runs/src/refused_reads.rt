@@ -2,11 +2,10 @@
 
 ghost use Rattle.avm_ops.specs.Objects.{IsFull};
 
-use crate::steps::{begun, finished, say_memory};
+use crate::steps::{Tried, attempted, begun, say_memory};
 use crate::stores::store_of;
 use avm_items::Item;
 use avm_ops::{BoxedOp, Op, OpSet};
-use avm_run::Finished;
 use mv_core::{Store, Ticket};
 use sample_calls::rows::X;
 use sample_calls::worked::{SKEW, SKEW_CALLS};
@@ -18,29 +17,34 @@ pub fn marks(rt: &HostRuntime, ops: &OpSet) -> Result<(), Fail>
     requires full { IsFull ⟦<BoxedOp as Op>⟧.opcode ops.now }
 {
     let mut store = store_of(rt.alloc(), SKEW, &SKEW_CALLS)?;
-    let first = begun(rt, &mut store, 1)?;
-    let ending = finished(rt, ops, &mut store, &first)?;
+    let first = attempted(rt, ops, &mut store, 1)?;
     let second = begun(rt, &mut store, 2)?;
-    match store.read(&second, Item::Local(X, 1)) {
-        Ok(_value) => {}
-        Err(Failure::Memory) => {
-            let same = is_in_time(&mut store, &first, ending)?;
-            say_memory(rt, same)?;
-            if store.read(&second, Item::Local(X, 1)).is_err() {
-                return Err("memory is refused twice".into());
-            }
+    if is_refused(&mut store, &second)? {
+        let same = is_in_time(&mut store, first)?;
+        say_memory(rt, same)?;
+        if is_refused(&mut store, &second)? {
+            return Err("memory is refused twice".into());
         }
-        Err(Failure::Fault(_)) => return Err("a live attempt reads".into()),
     }
     println!(rt; "2 reads")?;
     Ok(())
 }
 
+/// Whether memory is refused to a live attempt that reads what call 1 writes.
+fn is_refused(store: &mut Store, ticket: &Ticket) -> Result<bool, Fail> {
+    match store.read(ticket, Item::Local(X, 1)) {
+        Ok(_value) => Ok(false),
+        Err(Failure::Memory) => Ok(true),
+        Err(Failure::Fault(_)) => Err("a live attempt reads".into()),
+    }
+}
+
 /// Whether the call at the lower timestamp commits, which it would not if its item had a mark above.
-fn is_in_time(store: &mut Store, ticket: &Ticket, ending: Finished) -> Result<bool, Fail> {
-    match store.commit(ticket, ending) {
+fn is_in_time(store: &mut Store, tried: Tried) -> Result<bool, Fail> {
+    let Tried { ticket, finished } = tried;
+    match store.commit(&ticket, finished) {
         Ok(_timestamp) => Ok(true),
-        Err(refused) => match refused.error {
+        Err(refused) => match &refused.error {
             Failure::Memory => Err("memory is refused twice".into()),
             Failure::Fault(_) => Ok(false),
         },

@@ -7,12 +7,19 @@ use avm_block::encode;
 use avm_items::Item;
 use avm_ops::{BoxedOp, Op, OpSet};
 use avm_run::{Advance, CallRun, Finished, RunFault};
-use mv_core::{CommitFault, ReadFault, RefusedCommit, RefusedSeal, Store, Ticket};
+use mv_core::{CommitError, CommitFault, ReadFault, Store, Ticket};
 use mv_parts::{BeginFault, Sealed};
 use sample_calls::rows::{HEADER, X, Y};
 use std::alloc::{AllocError, Global};
 use std::test::Fail;
 use teal_value::{Failure, StateKey};
+
+/// An attempt whose call has ended.
+#[derive(Drop)]
+pub struct Tried {
+    pub ticket: Ticket,
+    pub finished: Finished,
+}
 
 /// What shows of a store: its committed calls, its low mark, and the versions of both accounts' local states, of the
 /// application, and of its key `v`.
@@ -82,8 +89,22 @@ pub fn begun(rt: &HostRuntime, store: &mut Store, number: u32) -> Result<Ticket,
     Err("memory is refused twice".into())
 }
 
+/// A call begins, and reads all that it asks for.
+pub fn attempted(
+    rt: &HostRuntime,
+    ops: &OpSet,
+    store: &mut Store,
+    number: u32,
+) -> Result<Tried, Fail>
+    requires full { IsFull ⟦<BoxedOp as Op>⟧.opcode ops.now }
+{
+    let ticket = begun(rt, store, number)?;
+    let finished = finished(rt, ops, store, &ticket)?;
+    Ok(Tried { ticket, finished })
+}
+
 /// A live attempt reads all that its call asks for, from the start again where memory is refused.
-pub fn finished(
+fn finished(
     rt: &HostRuntime,
     ops: &OpSet,
     store: &mut Store,
@@ -145,34 +166,55 @@ fn supply(
 }
 
 /// A call that has ended is committed, or is late and abandoned.
-pub fn ended(
-    rt: &HostRuntime,
-    store: &mut Store,
-    ticket: &Ticket,
-    finished: Finished,
-) -> Result<(), Fail> {
-    let mut ending = finished;
-    for _time in 0..2 {
-        let before = look_at(store);
-        match store.commit(ticket, ending) {
-            Ok(timestamp) => {
-                println!(rt; "{} commits at {timestamp}", ticket.number)?;
-                return Ok(());
-            }
-            Err(refused) => {
-                let RefusedCommit { error, finished } = refused;
-                ending = finished;
-                match error {
-                    Failure::Memory => {
-                        let same = look_at(store) == before && is_live(store, ticket);
-                        say_memory(rt, same)?;
-                    }
-                    Failure::Fault(fault) => return late(rt, store, ticket, &fault),
-                }
+pub fn ended(rt: &HostRuntime, store: &mut Store, tried: Tried) -> Result<(), Fail> {
+    match ended_once(rt, store, tried)? {
+        None => Ok(()),
+        Some(back) => match ended_once(rt, store, back)? {
+            None => Ok(()),
+            Some(_back) => Err("memory is refused twice".into()),
+        },
+    }
+}
+
+/// What comes back where memory is refused.
+fn ended_once(rt: &HostRuntime, store: &mut Store, tried: Tried) -> Result<Option<Tried>, Fail> {
+    let Tried { ticket, finished } = tried;
+    let before = look_at(store);
+    match store.commit(&ticket, finished) {
+        Ok(timestamp) => {
+            println!(rt; "{} commits at {timestamp}", ticket.number)?;
+            Ok(None)
+        }
+        Err(refused) => {
+            if wants_memory(rt, store, &ticket, &before, &refused.error)? {
+                let finished = refused.finished;
+                Ok(Some(Tried { ticket, finished }))
+            } else {
+                Ok(None)
             }
         }
     }
-    Err("memory is refused twice".into())
+}
+
+/// Whether a commit is refused for want of memory, which it says; else it is late.
+fn wants_memory(
+    rt: &HostRuntime,
+    store: &mut Store,
+    ticket: &Ticket,
+    before: &Seen,
+    error: &CommitError,
+) -> Result<bool, Fail> {
+    match error {
+        Failure::Memory => {
+            let same = look_at(store) == *before && is_live(store, ticket);
+            say_memory(rt, same)?;
+            Ok(true)
+        }
+        Failure::Fault(fault) => {
+            late(rt, store, ticket, fault)?;
+            Ok(false)
+        }
+    }
 }
 
 fn late(
@@ -219,22 +261,28 @@ fn state_line(alloc: Global, store: &Store, timestamp: u64) -> Result<String, Al
 
 /// The block of a store in which nothing is live.
 pub fn show_block(rt: &HostRuntime, store: Store) -> Result<(), Fail> {
-    let mut open = store;
-    for _time in 0..2 {
-        let before = look_at(&open);
-        match open.seal(rt.alloc()) {
-            Ok(sealed) => return show_sealed(rt, &sealed),
-            Err(refused) => {
-                let RefusedSeal {
-                    error: _error,
-                    store,
-                } = refused;
-                say_memory(rt, look_at(&store) == before)?;
-                open = store;
-            }
+    match show_once(rt, store)? {
+        None => Ok(()),
+        Some(back) => match show_once(rt, back)? {
+            None => Ok(()),
+            Some(_back) => Err("memory is refused twice".into()),
+        },
+    }
+}
+
+/// The store comes back where memory is refused to its seal.
+fn show_once(rt: &HostRuntime, store: Store) -> Result<Option<Store>, Fail> {
+    let before = look_at(&store);
+    match store.seal(rt.alloc()) {
+        Ok(sealed) => {
+            show_sealed(rt, &sealed)?;
+            Ok(None)
+        }
+        Err(refused) => {
+            say_memory(rt, look_at(&refused.store) == before)?;
+            Ok(Some(refused.store))
         }
     }
-    Err("memory is refused twice".into())
 }
 
 fn show_sealed(rt: &HostRuntime, sealed: &Sealed) -> Result<(), Fail> {

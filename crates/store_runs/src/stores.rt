@@ -2,7 +2,7 @@
 
 ghost use Rattle.avm_ops.specs.Objects.{IsFull};
 
-use crate::steps::{begun, ended, finished, show_block, show_state};
+use crate::steps::{Tried, attempted, ended, show_block, show_state};
 use avm_items::Completion;
 use avm_ops::{BoxedOp, Op, OpSet};
 use mv_core::Store;
@@ -39,17 +39,26 @@ pub fn store_of(alloc: Global, digits: &str, rows: &[Row]) -> Result<Store, Fail
     }
 }
 
+/// Both calls have read before either ends.
+fn both(rt: &HostRuntime, ops: &OpSet, store: &mut Store) -> Result<(), Fail>
+    requires full { IsFull ⟦<BoxedOp as Op>⟧.opcode ops.now }
+{
+    let first = attempted(rt, ops, store, 1)?;
+    let second = attempted(rt, ops, store, 2)?;
+    both_end(rt, store, first, second)
+}
+
+fn both_end(rt: &HostRuntime, store: &mut Store, first: Tried, second: Tried) -> Result<(), Fail> {
+    ended(rt, store, first)?;
+    ended(rt, store, second)
+}
+
 /// Two calls have read what the other writes; the one at the lower timestamp is late, and comes after the other.
 pub fn skew(rt: &HostRuntime, ops: &OpSet) -> Result<(), Fail>
     requires full { IsFull ⟦<BoxedOp as Op>⟧.opcode ops.now }
 {
     let mut store = store_of(rt.alloc(), SKEW, &SKEW_CALLS)?;
-    let first = begun(rt, &mut store, 1)?;
-    let first_ending = finished(rt, ops, &mut store, &first)?;
-    let second = begun(rt, &mut store, 2)?;
-    let second_ending = finished(rt, ops, &mut store, &second)?;
-    ended(rt, &mut store, &first, first_ending)?;
-    ended(rt, &mut store, &second, second_ending)?;
+    both(rt, ops, &mut store)?;
     one_call(rt, ops, &mut store, 1)?;
     show_state(rt, &store, 2)?;
     show_state(rt, &store, 3)?;
@@ -60,9 +69,8 @@ pub fn skew(rt: &HostRuntime, ops: &OpSet) -> Result<(), Fail>
 fn one_call(rt: &HostRuntime, ops: &OpSet, store: &mut Store, number: u32) -> Result<(), Fail>
     requires full { IsFull ⟦<BoxedOp as Op>⟧.opcode ops.now }
 {
-    let ticket = begun(rt, store, number)?;
-    let ending = finished(rt, ops, store, &ticket)?;
-    ended(rt, store, &ticket, ending)
+    let tried = attempted(rt, ops, store, number)?;
+    ended(rt, store, tried)
 }
 
 /// One commit that writes to three shards.

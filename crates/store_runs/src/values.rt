@@ -2,7 +2,7 @@
 
 ghost use Rattle.avm_ops.specs.Objects.{IsFull};
 
-use avm_call::Call;
+use avm_call::{Call, Outcome};
 use avm_items::Completion;
 use avm_ledger::Ledger;
 use avm_ops::{BoxedOp, Op, OpSet};
@@ -110,20 +110,22 @@ enum Case {
 pub fn show_all(rt: &HostRuntime, ops: &OpSet) -> Result<(), Fail>
     requires full { IsFull ⟦<BoxedOp as Op>⟧.opcode ops.now }
 {
-    for case in cases(rt.alloc())? {
+    for (base, row) in CALLS {
+        let case = call_case(rt.alloc(), base, &row)?;
         show(rt, ops, &case)?;
     }
-    Ok(())
+    let case = events_case(rt.alloc())?;
+    show(rt, ops, &case)
 }
 
-fn cases(alloc: Global) -> Result<Vec<Case>, Fail> {
-    let mut cases = Vec::new(alloc);
-    for (base, row) in CALLS {
-        cases.push(Case::Call(ledger_of(alloc, base)?, call_of(alloc, &row)?))?;
-    }
+fn call_case(alloc: Global, base: &str, row: &Row) -> Result<Case, Fail> {
+    let base = ledger_of(alloc, base)?;
+    Ok(Case::Call(base, call_of(alloc, row)?))
+}
+
+fn events_case(alloc: Global) -> Result<Case, Fail> {
     let calls = Arc::new(alloc, calls_of(alloc, &SKEW_CALLS)?)?;
-    cases.push(Case::Events(ledger_of(alloc, SKEW)?, calls))?;
-    Ok(cases)
+    Ok(Case::Events(ledger_of(alloc, SKEW)?, calls))
 }
 
 /// Prints what a case gives, at the second try if memory is refused in the first.
@@ -148,11 +150,15 @@ fn line(alloc: Global, ops: &OpSet, case: &Case) -> Result<String, AllocError>
     match case {
         Case::Call(base, call) => {
             let (outcome, after) = call_plain(alloc, base, call, &HEADER, ops)?;
-            let digits = digits_of(alloc, &after)?;
-            format!(in alloc; "{outcome:?} {digits}")
+            call_line(alloc, outcome, &after)
         }
         Case::Events(base, calls) => after_events(alloc, ops, base, calls),
     }
+}
+
+fn call_line(alloc: Global, outcome: Outcome, after: &Ledger) -> Result<String, AllocError> {
+    let digits = digits_of(alloc, after)?;
+    format!(in alloc; "{outcome:?} {digits}")
 }
 
 /// The bytes of a ledger.
@@ -160,7 +166,7 @@ pub fn digits_of(alloc: Global, ledger: &Ledger) -> Result<String, AllocError> {
     hex::encode(alloc, ledger.canonical(alloc)?.as_slice())
 }
 
-/// How many calls are committed after the events, the low mark, and the last ledger.
+/// A store after the events.
 fn after_events(
     alloc: Global,
     ops: &OpSet,
@@ -174,17 +180,22 @@ fn after_events(
         Ok(_store) => {
             let base = base.clone()?;
             let calls = Arc::try_clone(calls)?;
-            let store = run_events(alloc, base, HEADER, calls, ops, &EVENTS)?.store;
-            let digits = match store.state_at(alloc, 3) {
-                Ok(ledger) => digits_of(alloc, &ledger)?,
-                Err(_) => return Err(AllocError),
-            };
-            format!(in alloc;
-                "entries {} low {} {digits}",
-                store.entries().len(),
-                store.low()
-            )
+            let run = run_events(alloc, base, HEADER, calls, ops, &EVENTS)?;
+            store_line(alloc, &run.store)
         }
         Err(_) => Err(AllocError),
     }
+}
+
+/// How many calls of a store are committed, its low mark, and its ledger of timestamp 3.
+fn store_line(alloc: Global, store: &Store) -> Result<String, AllocError> {
+    let digits = match store.state_at(alloc, 3) {
+        Ok(ledger) => digits_of(alloc, &ledger)?,
+        Err(_) => return Err(AllocError),
+    };
+    format!(in alloc;
+        "entries {} low {} {digits}",
+        store.entries().len(),
+        store.low()
+    )
 }
