@@ -623,24 +623,25 @@ fn approving_application(alloc: Global) -> Result<ItemValue, Fail> {
     Ok(item_of(&ledger, &Item::App(1))?)
 }
 
-/// Whether a run takes no item before it asked for it.
-fn is_not_asked(run: &mut CallRun) -> bool {
-    run.supply(Item::App(2), ItemValue::Absent) == Err(RunFault::NotAsked)
-}
-
 /// A run asks for the row of its application until it is supplied, and then ends; it takes no other item, and is spent.
 fn runs_ask_once(alloc: Global, ops: &OpSet) -> Result<bool, Fail>
     requires full { IsFull ⟦<BoxedOp as Op>⟧.opcode ops.now }
 {
     let row = approving_application(alloc)?;
     let mut run = run_of(alloc)?;
+    let not_asked = run.supply(Item::App(2), ItemValue::Absent);
+    let first = asks_for(alloc, ops, &mut run, &Item::App(1));
+    let again = asks_for(alloc, ops, &mut run, &Item::App(1));
+    let supplied = run.supply(Item::App(1), row);
+    let end = end_of_run(alloc, ops, &mut run);
+    let spent = end_of_run(alloc, ops, &mut run);
     Ok(
-        is_not_asked(&mut run)
-            && asks_for(alloc, ops, &mut run, &Item::App(1))
-            && asks_for(alloc, ops, &mut run, &Item::App(1))
-            && run.supply(Item::App(1), row) == Ok(())
-            && end_of_run(alloc, ops, &mut run) == Ok((Outcome::Approved, 1, 0))
-            && end_of_run(alloc, ops, &mut run) == Err(RunFault::Spent),
+        not_asked == Err(RunFault::NotAsked)
+            && first
+            && again
+            && supplied == Ok(())
+            && end == Ok((Outcome::Approved, 1, 0))
+            && spent == Err(RunFault::Spent),
     )
 }
 
