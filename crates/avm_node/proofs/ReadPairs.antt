@@ -130,7 +130,7 @@ same_bytes : (a b c d : ℕ) → a ≡ c → b ≡ d → byte_of a b ≡ byte_of
 same_bytes a b c d high low = rw (high, low) refl
 
 -- a byte of a block
-read_there : (digits numbers bytes : List ℕ) (start before most j : ℕ) → j < 16 → AreNumbers digits (2 * start) 32 numbers before most
+read_there : (digits numbers bytes : List ℕ) (start before most j : ℕ) → j < 32 → AreNumbers digits (2 * start) 64 numbers before most
     → slice_index bytes (start + j) ≡ byte_of (slice_index numbers (2 * j)) (slice_index numbers (2 * j + 1))
     → slice_index bytes (start + j) ≡ byte_of (number_at digits (2 * (start + j))) (number_at digits (2 * (start + j) + 1))
 read_there digits numbers bytes start before most j lt are e =
@@ -139,8 +139,8 @@ read_there digits numbers bytes start before most j lt are e =
     e ∙ same_bytes _ _ _ _ high low
 
 -- a block more
-pub block_more : (digits numbers old bytes : List ℕ) (start before most : ℕ) → AreNumbers digits (2 * start) 32 numbers before most → AreWritten numbers old bytes start 16
-    → AreRead digits old start before → AreRead digits bytes (start + 16) most
+pub block_more : (digits numbers old bytes : List ℕ) (start before most : ℕ) → AreNumbers digits (2 * start) 64 numbers before most → AreWritten numbers old bytes start 32
+    → AreRead digits old start before → AreRead digits bytes (start + 32) most
 block_more digits numbers old bytes start before most are written was = record {
   read = λ k lt.
       elim (cases_lt k start) [
@@ -148,7 +148,7 @@ block_more digits numbers old bytes start before most are written was = record {
         | inr le ↦
             let j : ℕ = k - start in
             let there : start + j ≡ k = omega (arith, le) in
-            let few : j < 16 = omega (arith, le, lt) in
+            let few : j < 32 = omega (arith, le, lt) in
             rw (← there) (read_there digits numbers bytes start before most j few are (written.bytes_there j few))
       ];
   bound = λ k lt.

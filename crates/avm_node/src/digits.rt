@@ -9,7 +9,7 @@ ghost use Rattle.avm_node.specs.DigitPairs.{AreNumbers, AreRead, AreWritten};
 use std::alloc::{AllocError, Global};
 
 /// How many bytes are written together: a fixed number, for which the compiler takes instructions that work on many at once.
-const BLOCK: usize = 16;
+const BLOCK: usize = 32;
 
 /// The bytes that digits of either case spell, where they are an even number of such digits.
 pub fn decode_digits(alloc: Global, digits: &[u8]) -> Result<Option<Vec<u8>>, AllocError>
@@ -58,9 +58,9 @@ fn put_pair(digits: &[u8], bytes: &mut [u8], i: usize, before: u8) -> u8
 /// Writes a block of bytes from an index on, and answers the greatest number of their digits and of those before.
 fn put_block(digits: &[u8], bytes: &mut [u8], start: usize, before: u8) -> u8
     requires even { length digits.now ≡ 2 * length bytes.old }
-    requires there { start + 16 ≤ length bytes.old }
+    requires there { start + 32 ≤ length bytes.old }
     ensures len { length bytes.new ≡ length bytes.old }
-    ensures read { AreRead digits.now bytes.old start before → AreRead digits.now bytes.new (start + 16) result }
+    ensures read { AreRead digits.now bytes.old start before → AreRead digits.now bytes.new (start + 32) result }
 {
     let (numbers, most) = block_numbers(digits, 2 * start, before);
     put_pairs(&numbers, bytes, start);
@@ -68,13 +68,13 @@ fn put_block(digits: &[u8], bytes: &mut [u8], start: usize, before: u8) -> u8
 }
 
 /// The numbers of a block's digits from a place on, and the greatest of them and of those before.
-fn block_numbers(digits: &[u8], place: usize, before: u8) -> ([u8; 32], u8)
-    requires { place + 32 ≤ length digits.now }
-    ensures { AreNumbers digits.now place 32 result.0 before result.1 }
+fn block_numbers(digits: &[u8], place: usize, before: u8) -> ([u8; 64], u8)
+    requires { place + 64 ≤ length digits.now }
+    ensures { AreNumbers digits.now place 64 result.0 before result.1 }
 {
-    let mut numbers = [0; 32];
+    let mut numbers = [0; 64];
     let mut most = before;
-    'digits: for i in 0..32usize {
+    'digits: for i in 0..64usize {
         let number = digit_number(digits[place + i]);
         numbers[i] = number;
         most = greater(most, number);
@@ -83,10 +83,10 @@ fn block_numbers(digits: &[u8], place: usize, before: u8) -> ([u8; 32], u8)
 }
 
 /// Writes the bytes of a block's numbers from an index on.
-fn put_pairs(numbers: &[u8; 32], bytes: &mut [u8], start: usize)
-    requires { start + 16 ≤ length bytes.old }
+fn put_pairs(numbers: &[u8; 64], bytes: &mut [u8], start: usize)
+    requires { start + 32 ≤ length bytes.old }
     ensures len { length bytes.new ≡ length bytes.old }
-    ensures written { AreWritten numbers.now bytes.old bytes.new start 16 }
+    ensures written { AreWritten numbers.now bytes.old bytes.new start 32 }
 {
     'pairs: for i in 0..BLOCK {
         bytes[start + i] = numbers[2 * i]

@@ -10,7 +10,10 @@ use std::io::{self, ErrorKind, Read};
 pub const INPUT_LIMIT: usize = 16_777_216;
 
 /// How many bytes are read at once.
-const CHUNK: usize = 4096;
+const CHUNK: usize = 2048;
+
+/// How many bytes there is room for at first. Room that is not written costs nothing; what stands in too little room is copied.
+const FIRST_ROOM: usize = 1_048_576;
 
 /// A reader at which an interrupted read is a failed one, and is not tried again.
 #[derive(Drop)]
@@ -40,11 +43,11 @@ pub fn read_input<R: Read>(alloc: Global, reader: &mut R) -> io::Result<Vec<u8>>
     Ok(input)
 }
 
-/// The bytes of a reader to its end. Room is made for what was read, and not for what might be: it need not be zeroed.
+/// The bytes of a reader to its end. They are put behind one another as they come, so that no room is zeroed for them.
 fn read_all<R: Read>(alloc: Global, reader: &mut R) -> io::Result<Vec<u8>>
     ensures { IfOk result (λ input. IfSome (R.remaining reader.old) (λ bytes. input.items ≡ bytes)) }
 {
-    let mut input = Vec::new(alloc);
+    let mut input = Vec::with_capacity(alloc, FIRST_ROOM)?;
     let mut chunk = [0u8; CHUNK];
     'reads: for _ in 0..u64::MAX {
         let count = reader.read(&mut chunk)?;
