@@ -110,12 +110,20 @@ enum Case {
 pub fn show_all(rt: &HostRuntime, ops: &OpSet) -> Result<(), Fail>
     requires full { IsFull ⟦<BoxedOp as Op>⟧.opcode ops.now }
 {
-    for (base, row) in CALLS {
-        let case = call_case(rt.alloc(), base, &row)?;
+    for case in cases(rt.alloc())? {
         show(rt, ops, &case)?;
     }
-    let case = events_case(rt.alloc())?;
-    show(rt, ops, &case)
+    Ok(())
+}
+
+// They are all made before the first is shown: where memory ends in that, nothing is printed.
+fn cases(alloc: Global) -> Result<Vec<Case>, Fail> {
+    let mut cases = Vec::new(alloc);
+    for (base, row) in CALLS {
+        cases.push(call_case(alloc, base, &row)?)?;
+    }
+    cases.push(events_case(alloc)?)?;
+    Ok(cases)
 }
 
 fn call_case(alloc: Global, base: &str, row: &Row) -> Result<Case, Fail> {
