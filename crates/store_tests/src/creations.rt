@@ -45,16 +45,33 @@ fn has_second(alloc: Global, store: &Store, timestamp: u64) -> bool {
     }
 }
 
+// Whether the first of a store's two calls did not find application 2, which stands behind the second.
+fn comes_second(alloc: Global, store: &Store) -> bool {
+    !has_second(alloc, store, 2)
+        && has_second(alloc, store, 3)
+        && store.entries().len() == 2
+        && store.entries()[0].outcome() == NOT_THERE
+}
+
+// A store in which the creation was late, and has committed at 3.
+fn created_at_3(alloc: Global, ops: &OpSet) -> Result<Store, Fail>
+    requires full { IsFull ⟦<BoxedOp as Op>⟧.opcode ops.now }
+{
+    let mut store = store_of(alloc, EARLY, &EARLY_CALLS)?;
+    if creation_is_late(alloc, ops, &mut store)? && commits_at(alloc, ops, &mut store, 1, 3)? {
+        Ok(store)
+    } else {
+        Err("the creation is late, and commits at 3".into())
+    }
+}
+
 // A look-up of what isn't there is a read: a creation at a timestamp below is late.
 #[test]
 fn what_was_not_there_is_read(rt: HostRuntime) -> Result<(), Fail> {
     let alloc = rt.alloc();
     let ops = full_ops(alloc)?;
-    let mut store = store_of(alloc, EARLY, &EARLY_CALLS)?;
-    assert!(rt; creation_is_late(alloc, &ops, &mut store)?);
-    assert!(rt; commits_at(alloc, &ops, &mut store, 1, 3)?);
-    assert!(rt; !has_second(alloc, &store, 2) && has_second(alloc, &store, 3));
-    assert!(rt; store.entries().len() == 2 && store.entries()[0].outcome() == NOT_THERE);
+    let store = created_at_3(alloc, &ops)?;
+    assert!(rt; comes_second(alloc, &store));
     assert!(rt; seals_to(alloc, &ops, store, EARLY, [2, 3], [2, 1])?);
     Ok(())
 }

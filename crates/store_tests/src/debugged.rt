@@ -2,9 +2,9 @@
 
 ghost use Rattle.avm_ops.specs.Objects.{IsFull};
 
-use crate::steps::{attempted, commits, commits_at, ends_late, full_ops, store_of, v_of};
+use crate::skew::older_is_late;
+use crate::steps::{commits_at, full_ops, store_of, v_of};
 use avm_debug::{Debugger, OpenFault, PastError, PastFault, Source, state_of};
-use avm_items::Item;
 use avm_ledger::Ledger;
 use avm_ops::{BoxedOp, Op, OpSet};
 use mv_core::Store;
@@ -19,10 +19,7 @@ fn store_of_two(alloc: Global, ops: &OpSet) -> Result<Store, Fail>
     requires full { IsFull ⟦<BoxedOp as Op>⟧.opcode ops.now }
 {
     let mut store = store_of(alloc, SKEW, &SKEW_CALLS)?;
-    let first = attempted(alloc, ops, &mut store, 1)?;
-    let second = attempted(alloc, ops, &mut store, 2)?;
-    let late = ends_late(&mut store, first, &Item::Local(X, 1), 2);
-    if late && commits(&mut store, second) && commits_at(alloc, ops, &mut store, 1, 3)? {
+    if older_is_late(alloc, ops, &mut store)? && commits_at(alloc, ops, &mut store, 1, 3)? {
         Ok(store)
     } else {
         Err("call 2 commits, and then call 1".into())
@@ -80,21 +77,55 @@ fn has_state_of_store(alloc: Global, ops: &OpSet, store: &Store) -> bool
     }
 }
 
+// Whether a store's ledger behind so many entries has these numbers under `v` of X and Y.
+fn has_past(alloc: Global, ops: &OpSet, store: &Store, entry: u64, of_x: u64, of_y: u64) -> bool
+    requires full { IsFull ⟦<BoxedOp as Op>⟧.opcode ops.now }
+{
+    has_numbers(state_of(alloc, Source::Live(store), entry, ops), of_x, of_y)
+}
+
+// Whether the program of entry 2 stands at these places before its first step and behind it, and no other entry is opened.
+fn steps_so(alloc: Global, ops: &OpSet, store: &Store) -> bool
+    requires full { IsFull ⟦<BoxedOp as Op>⟧.opcode ops.now }
+{
+    place_after(alloc, ops, store, 2, 0) == Some(1)
+        && place_after(alloc, ops, store, 2, 1) == Some(5)
+        && has_state_of_store(alloc, ops, store)
+        && is_refused(alloc, ops, store, 0, OpenFault::NoEntry)
+        && is_refused(alloc, ops, store, 3, OpenFault::NoEntry)
+}
+
 // Each committed call is opened over the ledger that it met, and the ledgers of the past are the store's.
 #[test]
 fn calls_of_a_store_are_stepped_through(rt: HostRuntime) -> Result<(), Fail> {
     let alloc = rt.alloc();
     let ops = full_ops(alloc)?;
     let store = store_of_two(alloc, &ops)?;
-    assert!(rt; has_numbers(state_of(alloc, Source::Live(&store), 1, &ops), 0, 0));
-    assert!(rt; has_numbers(state_of(alloc, Source::Live(&store), 2, &ops), 0, 1));
-    assert!(rt; has_numbers(state_of(alloc, Source::Live(&store), 3, &ops), 2, 1));
-    assert!(rt; place_after(alloc, &ops, &store, 2, 0) == Some(1));
-    assert!(rt; place_after(alloc, &ops, &store, 2, 1) == Some(5));
-    assert!(rt; has_state_of_store(alloc, &ops, &store));
-    assert!(rt; is_refused(alloc, &ops, &store, 0, OpenFault::NoEntry));
-    assert!(rt; is_refused(alloc, &ops, &store, 3, OpenFault::NoEntry));
+    for (entry, of_x, of_y) in [(1, 0, 0), (2, 0, 1), (3, 2, 1)] {
+        assert!(rt;
+            has_past(alloc, &ops, &store, entry, of_x, of_y),
+            "entry {entry}"
+        );
+    }
+    assert!(rt; steps_so(alloc, &ops, &store));
     Ok(())
+}
+
+// Whether, pruned at 2, the first entry is gone and the second opened.
+fn keeps_second(alloc: Global, ops: &OpSet, store: &Store) -> bool
+    requires full { IsFull ⟦<BoxedOp as Op>⟧.opcode ops.now }
+{
+    is_refused(alloc, ops, store, 1, OpenFault::Pruned)
+        && place_after(alloc, ops, store, 2, 0) == Some(1)
+        && is_gone(state_of(alloc, Source::Live(store), 1, ops))
+        && has_past(alloc, ops, store, 2, 0, 1)
+}
+
+// Whether, pruned at 3, the second entry is gone too.
+fn keeps_last(alloc: Global, ops: &OpSet, store: &Store) -> bool
+    requires full { IsFull ⟦<BoxedOp as Op>⟧.opcode ops.now }
+{
+    is_refused(alloc, ops, store, 2, OpenFault::Pruned) && has_past(alloc, ops, store, 3, 2, 1)
 }
 
 // An entry at the low mark or below it has no ledger before it any more; one above it has.
@@ -104,12 +135,8 @@ fn pruned_calls_are_not_opened(rt: HostRuntime) -> Result<(), Fail> {
     let ops = full_ops(alloc)?;
     let mut store = store_of_two(alloc, &ops)?;
     store.prune(2);
-    assert!(rt; is_refused(alloc, &ops, &store, 1, OpenFault::Pruned));
-    assert!(rt; place_after(alloc, &ops, &store, 2, 0) == Some(1));
-    assert!(rt; is_gone(state_of(alloc, Source::Live(&store), 1, &ops)));
-    assert!(rt; has_numbers(state_of(alloc, Source::Live(&store), 2, &ops), 0, 1));
+    assert!(rt; keeps_second(alloc, &ops, &store));
     store.prune(3);
-    assert!(rt; is_refused(alloc, &ops, &store, 2, OpenFault::Pruned));
-    assert!(rt; has_numbers(state_of(alloc, Source::Live(&store), 3, &ops), 2, 1));
+    assert!(rt; keeps_last(alloc, &ops, &store));
     Ok(())
 }

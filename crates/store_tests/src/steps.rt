@@ -36,13 +36,18 @@ pub fn full_ops(alloc: Global) -> Result<OpSet, Fail>
     Ok(ops)
 }
 
-/// A store of the calls of rows, over the ledger of these digits.
-pub fn store_of(alloc: Global, digits: &str, rows: &[Row]) -> Result<Store, Fail> {
+/// A store of the calls of rows, over a ledger.
+pub fn store_over(alloc: Global, base: Ledger, rows: &[Row]) -> Result<Store, Fail> {
     let calls = Arc::new(alloc, calls_of(alloc, rows)?)?;
-    match Store::open(alloc, ledger_of(alloc, digits)?, HEADER, calls) {
+    match Store::open(alloc, base, HEADER, calls) {
         Ok(store) => Ok(store),
         Err(_) => Err("few calls make a store".into()),
     }
+}
+
+/// The same over the ledger of these digits.
+pub fn store_of(alloc: Global, digits: &str, rows: &[Row]) -> Result<Store, Fail> {
+    store_over(alloc, ledger_of(alloc, digits)?, rows)
 }
 
 /// A call begins.
@@ -89,6 +94,19 @@ pub fn attempted(
     let ticket = begun(store, number)?;
     let finished = finished(alloc, ops, store, &ticket)?;
     Ok(FinishedAttempt { ticket, finished })
+}
+
+/// The same of calls 1 and 2: both have read before either commits.
+pub fn both_attempted(
+    alloc: Global,
+    ops: &OpSet,
+    store: &mut Store,
+) -> Result<(FinishedAttempt, FinishedAttempt), Fail>
+    requires full { IsFull ⟦<BoxedOp as Op>⟧.opcode ops.now }
+{
+    let first = attempted(alloc, ops, store, 1)?;
+    let second = attempted(alloc, ops, store, 2)?;
+    Ok((first, second))
 }
 
 /// Whether an attempt commits, at its own timestamp.

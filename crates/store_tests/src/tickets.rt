@@ -3,18 +3,17 @@
 ghost use Rattle.avm_ops.specs.Objects.{IsFull};
 
 use crate::steps::{
-    FinishedAttempt, attempted, back_as_stranger, commits, ends_late, full_ops, store_of,
-    unknown_back,
+    FinishedAttempt, attempted, back_as_stranger, both_attempted, commits, ends_late, full_ops,
+    store_of, store_over, unknown_back,
 };
 use avm_items::{Item, ItemValue};
 use avm_ledger::Ledger;
 use avm_ops::{BoxedOp, Op, OpSet};
 use avm_run::Finished;
 use mv_core::{ReadFault, StateFault, Store, Ticket};
-use sample_calls::rows::{HEADER, X, calls_of};
+use sample_calls::rows::X;
 use sample_calls::worked::{CREATION, SKEW, SKEW_AT_2, SKEW_CALLS};
 use std::alloc::Global;
-use std::sync::Arc;
 use std::test::Fail;
 use teal_value::Failure;
 
@@ -70,8 +69,7 @@ const FORGED: [Ticket; 4] = [
 fn both_ended(alloc: Global, ops: &OpSet, store: &mut Store) -> Result<Finished, Fail>
     requires full { IsFull ⟦<BoxedOp as Op>⟧.opcode ops.now }
 {
-    let first = attempted(alloc, ops, store, 1)?;
-    let second = attempted(alloc, ops, store, 2)?;
+    let (first, second) = both_attempted(alloc, ops, store)?;
     let FinishedAttempt { ticket, finished } = first;
     let named = ticket == ABANDONED && second.ticket == COMMITTED;
     if store.abandon(&ticket).is_ok() && commits(store, second) && named {
@@ -97,16 +95,21 @@ fn are_unknown(store: &mut Store, finished: Finished) -> bool {
     left.is_some()
 }
 
+// Whether tickets that have ended and forged ones are unknown, and the store shows what it showed.
+fn ends_unknown(alloc: Global, ops: &OpSet, store: &mut Store) -> Result<bool, Fail>
+    requires full { IsFull ⟦<BoxedOp as Op>⟧.opcode ops.now }
+{
+    let finished = both_ended(alloc, ops, store)?;
+    let before = seen_at(alloc, store, 2)?;
+    Ok(are_unknown(store, finished) && seen_at(alloc, store, 2)? == before)
+}
+
 // A ticket whose attempt was abandoned or committed is of none; so is a forged one. Nothing changes.
 #[test]
 fn ended_and_forged_tickets_are_unknown(rt: HostRuntime) -> Result<(), Fail> {
     let alloc = rt.alloc();
-    let ops = full_ops(alloc)?;
     let mut store = store_of(alloc, SKEW, &SKEW_CALLS)?;
-    let finished = both_ended(alloc, &ops, &mut store)?;
-    let before = seen_at(alloc, &store, 2)?;
-    assert!(rt; are_unknown(&mut store, finished));
-    assert!(rt; seen_at(alloc, &store, 2)? == before);
+    assert!(rt; ends_unknown(alloc, &full_ops(alloc)?, &mut store)?);
     Ok(())
 }
 
@@ -134,8 +137,7 @@ fn stranger_back(
 fn is_a_stranger(alloc: Global, ops: &OpSet, store: &mut Store) -> Result<bool, Fail>
     requires full { IsFull ⟦<BoxedOp as Op>⟧.opcode ops.now }
 {
-    let first = attempted(alloc, ops, store, 1)?;
-    let second = attempted(alloc, ops, store, 2)?;
+    let (first, second) = both_attempted(alloc, ops, store)?;
     let FinishedAttempt { ticket, finished } = first;
     let finished = stranger_back(alloc, store, &second.ticket, finished)?;
     let late = ends_late(
@@ -151,9 +153,8 @@ fn is_a_stranger(alloc: Global, ops: &OpSet, store: &mut Store) -> Result<bool, 
 #[test]
 fn another_calls_end_is_a_stranger(rt: HostRuntime) -> Result<(), Fail> {
     let alloc = rt.alloc();
-    let ops = full_ops(alloc)?;
     let mut store = store_of(alloc, SKEW, &SKEW_CALLS)?;
-    assert!(rt; is_a_stranger(alloc, &ops, &mut store)?);
+    assert!(rt; is_a_stranger(alloc, &full_ops(alloc)?, &mut store)?);
     Ok(())
 }
 
@@ -166,16 +167,22 @@ fn elsewhere(alloc: Global, ops: &OpSet) -> Result<Finished, Fail>
     Ok(attempted.finished)
 }
 
+// Whether that is a stranger to call 1's attempt over the other ledger, which commits.
+fn comes_from_elsewhere(alloc: Global, ops: &OpSet, store: &mut Store) -> Result<bool, Fail>
+    requires full { IsFull ⟦<BoxedOp as Op>⟧.opcode ops.now }
+{
+    let other = elsewhere(alloc, ops)?;
+    let first = attempted(alloc, ops, store, 1)?;
+    let _back = stranger_back(alloc, store, &first.ticket, other)?;
+    Ok(commits(store, first))
+}
+
 // Nor does what the right call came to over another base, where it read otherwise.
 #[test]
 fn other_reads_are_a_stranger(rt: HostRuntime) -> Result<(), Fail> {
     let alloc = rt.alloc();
-    let ops = full_ops(alloc)?;
     let mut store = store_of(alloc, SKEW, &SKEW_CALLS)?;
-    let first = attempted(alloc, &ops, &mut store, 1)?;
-    let other = elsewhere(alloc, &ops)?;
-    let _back = stranger_back(alloc, &mut store, &first.ticket, other)?;
-    assert!(rt; commits(&mut store, first));
+    assert!(rt; comes_from_elsewhere(alloc, &full_ops(alloc)?, &mut store)?);
     Ok(())
 }
 
@@ -227,13 +234,8 @@ fn drops_what_is_pruned(alloc: Global, store: &mut Store) -> bool {
 #[test]
 fn a_store_knows_its_tickets(rt: HostRuntime) -> Result<(), Fail> {
     let alloc = rt.alloc();
-    let calls = Arc::new(alloc, calls_of(alloc, &[CREATION])?)?;
-    match Store::open(alloc, Ledger::new(alloc), HEADER, calls) {
-        Ok(mut store) => {
-            assert!(rt; knows_its_tickets(&mut store));
-            assert!(rt; drops_what_is_pruned(alloc, &mut store));
-            Ok(())
-        }
-        Err(_) => Err("one call makes a store".into()),
-    }
+    let mut store = store_over(alloc, Ledger::new(alloc), &[CREATION])?;
+    assert!(rt; knows_its_tickets(&mut store));
+    assert!(rt; drops_what_is_pruned(alloc, &mut store));
+    Ok(())
 }
