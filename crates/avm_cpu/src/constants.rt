@@ -7,24 +7,6 @@ use std::marker::Model;
 use std::mem;
 use teal_value::ByteString;
 
-/// Puts other items in a list, in the memory that it has where they fit. At want of memory the list stays.
-pub(crate) fn write_over<T: Copy>(list: &mut Vec<T>, items: &[T]) -> Result<(), AllocError>
-    ensures { MatchResult result (λ _. list.new.items ≡ items.now) (λ _. list.new.items ≡ list.old.items) }
-{
-    list.reserve(items.len().saturating_sub(list.len()))?;
-    list.clear();
-    list.extend_from_slice(items)
-}
-
-/// The byte string's bytes, in the memory of another where they fit.
-fn rewritten(other: ByteString, string: &ByteString) -> Result<ByteString, AllocError>
-    ensures { IfOk result (λ copy. copy ≡ string.now) }
-{
-    let mut buffer = other.into_vec();
-    write_over(&mut buffer, string.as_slice())?;
-    Ok(ByteString::from_vec(buffer))
-}
-
 /// Writes a byte string at a place of a list, over the one that stands there or behind the last.
 fn write_at(
     alloc: Global,
@@ -38,8 +20,8 @@ fn write_at(
 {
     if place < list.len() {
         let there = &mut list.as_mut_slice()[place];
-        let other = mem::replace(there, ByteString::new(alloc));
-        *there = rewritten(other, string)?;
+        let other = mem::replace(there, ByteString::new());
+        *there = other.rewritten(alloc, string.as_slice())?;
     } else {
         list.push(string.clone()?)?;
     }

@@ -7,11 +7,11 @@ ghost use Rattle.teal_value.specs.declared.value.Value.TheVariants.{Uint, Bytes}
 ghost use Rattle.avm_cpu.specs.Machine.{filled, machine_at, with_stack};
 ghost use Rattle.avm_cpu.specs.Operands.{one_uint, one_bytes, one_value, two_uints, two_bytes, two_values, uint_and_bytes, bytes_and_uint, bytes_and_value, value_and_uint, bytes_and_two_uints, value_and_two_uints, two_values_and_uint, two_uints_and_bytes, uint_bytes_and_value, value_below};
 
-use crate::constants::{ByteConstants, write_over};
+use crate::constants::ByteConstants;
 use arrayvec::ArrayVec;
 use std::alloc::{AllocError, Global};
 use std::marker::Model;
-use teal_value::{ByteString, Fault, Value};
+use teal_value::{ByteString, Fault, Value, write_over};
 
 /// The machine of one run. At most 1000 values stand on the stack (AVM specification, "The Stack").
 ///

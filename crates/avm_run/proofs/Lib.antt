@@ -5,6 +5,7 @@ mod Stepping
 mod Halting
 mod Beginnings
 mod Standings
+mod FirstItems
 mod Supplying
 mod Outcomes
 mod Alive

@@ -1,12 +1,13 @@
 //! The tests before a call's program, and what is prepared for it.
 
-ghost use Rattle.std.specs.Prelude.{◌≡◌, ◌<◌, ◌-◌, ◌^◌, [], true, IfOk};
+ghost use Rattle.std.specs.Prelude.{◌≡◌, ◌<◌, ◌-◌, ◌^◌, [], true, Err, IfOk};
+ghost use Rattle.avm_ledger.specs.declared.header.Header.{Header};
 ghost use Rattle.avm_items.specs.declared.item.Item.TheVariants as item;
 ghost use Rattle.avm_items.specs.Acts.{reads};
 ghost use Rattle.avm_items.specs.Asks.{answer_from};
 ghost use Rattle.avm_items.specs.CallFields.{creates};
 ghost use Rattle.avm_items.specs.Items.{application_in, next_id_in, value_in};
-ghost use Rattle.avm_call.specs.Calls.{admitted, called_target, creation, is_opted_in, new_target, opt_in_test, prepared, sender_item, target};
+ghost use Rattle.avm_call.specs.Calls.{admitted, call_result, called_target, creation, is_opted_in, new_target, opt_in_test, prepared, sender_item, target};
 ghost use Rattle.avm_run.specs.Tests.{HasRoom, IsAdmitted, Tests};
 
 use avm_call::{Call, Why};
@@ -40,6 +41,16 @@ impl From<AllocError> for Halt {
 pub(crate) struct Admitted {
     pub id: u64,
     pub row: Option<Application>,
+}
+
+/// The item that a call asks for first.
+pub(crate) fn first_item(call: &Call) -> Item
+    ensures { (header : Header) → answer_from (value_in []) (call_result call.now header) ≡ Err result }
+{
+    match call.fields().application {
+        0 => Item::NextApp,
+        id => Item::App(id),
+    }
 }
 
 /// The id of the next application.

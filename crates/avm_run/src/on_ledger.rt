@@ -7,6 +7,7 @@ ghost use Rattle.avm_items.specs.LedgerItems.{at};
 ghost use Rattle.avm_call.specs.Calls.{call_result};
 ghost use Rattle.avm_call.specs.Replay.{ledger_after, outcome_on};
 
+use crate::admission::first_item;
 use crate::phase::{Closed, Phase, Ran, run_on};
 use avm_call::{Call, Outcome};
 use avm_cpu::Cpu;
@@ -75,7 +76,9 @@ fn run_over(
 {
     // That the call keeps the rules of calls, its type says.
     let _fields = call.fields();
-    let mut phase = Phase::Tests(ItemMap::new(alloc));
+    let first = first_item(call);
+    let value = item_of(ledger, &first)?;
+    let mut phase = Phase::Tests(ItemMap::new(alloc)).supplied(first, value)?;
     loop {
         match run_on(alloc, ops, call, header, phase, spare)? {
             Ran::Need(asking, item) => {

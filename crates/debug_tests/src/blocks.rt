@@ -57,7 +57,7 @@ fn call_of(
         fee: 0,
         first_valid: 0,
         last_valid: 0,
-        note: ByteString::new(alloc),
+        note: ByteString::new(),
         lease: [0; 32],
         rekey_to: NOBODY,
         application,

@@ -136,7 +136,7 @@ fn fields_of(alloc: Global, rest: &str) -> io::Result<CallData> {
         fee: 0,
         first_valid: 0,
         last_valid: 0,
-        note: ByteString::new(alloc),
+        note: ByteString::new(),
         lease: [0; 32],
         rekey_to: NOBODY,
         application,

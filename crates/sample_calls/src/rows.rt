@@ -46,7 +46,7 @@ pub struct Row {
 fn arguments_of(alloc: Global, count: usize) -> Result<ByteStrings, Fail> {
     let mut arguments = Vec::new(alloc);
     for _index in 0..count {
-        arguments.push(ByteString::new(alloc))?;
+        arguments.push(ByteString::new())?;
     }
     Ok(ByteStrings::from_vec(arguments))
 }
@@ -66,7 +66,7 @@ pub fn call_of(alloc: Global, row: &Row) -> Result<Call, Fail> {
         fee: 0,
         first_valid: 0,
         last_valid: 0,
-        note: ByteString::new(alloc),
+        note: ByteString::new(),
         lease: [0; 32],
         rekey_to: Address([0; 32]),
         application: row.application,

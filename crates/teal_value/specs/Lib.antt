@@ -1,4 +1,5 @@
 pub mod Answer
+pub mod ByteLists
 pub mod Base32
 pub mod AddressText
 pub mod SameValues

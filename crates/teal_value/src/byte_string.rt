@@ -1,80 +1,137 @@
 //! Lists that contracts see as lists, without the memory that holds them.
 
-ghost use Rattle.std.specs.Prelude.{◌≡◌, ◌↔◌, [], IsTrue, length, IfOk};
+ghost use Rattle.std.specs.Prelude.{◌≡◌, ◌<◌, ◌↔◌, [], IsTrue, length, IfNone, IfOk, IfSome};
 
+use crate::list_memory::write_over;
+use arrayvec::ArrayVec;
 use std::alloc::{AllocError, Global};
 use std::marker::Model;
 
-/// A list of bytes.
+/// A list of bytes. Up to 16 stand in the value itself and take no memory.
 #[derive(Debug, Drop)]
 pub struct ByteString {
-    bytes: Vec<u8>,
+    bytes: Bytes,
+}
+
+/// Where bytes stand.
+#[derive(Debug, Drop)]
+enum Bytes {
+    Here(ArrayVec<u8, 16>),
+    Apart(Vec<u8>),
+}
+
+/// The bytes in place, if they are few enough.
+fn here(bytes: &[u8]) -> Option<ArrayVec<u8, 16>>
+    ensures all { IfSome result (λ here. here.items ≡ bytes.now) }
+    ensures many { IfNone result (16 < length bytes.now) }
+{
+    let mut here = ArrayVec::new();
+    match here.try_extend_from_slice(bytes) {
+        Ok(()) => Some(here),
+        Err(_) => None,
+    }
 }
 
 impl Model for ByteString {
     ghost use Rattle.std.specs.Prelude.{List, ℕ};
+    ghost use Rattle.teal_value.specs.ByteLists.{bytes_in};
 
     ghost Value = { List ℕ };
 
-    ghost view = { λ b. b.bytes.items };
+    ghost view = { λ b. bytes_in b.bytes };
 }
 
 impl ByteString {
-    /// No bytes. It takes no memory.
-    pub fn new(alloc: Global) -> Self
+    /// No bytes.
+    pub fn new() -> Self
         ensures { result ≡ [] }
     {
         ByteString {
-            bytes: Vec::new(alloc),
+            bytes: Bytes::Here(ArrayVec::new()),
         }
     }
 
-    /// A copy of the bytes.
+    /// A copy of the bytes. It takes no memory where they are at most 16.
     pub fn from_slice(alloc: Global, bytes: &[u8]) -> Result<Self, AllocError>
         ensures { IfOk result (λ copy. copy ≡ bytes.now) }
     {
+        if let Some(here) = here(bytes) {
+            return Ok(ByteString {
+                bytes: Bytes::Here(here),
+            });
+        }
         let bytes = Vec::from_slice(alloc, bytes)?;
-        Ok(ByteString { bytes })
+        Ok(ByteString::from_vec(bytes))
     }
 
     /// The vector's bytes, without a copy.
     pub fn from_vec(bytes: Vec<u8>) -> Self
         ensures { result ≡ bytes.items }
     {
-        ByteString { bytes }
+        ByteString {
+            bytes: Bytes::Apart(bytes),
+        }
     }
 
-    /// The bytes as a vector, without a copy.
-    pub fn into_vec(self) -> Vec<u8>
-        ensures { result.items ≡ self }
+    /// The bytes as a vector, without a copy where they stand in one.
+    pub fn into_vec(self, alloc: Global) -> Result<Vec<u8>, AllocError>
+        ensures { IfOk result (λ bytes. bytes.items ≡ self) }
     {
-        self.bytes
+        match self.bytes {
+            Bytes::Here(bytes) => Vec::from_slice(alloc, bytes.as_slice()),
+            Bytes::Apart(bytes) => Ok(bytes),
+        }
     }
 
+    /// Other bytes, in the memory of these where they fit.
+    pub fn rewritten(self, alloc: Global, bytes: &[u8]) -> Result<Self, AllocError>
+        ensures { IfOk result (λ other. other ≡ bytes.now) }
+    {
+        match self.bytes {
+            Bytes::Here(_) => ByteString::from_slice(alloc, bytes),
+            Bytes::Apart(memory) => {
+                let mut memory = memory;
+                write_over(&mut memory, bytes)?;
+                Ok(ByteString::from_vec(memory))
+            }
+        }
+    }
+
+    #[inline]
     pub fn as_slice(&self) -> &[u8]
         ensures { result.now ≡ self.now }
     {
-        self.bytes.as_slice()
+        match &self.bytes {
+            Bytes::Here(bytes) => bytes.as_slice(),
+            Bytes::Apart(bytes) => bytes.as_slice(),
+        }
     }
 
     pub fn len(&self) -> usize
         ensures { result ≡ length self.now }
     {
-        self.bytes.len()
+        self.as_slice().len()
     }
 
     pub fn is_empty(&self) -> bool
         ensures { IsTrue result ↔ (self.now ≡ []) }
     {
-        self.bytes.is_empty()
+        self.as_slice().is_empty()
     }
 
     /// A copy of the bytes.
     pub fn clone(&self) -> Result<Self, AllocError>
         ensures { IfOk result (λ copy. copy ≡ self.now) }
     {
-        let bytes = self.bytes.clone()?;
-        Ok(ByteString { bytes })
+        match &self.bytes {
+            Bytes::Here(bytes) => match here(bytes.as_slice()) {
+                Some(here) => Ok(ByteString {
+                    bytes: Bytes::Here(here),
+                }),
+                None => unreachable!(),
+            },
+            Bytes::Apart(bytes) => Ok(ByteString::from_vec(bytes.clone()?)),
+        }
     }
 }
 

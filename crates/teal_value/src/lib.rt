@@ -8,6 +8,7 @@ mod base32;
 mod byte_string;
 mod failure;
 mod fault;
+mod list_memory;
 mod state_key;
 mod value;
 
@@ -21,5 +22,6 @@ pub use base32::{
 pub use byte_string::{ByteString, ByteStrings, Uints};
 pub use failure::Failure;
 pub use fault::Fault;
+pub use list_memory::write_over;
 pub use state_key::StateKey;
 pub use value::Value;

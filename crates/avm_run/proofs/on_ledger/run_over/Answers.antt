@@ -1,19 +1,29 @@
-use Rattle.std.proofs.Common.{◌≡◌, ◌+◌, length, sym, ap, ◌∙◌, subst, arith}
+use Rattle.std.proofs.Common.{◌≡◌, ◌+◌, [], length, sym, ap, ◌∙◌, subst, arith}
 use Rattle.avm_items.specs.Items.{ItemMap, value_in, with_item}
+use Rattle.avm_items.specs.Asks.{answer_from}
 use Rattle.avm_items.specs.LedgerItems.{at}
 use Rattle.avm_items.specs.Locality.{Agrees}
 use Rattle.avm_items.proofs.Questions.{result_on_ledger}
 use Rattle.avm_call.specs.Calls.{call_result}
+use Rattle.avm_run.specs.declared.phase.Phase.TheVariants as phase
 use Rattle.avm_run.specs.Progress.{reads_of}
 use Rattle.avm_run.proofs.Alive.{asks_alive, asks_over_reads, starts_alive, supplied}
 use Rattle.avm_run.proofs.Supplying.{agrees_after, few_left, longer_by_one}
 use Rattle.avm_run.proofs.on_ledger.run_over.Goals as goal
 
 pub loop-asking-init : goal.loop-asking-init
-loop-asking-init g c = record {
-  alive = starts_alive c.args.call.now c.args.header.now c.new.result c.new.ensures c.fields-fields.ensures.checked;
-  agrees = subst (λ (items : ItemMap). Agrees (value_in items) (at c.args.ledger.now)) (sym c.new.ensures) (record { at = λ x v e. absurd cc });
-}
+loop-asking-init g c =
+    let call = c.args.call.now in
+    let header = c.args.header.now in
+    let alive = starts_alive call header c.new.result c.new.ensures c.fields-fields.ensures.checked in
+    let asks = ap (λ items. answer_from (value_in items) (call_result call header)) c.new.ensures ∙ c.first_item.ensures header in
+    let given = supplied call header (phase.Tests c.new.result) c.in_ok-phase.phase c.first_item.result c.in_ok-value.value alive asks c.supplied.ensures.programs c.in_ok-phase.ensures.supplied in
+    let reads : reads_of c.in_ok-phase.phase ≡ with_item [] c.first_item.result c.in_ok-value.value = given.reads ∙ ap (λ items. with_item items c.first_item.result c.in_ok-value.value) c.new.ensures in
+    record {
+      alive = given.alive;
+      agrees = subst (λ (items : ItemMap). Agrees (value_in items) (at c.args.ledger.now)) (sym reads)
+          (agrees_after [] c.first_item.result c.in_ok-value.value (at c.args.ledger.now) (sym c.in_ok-value.ensures) (record { at = λ x v e. absurd cc }));
+    }
 
 pub loop-asking-smaller : goal.loop-asking-smaller
 loop-asking-smaller g c =
