@@ -9,18 +9,17 @@ use avm_arith::ArithOp;
 use avm_block::{Block, MAX_ENTRIES, decode, encode};
 use avm_call::{Call, Cause, Outcome, Why};
 use avm_flow_ops::FlowOp;
-use avm_items::{Addresses, CallData, Completion};
-use avm_ledger::{Header, Ledger, Profile, Schema};
+use avm_items::Completion;
+use avm_ledger::{Ledger, Profile, Schema};
 use avm_ops::{BoxedOp, Op, OpSet, Ops};
 use avm_replay::{PlainBlockFault, StateFault, Verdict, plain_block, replay, state_at};
 use avm_state_ops::StateOp;
+use sample_calls::bare::{NO_ENTRY, checked, fields, header};
+use sample_calls::full_set;
+use sample_calls::rows::ledger_of;
 use std::alloc::Global;
 use std::test::Fail;
-use teal_value::{Address, ByteString, ByteStrings, Failure, Fault, Uints};
-
-const NOBODY: Address = Address([0; 32]);
-
-const NO_ENTRY: Schema = Schema { uints: 0, bytes: 0 };
+use teal_value::{Failure, Fault};
 
 const ONE_UINT: Schema = Schema { uints: 1, bytes: 0 };
 
@@ -44,28 +43,6 @@ const PUTS_AGAIN: &str = "022001012601016e282267286928226722";
 /// Approves a creation; else puts a uint into the sender's local state, and rejects.
 const PUTS_AND_REJECTS: &str = "02200200012601016e311840000223432228236622";
 
-fn header(profile: Profile) -> Header {
-    Header {
-        profile,
-        round: 0,
-        latest_timestamp: 0,
-        min_fee: 0,
-        min_balance: 0,
-        max_life: 0,
-    }
-}
-
-fn bytes_of(alloc: Global, digits: &str) -> Result<ByteString, Fail> {
-    Ok(ByteString::from_vec(hex::decode(alloc, digits)?))
-}
-
-fn ledger_of(alloc: Global, digits: &str) -> Result<Ledger, Fail> {
-    match Ledger::read(alloc, hex::decode(alloc, digits)?.as_slice()) {
-        Ok(ledger) => Ok(ledger),
-        Err(_) => Err("these bytes are a ledger".into()),
-    }
-}
-
 fn block_of(alloc: Global, digits: &str) -> Result<Block, Fail> {
     Ok(decode(alloc, hex::decode(alloc, digits)?.as_slice())?)
 }
@@ -79,28 +56,8 @@ fn call_of(
     clear: &str,
     schema: Schema,
 ) -> Result<Call, Fail> {
-    let fields = CallData {
-        sender: NOBODY,
-        fee: 0,
-        first_valid: 0,
-        last_valid: 0,
-        note: ByteString::new(),
-        lease: [0; 32],
-        rekey_to: NOBODY,
-        application,
-        completion,
-        arguments: ByteStrings::from_vec(Vec::new(alloc)),
-        accounts: Addresses::from_vec(Vec::new(alloc)),
-        foreign_applications: Uints::from_vec(Vec::new(alloc)),
-        approval: bytes_of(alloc, approval)?,
-        clear: bytes_of(alloc, clear)?,
-        global_schema: schema,
-        local_schema: schema,
-    };
-    match Call::check(alloc, fields) {
-        Ok(call) => Ok(call),
-        Err(_) => Err("these fields make a call".into()),
-    }
+    let fields = fields(alloc, application, completion, approval, clear, schema)?;
+    checked(alloc, fields)
 }
 
 fn creation_of(alloc: Global, program: &str) -> Result<Call, Fail> {
@@ -368,25 +325,7 @@ fn long_block_replays(alloc: Global, ops: &OpSet) -> Result<bool, Fail>
 #[test]
 fn blocks_through_a_full_set(rt: HostRuntime) -> Result<(), Fail> {
     let alloc = rt.alloc();
-    let mut ops: OpSet = Ops::new(alloc)?;
-    for code in 0..256usize {
-        let code = code as u8;
-        let op: Box<dyn Op> = if let Some(op) = ArithOp::of(code) {
-            Box::new(alloc, op)?
-        } else if let Some(op) = FlowOp::of(code) {
-            Box::new(alloc, op)?
-        } else if let Some(op) = StateOp::of(code) {
-            Box::new(alloc, op)?
-        } else {
-            continue;
-        };
-        if ops.push(BoxedOp { op }).is_err() {
-            return Err("an object of its code is there".into());
-        }
-    }
-    if ops.missing().is_some() {
-        return Err("an opcode has no object".into());
-    }
+    let ops = full_set!(alloc);
     assert!(rt; blocks_are_made(alloc, &ops)?);
     assert!(rt; calls_are_refused(alloc, &ops)?);
     assert!(rt; blocks_are_replayed(alloc, &ops)?);

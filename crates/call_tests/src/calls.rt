@@ -5,18 +5,15 @@ ghost use Rattle.avm_ops.specs.Objects.{IsFull};
 
 use crate::steps;
 use avm_call::{Call, CallFault, Cause, Outcome, Why};
-use avm_items::{Addresses, CallData, Completion, Item, ItemValue, item_of};
-use avm_ledger::{Header, Ledger, Profile, Schema, State};
+use avm_items::{CallData, Completion, Item, ItemValue, item_of};
+use avm_ledger::{Ledger, Profile, Schema, State};
 use avm_ops::{BoxedOp, Op, OpSet};
 use avm_run::{Advance, CallRun, RunFault, call_on, call_plain};
+use sample_calls::bare::{self, NO_ENTRY, NOBODY, checked, header};
 use std::alloc::Global;
 use std::test::Fail;
 use teal_check::check;
-use teal_value::{Address, ByteString, ByteStrings, Failure, Fault, StateKey, Uints, Value};
-
-const NOBODY: Address = Address([0; 32]);
-
-pub const NO_ENTRY: Schema = Schema { uints: 0, bytes: 0 };
+use teal_value::{ByteString, ByteStrings, Failure, Fault, StateKey, Value};
 
 pub const ONE_UINT: Schema = Schema { uints: 1, bytes: 0 };
 
@@ -32,21 +29,6 @@ pub const FAULTS: &str = "0200";
 /// Adds 1 to the number under the key `n` of the global state, and approves.
 pub const COUNTS: &str = "022001012601016e28286422086722";
 
-pub fn header(profile: Profile) -> Header {
-    Header {
-        profile,
-        round: 0,
-        latest_timestamp: 0,
-        min_fee: 0,
-        min_balance: 0,
-        max_life: 0,
-    }
-}
-
-fn bytes_of(alloc: Global, digits: &str) -> Result<ByteString, Fail> {
-    Ok(ByteString::from_vec(hex::decode(alloc, digits)?))
-}
-
 /// A call without arguments by the zero address; the programs and the schema of the global state are those of a creation
 /// or an update.
 pub fn fields(
@@ -57,31 +39,9 @@ pub fn fields(
     clear: &str,
     schema: Schema,
 ) -> Result<CallData, Fail> {
-    Ok(CallData {
-        sender: NOBODY,
-        fee: 0,
-        first_valid: 0,
-        last_valid: 0,
-        note: ByteString::new(),
-        lease: [0; 32],
-        rekey_to: NOBODY,
-        application,
-        completion,
-        arguments: ByteStrings::from_vec(Vec::new(alloc)),
-        accounts: Addresses::from_vec(Vec::new(alloc)),
-        foreign_applications: Uints::from_vec(Vec::new(alloc)),
-        approval: bytes_of(alloc, approval)?,
-        clear: bytes_of(alloc, clear)?,
-        global_schema: schema,
-        local_schema: NO_ENTRY,
-    })
-}
-
-pub fn checked(alloc: Global, fields: CallData) -> Result<Call, Fail> {
-    match Call::check(alloc, fields) {
-        Ok(call) => Ok(call),
-        Err(_) => Err("these fields make a call".into()),
-    }
+    let mut fields = bare::fields(alloc, application, completion, approval, clear, schema)?;
+    fields.local_schema = NO_ENTRY;
+    Ok(fields)
 }
 
 /// How a program ends as both programs of a creation without entries.

@@ -2,12 +2,13 @@
 
 ghost use Rattle.avm_ops.specs.Objects.{IsFull};
 
-use crate::calls::{APPROVES, COUNTS, FAULTS, NO_ENTRY, ONE_UINT, checked, fields, started};
+use crate::calls::{APPROVES, COUNTS, FAULTS, ONE_UINT, fields, started};
 use avm_call::{Outcome, Why};
 use avm_items::{Completion, Item, ItemValue, item_of};
 use avm_ledger::{Ledger, Schema};
 use avm_ops::{BoxedOp, Op, OpSet};
 use avm_run::{Advance, CallRun, Step};
+use sample_calls::bare::{NO_ENTRY, checked};
 use std::alloc::Global;
 use std::test::Fail;
 use teal_value::Fault;

@@ -4,17 +4,13 @@ ghost use Rattle.avm_ops.specs.Objects.{IsFull};
 
 use avm_block::Block;
 use avm_call::Call;
-use avm_items::{Addresses, CallData, Completion};
-use avm_ledger::{Header, Ledger, Profile, Schema};
+use avm_items::Completion;
+use avm_ledger::{Ledger, Profile, Schema};
 use avm_ops::{BoxedOp, Op, OpSet};
 use avm_replay::plain_block;
+use sample_calls::bare::{NO_ENTRY, checked, fields, header};
 use std::alloc::Global;
 use std::test::Fail;
-use teal_value::{Address, ByteString, ByteStrings, Uints};
-
-pub(crate) const NOBODY: Address = Address([0; 32]);
-
-const NO_ENTRY: Schema = Schema { uints: 0, bytes: 0 };
 
 const ONE_UINT: Schema = Schema { uints: 1, bytes: 0 };
 
@@ -28,21 +24,6 @@ pub(crate) struct Programs {
     pub(crate) clear: &'static str,
 }
 
-fn header(profile: Profile) -> Header {
-    Header {
-        profile,
-        round: 0,
-        latest_timestamp: 0,
-        min_fee: 0,
-        min_balance: 0,
-        max_life: 0,
-    }
-}
-
-fn bytes_of(alloc: Global, digits: &str) -> Result<ByteString, Fail> {
-    Ok(ByteString::from_vec(hex::decode(alloc, digits)?))
-}
-
 /// A call by the zero address; the programs and the schema of each state are those of a creation.
 fn call_of(
     alloc: Global,
@@ -52,28 +33,8 @@ fn call_of(
     clear: &str,
     schema: Schema,
 ) -> Result<Call, Fail> {
-    let fields = CallData {
-        sender: NOBODY,
-        fee: 0,
-        first_valid: 0,
-        last_valid: 0,
-        note: ByteString::new(),
-        lease: [0; 32],
-        rekey_to: NOBODY,
-        application,
-        completion,
-        arguments: ByteStrings::from_vec(Vec::new(alloc)),
-        accounts: Addresses::from_vec(Vec::new(alloc)),
-        foreign_applications: Uints::from_vec(Vec::new(alloc)),
-        approval: bytes_of(alloc, approval)?,
-        clear: bytes_of(alloc, clear)?,
-        global_schema: schema,
-        local_schema: schema,
-    };
-    match Call::check(alloc, fields) {
-        Ok(call) => Ok(call),
-        Err(_) => Err("these fields make a call".into()),
-    }
+    let fields = fields(alloc, application, completion, approval, clear, schema)?;
+    checked(alloc, fields)
 }
 
 /// The block of a creation of this program, and a call of what it makes.

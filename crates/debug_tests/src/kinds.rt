@@ -2,12 +2,13 @@
 
 ghost use Rattle.avm_ops.specs.Objects.{IsFull};
 
-use crate::blocks::{NOBODY, Programs, block_of_calls};
+use crate::blocks::{Programs, block_of_calls};
 use crate::steps::{Came, kind_of, stepped, uint_of};
 use avm_debug::{Debugger, KeyChange, LocalChange, Source};
 use avm_items::Completion;
 use avm_ledger::{Ledger, Profile};
 use avm_ops::{BoxedOp, Op, OpSet};
+use sample_calls::bare::NOBODY;
 use std::alloc::Global;
 use std::test::Fail;
 use teal_table::Opcode;

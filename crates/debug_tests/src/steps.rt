@@ -2,7 +2,7 @@
 
 ghost use Rattle.avm_ops.specs.Objects.{IsFull};
 
-use crate::blocks::{NOBODY, block_of};
+use crate::blocks::block_of;
 use crate::kinds::kinds_are_shown;
 use avm_arith::ArithOp;
 use avm_block::Block;
@@ -15,6 +15,8 @@ use avm_ledger::Ledger;
 use avm_ops::{BoxedOp, Op, OpSet, Ops};
 use avm_replay::state_at;
 use avm_state_ops::StateOp;
+use sample_calls::bare::NOBODY;
+use sample_calls::full_set;
 use std::alloc::Global;
 use std::test::Fail;
 use teal_table::Opcode;
@@ -411,25 +413,7 @@ fn calls_are_refused(alloc: Global, ops: &OpSet) -> Result<bool, Fail>
 #[test]
 fn calls_are_stepped_through(rt: HostRuntime) -> Result<(), Fail> {
     let alloc = rt.alloc();
-    let mut ops: OpSet = Ops::new(alloc)?;
-    for code in 0..256usize {
-        let code = code as u8;
-        let op: Box<dyn Op> = if let Some(op) = ArithOp::of(code) {
-            Box::new(alloc, op)?
-        } else if let Some(op) = FlowOp::of(code) {
-            Box::new(alloc, op)?
-        } else if let Some(op) = StateOp::of(code) {
-            Box::new(alloc, op)?
-        } else {
-            continue;
-        };
-        if ops.push(BoxedOp { op }).is_err() {
-            return Err("an object of its code is there".into());
-        }
-    }
-    if ops.missing().is_some() {
-        return Err("an opcode has no object".into());
-    }
+    let ops = full_set!(alloc);
     assert!(rt; cases_are_shown(alloc, &ops)?);
     assert!(rt; calls_are_refused(alloc, &ops)?);
     assert!(rt; kinds_are_shown(alloc, &ops)?);

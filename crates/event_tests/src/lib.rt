@@ -9,6 +9,8 @@ mod outcomes;
 #[cfg(test)]
 mod random_lists;
 #[cfg(test)]
+mod sets;
+#[cfg(test)]
 mod tests;
 #[cfg(test)]
 mod worked;

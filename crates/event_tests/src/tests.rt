@@ -2,11 +2,8 @@
 
 use crate::outcomes::{NOTHING, is_ample};
 use crate::random_lists::run_lists;
+use crate::sets::full_ops;
 use crate::worked::first_wrong;
-use avm_arith::ArithOp;
-use avm_flow_ops::FlowOp;
-use avm_ops::{BoxedOp, Op, OpSet, Ops};
-use avm_state_ops::StateOp;
 use std::test::Fail;
 
 /// So many random lists.
@@ -15,21 +12,7 @@ const LISTS: u64 = 2000;
 #[test]
 fn worked_lists(rt: HostRuntime) -> Result<(), Fail> {
     let alloc = rt.alloc();
-    let mut ops: OpSet = Ops::new(alloc)?;
-    for code in 0..256usize {
-        let code = code as u8;
-        let op: Box<dyn Op> = if let Some(op) = ArithOp::of(code) {
-            Box::new(alloc, op)?
-        } else if let Some(op) = FlowOp::of(code) {
-            Box::new(alloc, op)?
-        } else if let Some(op) = StateOp::of(code) {
-            Box::new(alloc, op)?
-        } else {
-            continue;
-        };
-        assert!(rt; ops.push(BoxedOp { op }).is_ok());
-    }
-    assert!(rt; ops.missing().is_none());
+    let ops = full_ops(alloc)?;
     match first_wrong(alloc, &ops)? {
         None => Ok(()),
         Some(wrong) => Err(wrong.into()),
@@ -39,21 +22,7 @@ fn worked_lists(rt: HostRuntime) -> Result<(), Fail> {
 #[test]
 fn random_lists(rt: HostRuntime) -> Result<(), Fail> {
     let alloc = rt.alloc();
-    let mut ops: OpSet = Ops::new(alloc)?;
-    for code in 0..256usize {
-        let code = code as u8;
-        let op: Box<dyn Op> = if let Some(op) = ArithOp::of(code) {
-            Box::new(alloc, op)?
-        } else if let Some(op) = FlowOp::of(code) {
-            Box::new(alloc, op)?
-        } else if let Some(op) = StateOp::of(code) {
-            Box::new(alloc, op)?
-        } else {
-            continue;
-        };
-        assert!(rt; ops.push(BoxedOp { op }).is_ok());
-    }
-    assert!(rt; ops.missing().is_none());
+    let ops = full_ops(alloc)?;
     let mut tally = NOTHING;
     let run = run_lists(alloc, &ops, LISTS, &mut tally);
     assert!(rt; run.is_ok(), "behind {} lists", tally.lists);

@@ -1,23 +1,20 @@
 //! Sets with an object of every opcode.
 
-/// A set with an object of every opcode. Boxes are made in the test's own body, so this is a macro.
-#[macro_export]
-macro_rules! full_set {
-    ($rt:expr, $alloc:expr) => {{
-        let mut ops: OpSet = Ops::new($alloc)?;
-        for code in 0..256usize {
-            let code = code as u8;
-            let op: Box<dyn Op> = if let Some(op) = ArithOp::of(code) {
-                Box::new($alloc, op)?
-            } else if let Some(op) = FlowOp::of(code) {
-                Box::new($alloc, op)?
-            } else if let Some(op) = StateOp::of(code) {
-                Box::new($alloc, op)?
-            } else {
-                continue;
-            };
-            assert!($rt; ops.push(BoxedOp { op }).is_ok());
-        }
-        ops
-    }};
+ghost use Rattle.std.specs.Prelude.{IfOk};
+ghost use Rattle.avm_ops.specs.Objects.{IsFull};
+
+use avm_arith::ArithOp;
+use avm_flow_ops::FlowOp;
+use avm_ops::{BoxedOp, Op, OpSet, Ops};
+use avm_state_ops::StateOp;
+use sample_calls::full_set;
+use std::alloc::Global;
+use std::test::Fail;
+
+/// A set with an object of every opcode.
+pub fn full_ops(alloc: Global) -> Result<OpSet, Fail>
+    ensures full { IfOk result (λ ops. IsFull ⟦<BoxedOp as Op>⟧.opcode ops) }
+{
+    let ops = full_set!(alloc);
+    Ok(ops)
 }

@@ -1,13 +1,9 @@
 //! The tests, each through sets with an object of every opcode.
 
 use crate::cases::CASES;
-use crate::full_set;
 use crate::proposing::wrong;
 use crate::random_blocks::run_block;
-use avm_arith::ArithOp;
-use avm_flow_ops::FlowOp;
-use avm_ops::{BoxedOp, Op, OpSet, Ops};
-use avm_state_ops::StateOp;
+use crate::sets::full_ops;
 use sample_calls::random::Random;
 use sample_calls::rows::{calls_of, ledger_of};
 use sample_calls::samples::{BASE, ROWS};
@@ -19,12 +15,11 @@ const BLOCKS: u64 = 2000;
 #[test]
 fn cases(rt: HostRuntime) -> Result<(), Fail> {
     let alloc = rt.alloc();
-    let own = full_set!(rt, alloc);
-    assert!(rt; own.missing().is_none());
+    let own = full_ops(alloc)?;
     for case in &CASES {
         let mut sets = Vec::new(alloc);
         for _ in 0..case.workers {
-            sets.push(full_set!(rt, alloc))?;
+            sets.push(full_ops(alloc)?)?;
         }
         match wrong(&rt, alloc, case, sets, &own)? {
             None => {}
@@ -37,15 +32,14 @@ fn cases(rt: HostRuntime) -> Result<(), Fail> {
 #[test]
 fn random_blocks(rt: HostRuntime) -> Result<(), Fail> {
     let alloc = rt.alloc();
-    let own = full_set!(rt, alloc);
-    assert!(rt; own.missing().is_none());
+    let own = full_ops(alloc)?;
     let base = ledger_of(alloc, BASE)?;
     let all = calls_of(alloc, &ROWS)?;
     for seed in 0..BLOCKS {
         let mut random = Random::new(seed);
         let mut sets = Vec::new(alloc);
         for _ in 0..2 + random.below(7) {
-            sets.push(full_set!(rt, alloc))?;
+            sets.push(full_ops(alloc)?)?;
         }
         let run = run_block(&rt, alloc, &base, &all, &mut random, sets, &own);
         assert!(rt; run.is_ok(), "block {seed}");

@@ -1,6 +1,7 @@
 //! Calls and ledgers by rows of data, and what runs them, for the tests of more than one crate.
 #![tactic(auto)]
 
+pub mod bare;
 pub mod counted;
 pub mod random;
 pub mod rows;

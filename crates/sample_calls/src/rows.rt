@@ -2,6 +2,7 @@
 
 ghost use Rattle.std.specs.Prelude.{IfOk};
 
+use crate::bare::checked;
 use avm_call::Call;
 use avm_items::{Addresses, CallData, Completion};
 use avm_ledger::{Header, Ledger, Profile, Schema};
@@ -79,10 +80,7 @@ pub fn call_of(alloc: Global, row: &Row) -> Result<Call, Fail> {
         global_schema: schema,
         local_schema: schema,
     };
-    match Call::check(alloc, fields) {
-        Ok(call) => Ok(call),
-        Err(_) => Err("these fields make a call".into()),
-    }
+    checked(alloc, fields)
 }
 
 /// The calls of rows, in their order.
