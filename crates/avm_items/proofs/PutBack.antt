@@ -1,6 +1,6 @@
 -- That the old value of an item, put back, gives the ledger of before; and so for many, the last one first.
-use Rattle.std.proofs.Common.{◌≡◌, ℕ, false, cond, List, [], ◌∷◌, ◌++◌, Option, None, Some, refl, sym, ap, ◌∙◌, subst}
-use Rattle.std.proofs.lemmas.List.{append-nil}
+use Rattle.std.proofs.Common.{◌≡◌, ℕ, suc, add-one, ◌+◌, ◌<◌, Bool, true, false, cond, List, [], ◌∷◌, ◌++◌, length, get_or, set, take, drop, Option, None, Some, refl, sym, ap, ◌∙◌, subst, append_assoc, drop-cons, arith}
+use Rattle.std.proofs.lemmas.List.{append-nil, drop-set-lt, take_more_set}
 use Rattle.std.specs.Option.{option_map}
 use Rattle.std.specs.Prelude.{option_and_then}
 use Rattle.std.proofs.lemmas.Cmp.{nat_cmp_total}
@@ -17,9 +17,9 @@ use Rattle.avm_items.specs.declared.item.Item.{Item}
 use Rattle.avm_items.specs.declared.item.Item.TheVariants as item
 use Rattle.avm_items.specs.declared.item_value.ItemValue.{ItemValue}
 use Rattle.avm_items.specs.declared.item_value.ItemValue.TheVariants as value
-use Rattle.avm_items.specs.Items.{key_value}
+use Rattle.avm_items.specs.Items.{ItemMap, key_value}
 use Rattle.avm_items.specs.LedgerItems.{at, put_one, row_value, entry_value, local_value}
-use Rattle.avm_items.specs.Putting.{is_absent, set_one, absent_one, CanPutBack, PutsBack, ChangePutBack, AllPutBack}
+use Rattle.avm_items.specs.Putting.{is_absent, set_one, set_all, absent_one, absent_items, CanPutBack, PutsBack, AllPutBack}
 
 -- ---- applications
 
@@ -160,21 +160,34 @@ pub one_more_put_back : (l : Ledger) (es : List (Item × ItemValue)) (e : Item �
 one_more_put_back l [] e before can same = (l, refl, record { can = can; gives = same })
 one_more_put_back l (f ∷ es) e before can (middle, all, back) = (middle, one_more_put_back l es e middle can all, back)
 
--- ---- one change
+-- ---- the changes so far
 
-pub set_is : (l new : Ledger) (x : Item) (v : ItemValue) → is_absent v ≡ false → new ≡ put_one l x v → new ≡ set_one l (x, v)
-set_is l new x v p is = is ∙ sym (ap (λ b. cond b l (put_one l x v)) p)
+-- Some entries were changed, up to an index, from a ledger. What is left of them leads to a ledger and to the items that
+-- are to be absent, and the others lead back.
+pub record Changes (entries : ItemMap) (index : ℕ) (l : Ledger) (kept : List Item) (before after : Ledger) (all_kept : List Item) : Type 0 where
+  pub set : set_all l (drop index entries) ≡ after
+  pub absent : kept ++ absent_items (drop index entries) ≡ all_kept
+  pub back : AllPutBack l (take index entries) before
 
-pub none_absent : (xs : List Item) (x : Item) (v : ItemValue) → is_absent v ≡ false → xs ≡ xs ++ absent_one (x, v) []
-none_absent xs x v p = sym (append-nil xs) ∙ sym (ap (λ b. xs ++ cond b (x ∷ []) []) p)
+absent_more : (xs ys : List Item) (e : Item × ItemValue) → xs ++ absent_one e ys ≡ (xs ++ absent_one e []) ++ ys
+absent_more xs ys e = by_test (is_absent e.1)
+  where
+    by_test : (b : Bool) → xs ++ cond b (e.0 ∷ ys) ys ≡ (xs ++ cond b (e.0 ∷ []) []) ++ ys
+    by_test true = sym (append_assoc xs (e.0 ∷ []) ys)
+    by_test false = ap (λ zs. zs ++ ys) (sym (append-nil xs))
 
-pub present : (v : ItemValue) → (v ≡ value.Absent → ⊥) → is_absent v ≡ false
-present value.Absent n = absurd (n refl)
-present v n = refl
-
-pub changed_more : (l new : Ledger) (es es' : List (Item × ItemValue)) (x : Item) (old : Option ItemValue) (u : ItemValue) → ChangePutBack new l x old → old ≡ Some u → es' ≡ es ++ (x, u) ∷ []
-    → (before : Ledger) → AllPutBack l es before → AllPutBack new es' before
-changed_more l new es es' x old u back is more before all =
-    let one : PutsBack new l (x, u) = subst (ChangePutBack new l x) is back in
-    subst (λ ys. AllPutBack new ys before) (sym more)
-    (one_more_put_back new es (x, u) before one.can (subst (λ m. AllPutBack m es before) (sym one.gives) all))
+pub one_more_changed : (entries : ItemMap) (index : ℕ) (l new before after : Ledger) (kept more all_kept : List Item) (e back : Item × ItemValue)
+    → Changes entries index l kept before after all_kept → index < length entries → e ≡ get_or entries index e
+    → new ≡ set_one l e → more ≡ kept ++ absent_one e [] → PutsBack new l back
+    → Changes (set entries index back) (index + 1) new more before after all_kept
+one_more_changed entries index l new before after kept more all_kept e back so_far within read is keeps puts =
+    let rest = drop (index + 1) entries in
+    let begins : drop index entries ≡ e ∷ rest = rw add-one (drop-cons entries index e within ∙ ap (λ f. f ∷ drop (suc index) entries) (sym read)) in
+    let same : drop (index + 1) (set entries index back) ≡ rest = drop-set-lt (index + 1) entries index back (omega arith) in
+    record {
+      set = ap (set_all new) same ∙ ap (λ m. set_all m rest) is ∙ sym (ap (set_all l) begins) ∙ so_far.set;
+      absent = ap (λ xs. more ++ absent_items xs) same ∙ ap (λ xs. xs ++ absent_items rest) keeps
+          ∙ sym (absent_more kept (absent_items rest) e) ∙ sym (ap (λ xs. kept ++ absent_items xs) begins) ∙ so_far.absent;
+      back = subst (λ es. AllPutBack new es before) (sym (take_more_set entries index back within))
+          (one_more_put_back new (take index entries) back before puts.can (subst (λ m. AllPutBack m (take index entries) before) (sym puts.gives) so_far.back));
+    }

@@ -3,9 +3,8 @@
 ghost use Rattle.std.specs.Prelude.{◌≡◌, ◌++◌, [], false, IfErr, IfOk};
 ghost use Rattle.avm_ledger.specs.Ledgers.{IsOrderly, Ledger as LedgerMaps};
 ghost use Rattle.avm_items.specs.declared.item_value.ItemValue.TheVariants.{Absent};
-ghost use Rattle.avm_items.specs.Items.{IsInItemOrder};
 ghost use Rattle.avm_items.specs.LedgerItems.{at, put, put_one};
-ghost use Rattle.avm_items.specs.Putting.{AllPutBack, CanPutBack, ChangePutBack, absent_items, absent_one, is_absent, set_all, set_one, without_all};
+ghost use Rattle.avm_items.specs.Putting.{AllPutBack, CanPutBack, ChangePutBack, PutsBack, absent_items, absent_one, is_absent, set_all, set_one, without_all};
 
 use crate::item::Item;
 use crate::item_map::ItemMap;
@@ -102,52 +101,49 @@ fn remove_all(ledger: &mut OpenLedger, items: &[Item])
     }
 }
 
-/// Sets an item, or keeps it for later if it is to be absent. What an item had is kept in `changes`; where memory is
-/// refused, `changes` still has what leads back.
+/// Sets the item of an entry, or keeps it in `absent` for later if it is to be absent. The entry then has what puts the
+/// ledger back.
 fn change(
     alloc: Global,
     ledger: &mut OpenLedger,
-    item: Item,
-    value: ItemValue,
-    changes: &mut Vec<(Item, ItemValue)>,
+    entry: &mut (Item, ItemValue),
     absent: &mut Vec<Item>,
 ) -> Result<(), AllocError>
-    ensures set { IfOk result (λ _. ledger.new ≡ set_one ledger.old (item, value)) }
-    ensures absent { IfOk result (λ _. absent.new.items ≡ absent.old.items ++ absent_one (item, value) []) }
-    ensures back { (before : LedgerMaps) → AllPutBack ledger.old changes.old.items before → AllPutBack ledger.new changes.new.items before }
+    ensures set { IfOk result (λ _. ledger.new ≡ set_one ledger.old entry.old) }
+    ensures absent { IfOk result (λ _. absent.new.items ≡ absent.old.items ++ absent_one entry.old []) }
+    ensures back { IfOk result (λ _. PutsBack ledger.new ledger.old entry.new) }
+    ensures unchanged { IfErr result (λ _. ledger.new ≡ ledger.old) }
 {
+    let value = mem::replace(&mut entry.1, ItemValue::Absent);
     if let ItemValue::Absent = value {
-        absent.push(item)?;
+        // `Absent` for `NextApp` puts nothing back.
+        absent.push(mem::replace(&mut entry.0, Item::NextApp))?;
         return Ok(());
     }
-    let Some(old) = set(alloc, ledger, &item, value)? else {
-        return Ok(());
-    };
-    if let Err(refused) = changes.push((item, old)) {
-        let (item, old) = refused.value;
-        put_back(alloc, ledger, &item, old);
-        return Err(AllocError);
+    match set(alloc, ledger, &entry.0, value)? {
+        Some(old) => entry.1 = old,
+        None => entry.0 = Item::NextApp,
     }
     Ok(())
 }
 
-/// Sets items, and keeps those that are to be absent.
+/// Sets items, and keeps those that are to be absent. The entries then have what puts the ledger back; where memory is
+/// refused, only those are left that were changed.
 fn change_all(
     alloc: Global,
     ledger: &mut OpenLedger,
-    items: ItemMap,
-    changes: &mut Vec<(Item, ItemValue)>,
+    entries: &mut Vec<(Item, ItemValue)>,
     absent: &mut Vec<Item>,
 ) -> Result<(), AllocError>
-    ensures set { IfOk result (λ _. ledger.new ≡ set_all ledger.old items) }
-    ensures absent { IfOk result (λ _. absent.new.items ≡ absent.old.items ++ absent_items items) }
-    ensures back { (before : LedgerMaps) → AllPutBack ledger.old changes.old.items before → AllPutBack ledger.new changes.new.items before }
-    ensures order { IsInItemOrder items }
+    ensures set { IfOk result (λ _. ledger.new ≡ set_all ledger.old entries.old.items) }
+    ensures absent { IfOk result (λ _. absent.new.items ≡ absent.old.items ++ absent_items entries.old.items) }
+    ensures back { IfErr result (λ _. AllPutBack ledger.new entries.new.items ledger.old) }
 {
-    let mut rest = items.into_vec();
-    rest.reverse();
-    while let Some((item, value)) = rest.pop() {
-        change(alloc, ledger, item, value, changes, absent)?;
+    for index in 0..entries.len() {
+        if let Err(refused) = change(alloc, ledger, &mut entries[index], absent) {
+            entries.truncate(index);
+            return Err(refused);
+        }
     }
     Ok(())
 }
@@ -161,10 +157,10 @@ pub fn put_open(alloc: Global, ledger: &mut OpenLedger, items: ItemMap) -> Resul
 {
     // The ledger's maps are in order, as its readers say.
     let _next_id = ledger.next_id();
-    let mut changes = Vec::new(alloc);
+    let mut entries = items.into_vec();
     let mut absent = Vec::new(alloc);
-    if let Err(refused) = change_all(alloc, ledger, items, &mut changes, &mut absent) {
-        put_all_back(alloc, ledger, changes);
+    if let Err(refused) = change_all(alloc, ledger, &mut entries, &mut absent) {
+        put_all_back(alloc, ledger, entries);
         return Err(refused);
     }
     remove_all(ledger, absent.as_slice());

@@ -1,14 +1,10 @@
-use Rattle.std.proofs.Common.{◌≡◌, ◌++◌, length, reverse}
-use Rattle.avm_ledger.specs.Ledgers.{Ledger}
-use Rattle.avm_items.specs.Putting.{AllPutBack, absent_items, set_all}
+use Rattle.std.proofs.Common.{◌≡◌, ◌++◌, length}
+use Rattle.avm_items.specs.Putting.{absent_items, set_all}
+use Rattle.avm_items.proofs.PutBack.{Changes}
 use Rattle.avm_items.proofs.writing.change_all.Given as goal
 
--- what is left of the items leads to the same ledger and the same absent items, and what was changed leads back
-abbrev pub invariant-loop-item : goal.invariant-loop-item
-invariant-loop-item l =
-    (set_all l.ledger (reverse l.rest.items) ≡ set_all l.fn.ledger l.fn.items)
-    × (l.absent.items ++ absent_items (reverse l.rest.items) ≡ l.fn.absent.items ++ absent_items l.fn.items)
-    × ((before : Ledger) → AllPutBack l.fn.ledger l.fn.changes.items before → AllPutBack l.ledger l.changes.items before)
-
-abbrev pub decreases-loop-item : goal.decreases-loop-item
-decreases-loop-item l = length l.rest.items
+abbrev pub invariant-loop-index : goal.invariant-loop-index
+invariant-loop-index l = record {
+  count : length l.entries.items ≡ length l.fn.entries.items;
+  so_far : Changes l.entries.items l.index l.ledger l.absent.items l.fn.ledger (set_all l.fn.ledger l.fn.entries.items) (l.fn.absent.items ++ absent_items l.fn.entries.items);
+}
