@@ -217,29 +217,43 @@ applications_kept (suc n) before next bytes x all e =
 
 -- ---- local states
 
-abbrev IsAbovePair : Option (Address × ℕ) → List (Address × ℕ) → Type 0
+abbrev pub IsAbovePair : Option (Address × ℕ) → List (Address × ℕ) → Type 0
 IsAbovePair None keys = Unit {0}
 IsAbovePair (Some before) keys = AllByRecursion (λ k. account_cmp before k ≡ Less) keys
 
-record AreLocalStates (before : Option (Address × ℕ)) (next : ℕ) (apps : List (ℕ × StoredApplication)) (states : List ((Address × ℕ) × Entries)) : Type 0 where
-  above : IsAbovePair before (keys_of states)
-  rising : IsStrictlySortedBy account_cmp (keys_of states)
-  each : All (IsLocalStateBelow next apps) states
+pub record RiseFrom (before : Option (Address × ℕ)) (states : List ((Address × ℕ) × Entries)) : Type 0 where
+  pub above : IsAbovePair before (keys_of states)
+  pub rising : IsStrictlySortedBy account_cmp (keys_of states)
 
 pair_above : (before : Option (Address × ℕ)) (k : Address × ℕ) (ks : List (Address × ℕ)) → rises_from_pair before k ≡ true → AllByRecursion (λ y. account_cmp k y ≡ Less) ks → IsAbovePair before (k ∷ ks)
 pair_above None k ks rises above = tt
 pair_above (Some b) k ks rises above = let lower : account_cmp b k ≡ Less = less _ rises in (lower, all_below account_total b k ks lower above)
 
-local_states_kept : (n : ℕ) (before : Option (Address × ℕ)) (next : ℕ) (apps : List (ℕ × StoredApplication)) (bytes : List ℕ) (x : List ((Address × ℕ) × Entries) × List ℕ) → AllBytes bytes → local_states_at n before next apps bytes ≡ Ok x
-    → AreLocalStates before next apps x.0
+pub local_states_rise : (n : ℕ) (before : Option (Address × ℕ)) (next : ℕ) (apps : List (ℕ × StoredApplication)) (bytes : List ℕ) (x : List ((Address × ℕ) × Entries) × List ℕ) → local_states_at n before next apps bytes ≡ Ok x → RiseFrom before x.0
 unfolding IsStrictlySortedBy
-local_states_kept zero before next apps bytes x all e =
+local_states_rise zero before next apps bytes x e =
     let is : ◌≡◌ {A = List ((Address × ℕ) × Entries) × List ℕ} ([], bytes) x = same_value _ _ e in
-    subst (λ p. AreLocalStates before next apps p.0) is (record { above = none before; rising = tt; each = All-nil (IsLocalStateBelow next apps) })
+    subst (λ p. RiseFrom before p.0) is (record { above = none before; rising = tt })
   where
     none : (o : Option (Address × ℕ)) → IsAbovePair o []
     none None = tt
     none (Some b) = tt
+local_states_rise (suc n) before next apps bytes x e =
+    from (account_at before bytes) _ x e (λ a ea e1.
+    from (local_id_at before next a.0 a.1) _ x e1 (λ i ei e2.
+    from (id_between 0 next a.1) _ i ei (λ j ej t.
+    let pair = rule_kept (λ z. rises_from_pair before (a.0, z.0)) j i t in
+    from (state_at (local_room (stored_in apps i.0)) i.1) _ x e2 (λ s es e3.
+    from (local_states_at n (Some (a.0, i.0)) next apps s.1) _ x e3 (λ m em e4.
+    let more = local_states_rise n (Some (a.0, i.0)) next apps s.1 m em in
+    let is : ◌≡◌ {A = List ((Address × ℕ) × Entries) × List ℕ} (((a.0, i.0), s.0) ∷ m.0, m.1) x = same_value _ _ e4 in
+    subst (λ p. RiseFrom before p.0) is (record { above = pair_above before (a.0, i.0) (keys_of m.0) pair.0 more.above; rising = (more.above, more.rising) }))))))
+
+local_states_kept : (n : ℕ) (before : Option (Address × ℕ)) (next : ℕ) (apps : List (ℕ × StoredApplication)) (bytes : List ℕ) (x : List ((Address × ℕ) × Entries) × List ℕ) → AllBytes bytes → local_states_at n before next apps bytes ≡ Ok x
+    → All (IsLocalStateBelow next apps) x.0
+local_states_kept zero before next apps bytes x all e =
+    let is : ◌≡◌ {A = List ((Address × ℕ) × Entries) × List ℕ} ([], bytes) x = same_value _ _ e in
+    subst (λ p. All (IsLocalStateBelow next apps) p.0) is (All-nil (IsLocalStateBelow next apps))
 local_states_kept (suc n) before next apps bytes x all e =
     from (account_at before bytes) _ x e (λ a ea e1.
     let who = account_spelled before bytes a all ea in
@@ -258,11 +272,7 @@ local_states_kept (suc n) before next apps bytes x all e =
     let more = local_states_kept n (Some (a.0, i.0)) next apps s.1 m state.rest_are_bytes em in
     let one : IsLocalStateBelow next apps ((a.0, i.0), s.0) = record { positive = positive; below = between.1; account = account; state = keeps } in
     let is : ◌≡◌ {A = List ((Address × ℕ) × Entries) × List ℕ} (((a.0, i.0), s.0) ∷ m.0, m.1) x = same_value _ _ e4 in
-    subst (λ p. AreLocalStates before next apps p.0) is (record {
-      above = pair_above before (a.0, i.0) (keys_of m.0) pair.0 more.above;
-      rising = (more.above, more.rising);
-      each = All-cons (IsLocalStateBelow next apps) ((a.0, i.0), s.0) m.0 one more.each;
-    })))))))
+    subst (λ p. All (IsLocalStateBelow next apps) p.0) is (All-cons (IsLocalStateBelow next apps) ((a.0, i.0), s.0) m.0 one more)))))))
 
 -- ---- ledgers
 
@@ -290,8 +300,8 @@ front_kept bytes x all e =
       small = small;
       rising_ids = kept_apps.rising;
       applications = kept_apps.each;
-      rising_accounts = kept_states.rising;
-      local_states = kept_states.each;
+      rising_accounts = (local_states_rise d.0 None n.0 a.0 d.1 s es).rising;
+      local_states = kept_states;
     } in
     let few : IsCountable l = record {
       applications = subst (λ m. m < 2 ^ 32) (sym apps.1) (u32_fits Truncated n.1 c next.rest_are_bytes ec);

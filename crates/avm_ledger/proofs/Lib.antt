@@ -9,6 +9,7 @@ pub mod LedgerBack
 pub mod LedgerSpelled
 pub mod LedgerKept
 pub mod RisingReading
+pub mod FirstInserted
 pub mod EntriesReading
 pub mod ApplicationsReading
 pub mod LocalStatesReading

@@ -9,6 +9,7 @@ use crate::application::{Application, StoredApplication};
 use crate::fields::Fields;
 use crate::ledger_fault::{LedgerError, LedgerFault};
 use crate::schema::Schema;
+use crate::sorted_map::map_of;
 use crate::state::State;
 use crate::state_reading::state_of;
 use crate::stored_program::StoredProgram;
@@ -44,6 +45,7 @@ pub(crate) fn parts_of(alloc: Global, bytes: &[u8]) -> Result<Parts, LedgerError
     if !rest.is_empty() {
         return Err(Failure::Fault(LedgerFault::Rest));
     }
+    let local_states = map_of(alloc, local_states)?;
     Ok(Parts {
         next_id,
         applications,
@@ -168,10 +170,10 @@ fn local_states_of<'a>(
     next_id: u64,
     applications: &BTreeMap<u64, StoredApplication>,
     fields: Fields<'a>,
-) -> Result<(BTreeMap<(Address, u64), State>, Fields<'a>), LedgerError>
-    ensures { Gives (λ x. (x.0.entries, x.1)) result (local_states_at count None next_id applications.now.entries fields.entry) }
+) -> Result<(Vec<((Address, u64), State)>, Fields<'a>), LedgerError>
+    ensures { Gives (λ x. (x.0.items, x.1)) result (local_states_at count None next_id applications.now.entries fields.entry) }
 {
-    let mut local_states = BTreeMap::new(alloc);
+    let mut local_states = Vec::new(alloc);
     let mut before = None;
     let mut rest = fields;
     for _ in 0..count {
@@ -179,7 +181,7 @@ fn local_states_of<'a>(
         let (id, next) = local_id_of(before, next_id, who, next)?;
         let (most, kinds) = room_of(applications.get(&id));
         let (state, next) = state_of(alloc, most, kinds, next)?;
-        local_states.insert((who, id), state)?;
+        local_states.push(((who, id), state))?;
         before = Some((who, id));
         rest = next;
     }

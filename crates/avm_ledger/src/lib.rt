@@ -16,6 +16,7 @@ mod ledger_reading;
 mod open_ledger;
 pub mod reading_laws;
 mod schema;
+mod sorted_map;
 pub mod spelling;
 mod state;
 mod state_reading;
