@@ -5,7 +5,6 @@ mod Stepping
 mod Halting
 mod Beginnings
 mod Standings
-mod FirstItems
 mod Supplying
 mod Outcomes
 mod Alive

@@ -16,13 +16,13 @@ loop-asking-init g c =
     let call = c.args.call.now in
     let header = c.args.header.now in
     let alive = starts_alive call header c.new.result c.new.ensures c.fields-fields.ensures.checked in
-    let asks = ap (λ items. answer_from (value_in items) (call_result call header)) c.new.ensures ∙ c.first_item.ensures header in
-    let given = supplied call header (phase.Tests c.new.result) c.in_ok-phase.phase c.first_item.result c.in_ok-value.value alive asks c.supplied.ensures.programs c.in_ok-phase.ensures.supplied in
-    let reads : reads_of c.in_ok-phase.phase ≡ with_item [] c.first_item.result c.in_ok-value.value = given.reads ∙ ap (λ items. with_item items c.first_item.result c.in_ok-value.value) c.new.ensures in
+    let asks = ap (λ items. answer_from (value_in items) (call_result call header)) c.new.ensures ∙ c.first_item-first.ensures header in
+    let given = supplied call header (phase.Tests c.new.result) c.in_ok-phase.phase c.first_item-first.result c.in_ok-value.value alive asks c.supplied.ensures.programs c.in_ok-phase.ensures.supplied in
+    let reads : reads_of c.in_ok-phase.phase ≡ with_item [] c.first_item-first.result c.in_ok-value.value = given.reads ∙ ap (λ items. with_item items c.first_item-first.result c.in_ok-value.value) c.new.ensures in
     record {
       alive = given.alive;
       agrees = subst (λ (items : ItemMap). Agrees (value_in items) (at c.args.ledger.now)) (sym reads)
-          (agrees_after [] c.first_item.result c.in_ok-value.value (at c.args.ledger.now) (sym c.in_ok-value.ensures) (record { at = λ x v e. absurd cc }));
+          (agrees_after [] c.first_item-first.result c.in_ok-value.value (at c.args.ledger.now) (sym c.in_ok-value.ensures) (record { at = λ x v e. absurd cc }));
     }
 
 pub loop-asking-smaller : goal.loop-asking-smaller
@@ -32,7 +32,7 @@ loop-asking-smaller g c =
     let items = reads_of c.loop-asking.phase in
     let asks = rw c.in-Need.is at c.in_ok-asking.ensures in
     let alive = asks_alive call header items c.in-Need.asking c.in-Need.item c.loop-asking.invariant.alive.few asks in
-    let given = supplied call header c.in-Need.asking c.in_ok-phase-in-Need.phase c.in-Need.item c.in_ok-value-in-Need.value alive (asks_over_reads call header items c.in-Need.asking c.in-Need.item asks) c.supplied.ensures.programs c.in_ok-phase-in-Need.ensures.supplied in
+    let given = supplied call header c.in-Need.asking c.in_ok-phase-in-Need.phase c.in-Need.item c.in_ok-value-in-Need.value alive (asks_over_reads call header items c.in-Need.asking c.in-Need.item asks) c.supplied-in-Need.ensures.programs c.in_ok-phase-in-Need.ensures.supplied in
     let reads : reads_of c.in_ok-phase-in-Need.phase ≡ with_item items c.in-Need.item c.in_ok-value-in-Need.value = given.reads ∙ ap (λ more. with_item more c.in-Need.item c.in_ok-value-in-Need.value) asks.same_reads in
     let few = few_left call header items c.in-Need.item c.loop-asking.invariant.alive.few asks.definition in
     let long : length (reads_of c.in_ok-phase-in-Need.phase) ≡ length items + 1 = ap length reads ∙ longer_by_one call header items c.in-Need.item c.in_ok-value-in-Need.value asks.definition in
@@ -45,7 +45,7 @@ loop-asking-preserved g c =
     let items = reads_of c.loop-asking.phase in
     let asks = rw c.in-Need.is at c.in_ok-asking.ensures in
     let alive = asks_alive call header items c.in-Need.asking c.in-Need.item c.loop-asking.invariant.alive.few asks in
-    let given = supplied call header c.in-Need.asking c.in_ok-phase-in-Need.phase c.in-Need.item c.in_ok-value-in-Need.value alive (asks_over_reads call header items c.in-Need.asking c.in-Need.item asks) c.supplied.ensures.programs c.in_ok-phase-in-Need.ensures.supplied in
+    let given = supplied call header c.in-Need.asking c.in_ok-phase-in-Need.phase c.in-Need.item c.in_ok-value-in-Need.value alive (asks_over_reads call header items c.in-Need.asking c.in-Need.item asks) c.supplied-in-Need.ensures.programs c.in_ok-phase-in-Need.ensures.supplied in
     let reads : reads_of c.in_ok-phase-in-Need.phase ≡ with_item items c.in-Need.item c.in_ok-value-in-Need.value = given.reads ∙ ap (λ more. with_item more c.in-Need.item c.in_ok-value-in-Need.value) asks.same_reads in
     record {
       alive = given.alive;
