@@ -13,7 +13,9 @@ use Rattle.teal_source.specs.declared.fault.AsmFaultKind.TheVariants as kind
 use Rattle.teal_source.specs.Statements.{gathered_uint, gathered_string, is_uint_block, is_byte_block, distinct, gathered_uints, gathered_strings, mixes_blocks, gathers_too_many, behind, appended, has_label}
 use Rattle.teal_asm.specs.Meaning.{commands_in, label_entry, labels_from}
 use Rattle.teal_asm.specs.declared.body.Body.{Body}
-use Rattle.teal_asm.specs.Bodies.{command_count, IsBody}
+use Rattle.teal_asm.specs.Bodies.{IsBody}
+use Rattle.teal_asm.specs.Thinned.{command_count, front_fault, jumps_to}
+use Rattle.teal_source.specs.Operands.{Word}
 
 pub flat_map-push : {A B : Type 0} (f : A → List B) (xs : List A) (x : A) → flat_map f (xs ++ x ∷ []) ≡ flat_map f xs ++ f x
 flat_map-push f [] x = append-nil (f x)
@@ -115,8 +117,9 @@ few a b e = (ltb-false 256 a (or_first _ _ e), ltb-false 256 b (or_second _ _ e)
 
 -- the kept facts of a body whose statements are these
 pub body_is : (b : Body) (ss : List Statement) → b.statements.items ≡ ss → b.uints.keys ≡ gathered_uints ss → b.strings ≡ gathered_strings ss → b.labels ≡ labels_from 0 ss → b.commands ≡ command_count ss
-    → b.has_uint_block ≡ list_any (λ (t : Statement). is_uint_block t.command) ss → b.has_byte_block ≡ list_any (λ (t : Statement). is_byte_block t.command) ss → length b.uints.keys ≤ 256 → length b.strings ≤ 256 → IsBody b
-body_is b ss are uints strings labels commands uint_block byte_block few_uints few_strings = record {
+    → b.has_uint_block ≡ list_any (λ (t : Statement). is_uint_block t.command) ss → b.has_byte_block ≡ list_any (λ (t : Statement). is_byte_block t.command) ss → length b.uints.keys ≤ 256 → length b.strings ≤ 256
+    → ((name : Word) → is_some (lookup (bytes_eq name) b.targets) ≡ true → list_any (jumps_to name) ss ≡ true) → (b.leads_back ≡ true → (later : List Statement) → is_some (front_fault [] ss later) ≡ true) → IsBody b
+body_is b ss are uints strings labels commands uint_block byte_block few_uints few_strings targets back = record {
   uints = uints ∙ ap gathered_uints (sym are);
   strings = strings ∙ ap gathered_strings (sym are);
   labels = labels ∙ ap (labels_from 0) (sym are);
@@ -125,6 +128,8 @@ body_is b ss are uints strings labels commands uint_block byte_block few_uints f
   byte_block = byte_block ∙ ap (list_any (λ (t : Statement). is_byte_block t.command)) (sym are);
   few_uints = few_uints;
   few_strings = few_strings;
+  targets = λ name there. ap (list_any (jumps_to name)) are ∙ targets name there;
+  leads_back = λ does later. ap (λ xs. is_some (front_fault [] xs later)) are ∙ back does later;
 }
 
 -- a label that is there has a number
@@ -142,7 +147,7 @@ label_there n (s ∷ ss) name = at_label s.label (label_there (n + commands_in s
     at_label None e = e
     at_label (Some l) e = at_test (bytes_eq name l) n _ e
 
-no_value : {A : Type 0} (o : Option A) → is_some o ≡ false → o ≡ None
+pub no_value : {A : Type 0} (o : Option A) → is_some o ≡ false → o ≡ None
 no_value None e = refl
 no_value (Some x) e = absurd cc
 

@@ -1,11 +1,11 @@
--- The first branch that has a fault, found by labels alone: whether its label stands before it, behind it, or nowhere.
-use Rattle.std.proofs.Common.{◌≡◌, ℕ, ◌+◌, ◌<◌, ◌≤◌, ◌⊎◌, inl, inr, Bool, true, false, cond, ◌||◌, List, [], ◌∷◌, ◌++◌, length, Option, Some, None, Result, Ok, Err, refl, sym, ap, subst, ◌∙◌, append_assoc, length-append, arith}
+-- The first branch that has a fault is found by labels alone.
+use Rattle.std.proofs.Common.{◌≡◌, ℕ, ◌+◌, ◌<◌, ◌≤◌, ◌⊎◌, inl, inr, Bool, true, false, cond, List, [], ◌∷◌, ◌++◌, length, Option, Some, None, Result, Ok, Err, refl, sym, ap, subst, ◌∙◌, append_assoc, length-append, arith}
 use Rattle.std.specs.Prelude.{is_some, nat_le}
 use Rattle.std.specs.List.{list_any}
 use Rattle.std.specs.Map.{lookup}
 use Rattle.std.specs.Str.{bytes_eq}
-use Rattle.std.specs.Option.{option_map_or}
 use Rattle.std.proofs.lemmas.Bool.Decides.{nat_tests}
+use Rattle.std.proofs.lemmas.List.{append-nil}
 use Rattle.teal_value.specs.declared.failure.Failure.{Failure}
 use Rattle.teal_value.specs.declared.failure.Failure.TheVariants as failure
 use Rattle.teal_value.specs.Answer.{◌>>=◌, Fails}
@@ -19,64 +19,8 @@ use Rattle.teal_source.specs.Operands.{Word}
 use Rattle.teal_source.specs.Statements.{has_label}
 use Rattle.teal_asm.specs.Meaning.{Meant, Straight, Branch, branch, commands_in, label_entry, labels_from, gathered_blocks, optional_instruction, instructions, all_instructions}
 use Rattle.teal_asm.specs.Program.{size, total_size}
-use Rattle.teal_asm.specs.Bodies.{command_count}
-use Rattle.teal_asm.specs.Thinned.{AreSameOrLong, IsStraight, IsThinned, Thins}
-use Rattle.teal_asm.proofs.Bodying.{command_count-push, label_there, labels-push, list_any-push}
-use Rattle.teal_asm.proofs.Thinning.{fewer_commands, same_labels}
-
-abbrev or_else : {A : Type 0} → Option A → Option A → Option A
-or_else (Some x) o = Some x
-or_else None o = o
-
--- the fault of a command, behind statements with its own, and before others
-abbrev own_fault : ℕ → Option Command → List Statement → List Statement → Option AsmFault
-own_fault line (Some (Jump o name)) before later =
-    cond (list_any (has_label name) before) (Some (record { line = line; kind = kind.LabelBehind })) (cond (list_any (has_label name) later) None (Some (record { line = line; kind = kind.LabelMissing })))
-own_fault line _ before later = None
-
--- the first fault of statements, behind others
-abbrev branch_fault : List Statement → List Statement → Option AsmFault
-branch_fault before [] = None
-branch_fault before (s ∷ ss) = or_else (own_fault s.line s.command (before ++ s ∷ []) ss) (branch_fault (before ++ s ∷ []) ss)
-
--- ---- it is the same of what is kept
-
-no_fault : (line : ℕ) (c : Option Command) (before later : List Statement) → IsStraight c → own_fault line c before later ≡ None
-no_fault line None before later is = refl
-no_fault line (Some (Int n)) before later is = refl
-no_fault line (Some (Byte s)) before later is = refl
-no_fault line (Some (Jump o name)) before later is = absurd is
-no_fault line (Some (Plain o i)) before later is = refl
-
-same_own : (line : ℕ) (c : Option Command) (x y x' y' : List Statement) → ((name : Word) → list_any (has_label name) x ≡ list_any (has_label name) x') → ((name : Word) → list_any (has_label name) y ≡ list_any (has_label name) y')
-    → own_fault line c x y ≡ own_fault line c x' y'
-same_own line None x y x' y' e f = refl
-same_own line (Some (Int n)) x y x' y' e f = refl
-same_own line (Some (Byte s)) x y x' y' e f = refl
-same_own line (Some (Jump o name)) x y x' y' e f = rw (e name, f name) refl
-same_own line (Some (Plain o i)) x y x' y' e f = refl
-
-or_none : (b : Bool) → (b || false) ≡ b
-or_none true = refl
-or_none false = refl
-
-no_label : (name : Word) (before : List Statement) (s : Statement) → s.label ≡ None → list_any (has_label name) before ≡ list_any (has_label name) (before ++ s ∷ [])
-no_label name before s none =
-    sym (list_any-push (has_label name) before s ∙ ap (λ l. list_any (has_label name) before || option_map_or (λ label. bytes_eq name label) l false) none ∙ or_none (list_any (has_label name) before))
-
-both_more : (name : Word) (x y : List Statement) (s : Statement) → list_any (has_label name) x ≡ list_any (has_label name) y → list_any (has_label name) (x ++ s ∷ []) ≡ list_any (has_label name) (y ++ s ∷ [])
-both_more name x y s e = list_any-push (has_label name) x s ∙ ap (λ b. b || has_label name s) e ∙ sym (list_any-push (has_label name) y s)
-
-same_fault : (k all x y : List Statement) → IsThinned k all → ((name : Word) → list_any (has_label name) x ≡ list_any (has_label name) y) → branch_fault x k ≡ branch_fault y all
-same_fault k [] x y p e = ap (branch_fault x) p
-same_fault k (s ∷ all) x y (inl p) e =
-    same_fault k all x (y ++ s ∷ []) p.1 (λ name. e name ∙ no_label name y s p.0.label)
-    ∙ sym (ap (λ o. or_else o (branch_fault (y ++ s ∷ []) all)) (no_fault s.line s.command (y ++ s ∷ []) all p.0.command))
-same_fault k (s ∷ all) x y (inr p) e =
-    let more : (name : Word) → list_any (has_label name) (x ++ s ∷ []) ≡ list_any (has_label name) (y ++ s ∷ []) = λ name. both_more name x y s (e name) in
-    ap (branch_fault x) p.1
-    ∙ ap (λ o. or_else o (branch_fault (x ++ s ∷ []) p.0)) (same_own s.line s.command (x ++ s ∷ []) p.0 (y ++ s ∷ []) all more (λ name. same_labels name p.0 all p.2))
-    ∙ ap (λ o. or_else (own_fault s.line s.command (y ++ s ∷ []) all) o) (same_fault p.0 all (x ++ s ∷ []) (y ++ s ∷ []) p.2 more)
+use Rattle.teal_asm.specs.Thinned.{AreSameOrLong, Thins, command_count, branch_fault, branch_label, or_else, own_fault}
+use Rattle.teal_asm.proofs.Bodying.{command_count-push, label_there, labels-push}
 
 -- ---- where labels stand
 
@@ -169,7 +113,7 @@ branch_found line n o None None before later e f low high =
 
 -- the instruction of a statement, among those before it and behind it
 one_found : (all before later : List Statement) (s : Statement) (n : ℕ) (c : Option Command) → c ≡ s.command → all ≡ (before ++ s ∷ []) ++ later → n ≡ length (gathered_blocks all) + command_count before
-    → Found (own_fault s.line c (before ++ s ∷ []) later) (optional_instruction all n s.line c) (commands_in c)
+    → Found (own_fault s.line (branch_label c) (before ++ s ∷ []) later) (optional_instruction all n s.line c) (commands_in c)
 one_found all before later s n None is e at = ([], refl, refl)
 one_found all before later s n (Some (Int v)) is e at = (_, refl, refl)
 one_found all before later s n (Some (Byte v)) is e at = (_, refl, refl)
@@ -181,7 +125,7 @@ one_found all before later s n (Some (Jump o name)) is e at =
     let labels : lookup p (labels_from b all) ≡ or_else (lookup p (labels_from b front)) (lookup p (labels_from (b + command_count front) later)) =
     ap (λ ss. lookup p (labels_from b ss)) e ∙ ap (lookup p) (labels-append b front later) ∙ lookup_or p (labels_from b front) (labels_from (b + command_count front) later) in
     let one : command_count front ≡ command_count before + 1 = command_count-push before s ∙ ap (λ d. command_count before + commands_in d) (sym is) in
-    subst (λ t. Found (own_fault s.line (Some (Jump o name)) front later) (branch s.line o n t >>= λ i. Ok (i ∷ [])) 1) (sym labels)
+    subst (λ t. Found (own_fault s.line (Some name) front later) (branch s.line o n t >>= λ i. Ok (i ∷ [])) 1) (sym labels)
     (branch_found s.line n o (lookup p (labels_from b front)) (lookup p (labels_from (b + command_count front) later)) (list_any (has_label name) front) (list_any (has_label name) later)
     (label_there b front name) (label_there (b + command_count front) later name) (λ k found. omega (arith, at, not_above_own p b before s k found)) (λ k found. omega (arith, at, one, not_below p (b + command_count front) later k found)))
 
@@ -190,7 +134,7 @@ unfolding instructions
 found all before [] n e at = ([], refl, refl)
 found all before (s ∷ ss) n e at =
     let next : all ≡ (before ++ s ∷ []) ++ ss = e ∙ sym (append_assoc before (s ∷ []) ss) in
-    both_found (own_fault s.line s.command (before ++ s ∷ []) ss) (branch_fault (before ++ s ∷ []) ss) (optional_instruction all n s.line s.command) (instructions all (n + commands_in s.command) ss) (commands_in s.command) (command_count ss)
+    both_found (own_fault s.line (branch_label s.command) (before ++ s ∷ []) ss) (branch_fault (before ++ s ∷ []) ss) (optional_instruction all n s.line s.command) (instructions all (n + commands_in s.command) ss) (commands_in s.command) (command_count ss)
     (one_found all before ss s n s.command refl next at) (found all (before ++ s ∷ []) ss (n + commands_in s.command) next (omega (arith, at, command_count-push before s)))
 
 -- ---- the instructions of all statements
@@ -203,7 +147,7 @@ all_found : (ss : List Statement) → Found (branch_fault [] ss) (all_instructio
 all_found ss = whole_found (branch_fault [] ss) (gathered_blocks ss) (instructions ss (length (gathered_blocks ss)) ss) (command_count ss) (found ss [] ss (length (gathered_blocks ss)) refl (omega arith))
 
 kept_found : (kept all : List Statement) → Thins kept all → Found (branch_fault [] all) (all_instructions kept) (length (gathered_blocks kept) + command_count kept)
-kept_found kept all t = subst (λ o. Found o (all_instructions kept) (length (gathered_blocks kept) + command_count kept)) (same_fault kept all [] [] t.parts (λ name. refl)) (all_found kept)
+kept_found kept all t = subst (λ o. Found o (all_instructions kept) (length (gathered_blocks kept) + command_count kept)) (ap (branch_fault []) (sym (append-nil kept)) ∙ t.faults [] ∙ ap (branch_fault []) (append-nil all)) (all_found kept)
 
 -- the fault of what is kept is that of all
 pub same_refusal : (kept all : List Statement) (d : Failure AsmFault) → Thins kept all → Fails d (all_instructions kept) → Fails d (all_instructions all)
@@ -233,7 +177,7 @@ same_or_long kept all is t e = at_fault (branch_fault [] all) (kept_found kept a
         → ((kept ≡ all) ⊎ (1023 < command_count kept)) → AreSameOrLong is js
     at_long js ks f count same kept_count (inl g) = inl (one_list is js (all_instructions all) (sym (ap all_instructions g) ∙ e) f)
     at_long js ks f count same kept_count (inr lt) =
-        inr (omega (arith, size-le is, lt, kept_count, ap length same), omega (arith, size-le js, lt, count, fewer_commands kept all t.parts))
+        inr (omega (arith, size-le is, lt, kept_count, ap length same), omega (arith, size-le js, lt, count, t.fewer))
 
     at_fault : (o : Option AsmFault) → Found o (all_instructions kept) (length (gathered_blocks kept) + command_count kept) → Found o (all_instructions all) (length (gathered_blocks all) + command_count all)
         → (js : List Meant) × (all_instructions all ≡ Ok js) × AreSameOrLong is js

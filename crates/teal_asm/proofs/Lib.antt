@@ -5,6 +5,7 @@ pub mod LineByLine
 pub mod Assembled
 pub mod Pragma
 pub mod Resolving
+mod Needless
 mod Thinning
 mod Branches
 mod ThinReading

@@ -1,9 +1,8 @@
--- What is kept of statements keeps their labels and the order of their branches.
-use Rattle.std.proofs.Common.{◌≡◌, ℕ, ◌<◌, ◌≤◌, ◌⊎◌, inl, inr, Bool, true, false, cond, ◌||◌, nat_eq, List, [], ◌∷◌, ◌++◌, length, Option, Some, None, Result, Ok, Err, refl, sym, ap, subst, ◌∙◌, length-append, arith}
+-- What is kept of statements keeps their labels and their first fault.
+use Rattle.std.proofs.Common.{◌≡◌, ℕ, ◌<◌, ◌≤◌, ◌⊎◌, inl, inr, Bool, true, false, cond, ◌||◌, nat_eq, List, [], ◌∷◌, ◌++◌, length, Option, Some, None, Result, Ok, Err, refl, sym, ap, ◌∙◌, length-append, append_assoc, arith}
 use Rattle.std.specs.List.{list_any}
 use Rattle.std.specs.Bool.{beq}
 use Rattle.std.specs.Str.{bytes_eq}
-use Rattle.std.specs.Option.{option_map_or}
 use Rattle.teal_value.specs.Answer.{◌>>=◌}
 use Rattle.teal_table.specs.declared.shape.Version.{Version}
 use Rattle.teal_source.specs.declared.statement.Statement.{Statement}
@@ -11,53 +10,20 @@ use Rattle.teal_source.specs.declared.fault.AsmFaultKind.TheVariants as kind
 use Rattle.teal_source.specs.Operands.{Word}
 use Rattle.teal_source.specs.Commands.{command}
 use Rattle.teal_source.specs.Statements.{Words, behind, has_label, gathered_uint, gathered_string, gathered_uints, gathered_strings, distinct, with_new, is_uint_block, is_byte_block, label_name, labelled, optional_command, statement}
-use Rattle.teal_asm.specs.Bodies.{command_count}
-use Rattle.teal_asm.specs.Thinned.{IsIdle, IsThinned, Thins}
+use Rattle.teal_asm.specs.Thinned.{IsNeedless, Thins, branch_fault, command_count}
 use Rattle.teal_asm.proofs.Bodying.{uints-push, strings-push, list_any-push, command_count-push}
-
--- ---- thinned lists
-
-all_kept : (ss : List Statement) → IsThinned ss ss
-all_kept [] = refl
-all_kept (s ∷ ss) = inr (ss, refl, all_kept ss)
-
-thinned_again : (k a b : List Statement) → IsThinned k a → IsThinned a b → IsThinned k b
-thinned_again k a [] p q = subst (λ x. IsThinned k x) q p
-thinned_again k a (s ∷ b) p (inl q) = inl (q.0, thinned_again k a b p q.1)
-thinned_again k a (s ∷ b) p (inr q) = at_first (λ x r. thinned_again x q.0 b r q.2) (subst (λ x. IsThinned k x) q.1 p)
-  where
-    at_first : ((x : List Statement) → IsThinned x q.0 → IsThinned x b) → IsThinned k (s ∷ q.0) → IsThinned k (s ∷ b)
-    at_first again (inl r) = inl (r.0, again k r.1)
-    at_first again (inr r) = inr (r.0, r.1, again r.0 r.2)
-
-both_longer : (k a : List Statement) (s : Statement) → IsThinned k a → IsThinned (k ++ s ∷ []) (a ++ s ∷ [])
-both_longer k [] s p = subst (λ x. IsThinned (x ++ s ∷ []) (s ∷ [])) (sym p) (inr ([], refl, refl))
-both_longer k (t ∷ a) s (inl p) = inl (p.0, both_longer k a s p.1)
-both_longer k (t ∷ a) s (inr p) = inr (p.0 ++ s ∷ [], ap (λ x. x ++ s ∷ []) p.1, both_longer p.0 a s p.2)
-
-one_dropped : (k : List Statement) (s : Statement) → IsIdle s → IsThinned k (k ++ s ∷ [])
-one_dropped [] s idle = inl (idle, refl)
-one_dropped (t ∷ k) s idle = inr (k, refl, one_dropped k s idle)
-
--- the labels are the same
-pub same_labels : (name : Word) (k a : List Statement) → IsThinned k a → list_any (has_label name) k ≡ list_any (has_label name) a
-same_labels name k [] p = ap (list_any (has_label name)) p
-same_labels name k (s ∷ a) (inl p) = same_labels name k a p.1 ∙ sym (ap (λ l. option_map_or (λ label. bytes_eq name label) l false || list_any (has_label name) a) p.0.label)
-same_labels name k (s ∷ a) (inr p) = ap (list_any (has_label name)) p.1 ∙ ap (λ b. has_label name s || b) (same_labels name p.0 a p.2)
-
-pub fewer_commands : (k a : List Statement) → IsThinned k a → command_count k ≤ command_count a
-fewer_commands k [] p = omega (arith, ap command_count p)
-fewer_commands k (s ∷ a) (inl p) = omega (arith, fewer_commands k a p.1)
-fewer_commands k (s ∷ a) (inr p) = omega (arith, ap command_count p.1, fewer_commands p.0 a p.2)
+use Rattle.teal_asm.proofs.Needless.{no_label}
 
 -- ---- what is kept
 
 pub thins_itself : (ss : List Statement) → Thins ss ss
-thins_itself ss = record { parts = all_kept ss; uints = refl; strings = refl; uint_block = refl; byte_block = refl; long = inl refl }
+thins_itself ss = record { labels = λ name. refl; faults = λ later. refl; fewer = omega arith; uints = refl; strings = refl; uint_block = refl; byte_block = refl; long = inl refl }
 
 pub thins_again : (k a b : List Statement) → Thins k a → Thins a b → Thins k b
 thins_again k a b p q = record {
-  parts = thinned_again k a b p.parts q.parts;
+  labels = λ name. p.labels name ∙ q.labels name;
+  faults = λ later. p.faults later ∙ q.faults later;
+  fewer = omega (arith, p.fewer, q.fewer);
   uints = p.uints ∙ q.uints;
   strings = p.strings ∙ q.strings;
   uint_block = p.uint_block ∙ q.uint_block;
@@ -72,7 +38,9 @@ thins_again k a b p q = record {
 
 pub thins_longer : (k a : List Statement) (s : Statement) → Thins k a → Thins (k ++ s ∷ []) (a ++ s ∷ [])
 thins_longer k a s p = record {
-  parts = both_longer k a s p.parts;
+  labels = λ name. list_any-push (has_label name) k s ∙ ap (λ b. b || has_label name s) (p.labels name) ∙ sym (list_any-push (has_label name) a s);
+  faults = λ later. ap (branch_fault []) (append_assoc k (s ∷ []) later) ∙ p.faults (s ∷ later) ∙ sym (ap (branch_fault []) (append_assoc a (s ∷ []) later));
+  fewer = omega (arith, p.fewer, command_count-push k s, command_count-push a s);
   uints = uints-push k s ∙ ap (λ us. distinct nat_eq us (gathered_uint s.command)) p.uints ∙ sym (uints-push a s);
   strings = strings-push k s ∙ ap (λ us. distinct bytes_eq us (gathered_string s.command)) p.strings ∙ sym (strings-push a s);
   uint_block = list_any-push (λ t. is_uint_block t.command) k s ∙ ap (λ x. x || is_uint_block s.command) p.uint_block ∙ sym (list_any-push (λ t. is_uint_block t.command) a s);
@@ -84,11 +52,13 @@ thins_longer k a s p = record {
     at_long (inl e) = inl (ap (λ x. x ++ s ∷ []) e)
     at_long (inr lt) = inr (omega (arith, lt, command_count-push k s))
 
-pub thins_dropped : (k : List Statement) (s : Statement) → IsIdle s → 1023 < command_count k → gathered_uints k ≡ gathered_uints (k ++ s ∷ []) → gathered_strings k ≡ gathered_strings (k ++ s ∷ [])
+pub thins_dropped : (k : List Statement) (s : Statement) → IsNeedless k s → 1023 < command_count k → gathered_uints k ≡ gathered_uints (k ++ s ∷ []) → gathered_strings k ≡ gathered_strings (k ++ s ∷ [])
     → list_any (λ (t : Statement). is_uint_block t.command) k ≡ list_any (λ (t : Statement). is_uint_block t.command) (k ++ s ∷ []) → list_any (λ (t : Statement). is_byte_block t.command) k ≡ list_any (λ (t : Statement). is_byte_block t.command) (k ++ s ∷ [])
     → Thins k (k ++ s ∷ [])
-thins_dropped k s idle many uints strings uint_block byte_block = record {
-  parts = one_dropped k s idle;
+thins_dropped k s needless many uints strings uint_block byte_block = record {
+  labels = no_label s needless.label k;
+  faults = λ later. needless.faults later ∙ sym (ap (branch_fault []) (append_assoc k (s ∷ []) later));
+  fewer = omega (arith, command_count-push k s);
   uints = uints;
   strings = strings;
   uint_block = uint_block;
@@ -111,7 +81,7 @@ same_labelled : (version : Version) (k a : List Statement) (line : ℕ) (label :
 same_labelled version k a line None w ws p = then_alike (command version w ws) _ _ (λ c. same_behind k a (record { line = line; label = None; command = Some c }) p)
 same_labelled version k a line (Some name) w ws p =
     let commands = then_alike (optional_command version ws) _ _ (λ c. same_behind k a (record { line = line; label = Some name; command = c }) p) in
-    ap (λ b. cond b (Err kind.LabelTwice) (optional_command version ws >>= λ c. behind k (record { line = line; label = Some name; command = c }))) (same_labels name k a p.parts)
+    ap (λ b. cond b (Err kind.LabelTwice) (optional_command version ws >>= λ c. behind k (record { line = line; label = Some name; command = c }))) (p.labels name)
     ∙ ap (λ r. cond (list_any (has_label name) a) (Err kind.LabelTwice) r) commands
 
 pub same_statement : (version : Version) (k a : List Statement) (l : Words) → Thins k a → statement version k l ≡ statement version a l

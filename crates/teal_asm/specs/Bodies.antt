@@ -1,14 +1,14 @@
 -- What is kept of the statements of a text so far.
-use Rattle.std.specs.Prelude.{◌≡◌, ℕ, ◌+◌, ◌≤◌, List, [], ◌∷◌, length}
+use Rattle.std.specs.Prelude.{◌≡◌, ◌≤◌, true, List, [], length, is_some}
 use Rattle.std.specs.List.{list_any}
+use Rattle.std.specs.Map.{lookup}
+use Rattle.std.specs.Str.{bytes_eq}
 use Rattle.teal_source.specs.declared.statement.Statement.{Statement}
 use Rattle.teal_asm.specs.declared.body.Body.{Body}
 use Rattle.teal_source.specs.Statements.{gathered_uints, gathered_strings, is_uint_block, is_byte_block}
-use Rattle.teal_asm.specs.Meaning.{commands_in, labels_from}
-
-abbrev pub command_count : List Statement → ℕ
-command_count [] = 0
-command_count (s ∷ ss) = commands_in s.command + command_count ss
+use Rattle.teal_source.specs.Operands.{Word}
+use Rattle.teal_asm.specs.Meaning.{labels_from}
+use Rattle.teal_asm.specs.Thinned.{command_count, front_fault, jumps_to}
 
 pub record IsBody (b : Body) : Type 0 where
   pub uints : b.uints.keys ≡ gathered_uints b.statements.items
@@ -19,3 +19,5 @@ pub record IsBody (b : Body) : Type 0 where
   pub byte_block : b.has_byte_block ≡ list_any (λ s. is_byte_block s.command) b.statements.items
   pub few_uints : length b.uints.keys ≤ 256
   pub few_strings : length b.strings ≤ 256
+  pub targets : (name : Word) → is_some (lookup (bytes_eq name) b.targets) ≡ true → list_any (jumps_to name) b.statements.items ≡ true
+  pub leads_back : b.leads_back ≡ true → (later : List Statement) → is_some (front_fault [] b.statements.items later) ≡ true

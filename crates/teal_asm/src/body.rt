@@ -1,13 +1,14 @@
 //! The statements of a text, one behind another, with what they gather.
 
-ghost use Rattle.std.specs.Prelude.{◌≡◌, ◌≤◌, ◌++◌, ◌&&◌, ◌||◌, [], None, false, length, nat_lt, nat_eq, IsTrue, OnOk};
+ghost use Rattle.std.specs.Prelude.{◌≡◌, ◌<◌, ◌≤◌, ◌++◌, ◌&&◌, ◌||◌, [], None, false, true, is_some, length, nat_lt, nat_eq, IsTrue, OnOk};
 ghost use Rattle.std.specs.List.{list_any};
 ghost use Rattle.std.specs.Map.{lookup};
-ghost use Rattle.std.specs.Option.{ForSome};
+ghost use Rattle.std.specs.Option.{ForSome, option_copied, option_map_or};
 ghost use Rattle.std.specs.Str.{bytes_eq};
+ghost use Rattle.teal_source.specs.Operands.{Word};
 ghost use Rattle.teal_source.specs.Statements.{appended, behind, distinct, gathered_uint, gathered_string, has_label, is_uint_block, is_byte_block};
 ghost use Rattle.teal_asm.specs.Meaning.{commands_in, label_entry};
-ghost use Rattle.teal_asm.specs.Thinned.{IsIdle, LeavesThinned};
+ghost use Rattle.teal_asm.specs.Thinned.{IsNeedless, LeavesThinned, branch_label, jumps_to, leads_back};
 
 use crate::emit::MOST;
 use crate::gathered::{Labels, Strings};
@@ -29,6 +30,10 @@ pub(crate) struct Body {
     pub uints: IndexSet<u64>,
     pub strings: Strings,
     pub labels: Labels,
+    /// The labels that branches lead to.
+    pub targets: Labels,
+    /// Whether a branch leads back, to a label before it: then no branch behind it has the first fault.
+    pub leads_back: bool,
     /// How many of `statements` have a command.
     pub commands: usize,
     pub has_uint_block: bool,
@@ -47,6 +52,8 @@ impl Body {
             uints: IndexSet::new(alloc),
             strings: Strings::new(alloc),
             labels: Labels::new(alloc),
+            targets: Labels::new(alloc),
+            leads_back: false,
             commands: 0,
             has_uint_block: false,
             has_byte_block: false,
@@ -54,7 +61,8 @@ impl Body {
     }
 
     /// Adds a statement whose label is new, or drops it where no later fault needs it: as soon as the program is too long,
-    /// only branches, labels and what gathers a constant count. After a refusal the body is of no more use.
+    /// only labels, what gathers a constant, and the first branch to each label count. After a refusal the body is of no
+    /// more use.
     pub fn add(&mut self, alloc: Global, statement: Statement) -> Result<(), LineError>
         requires body { IsBody self.old }
         requires fresh { ForSome statement.label (λ name. list_any (has_label name) self.old.statements.items ≡ false) }
@@ -65,6 +73,8 @@ impl Body {
         let strings = self.strings.len();
         let uint_block = self.has_uint_block;
         let byte_block = self.has_byte_block;
+        let needless = self.is_needless(&statement);
+        let leads_back = self.leads_back_with(&statement.command);
         gather(
             alloc,
             &statement.command,
@@ -79,8 +89,7 @@ impl Body {
         if self.gathers_too_many() {
             return Err(Failure::Fault(AsmFaultKind::TooManyConstants));
         }
-        if self.commands > MOST
-            && is_idle(&statement)
+        if needless
             && self.uints.len() == uints
             && self.strings.len() == strings
             && self.has_uint_block == uint_block
@@ -89,6 +98,8 @@ impl Body {
             return Ok(());
         }
         note_label(alloc, &statement.label, self.commands, &mut self.labels)?;
+        note_target(alloc, &statement.command, self.commands, &mut self.targets)?;
+        self.leads_back = leads_back;
         self.commands += commands_in(&statement.command);
         self.statements.push(statement)?;
         Ok(())
@@ -100,6 +111,39 @@ impl Body {
         ensures { result ≡ list_any (has_label name.now) self.now.statements.items }
     {
         self.labels.number_of(name).is_some()
+    }
+
+    /// Whether the program is too long and, whatever stands behind the statement, has the same first fault without it.
+    fn is_needless(&self, statement: &Statement) -> bool
+        requires { IsBody self.now }
+        ensures { IsTrue result → (1023 < self.now.commands) × IsNeedless self.now.statements.items statement.now }
+    {
+        if self.commands <= MOST || statement.label.is_some() {
+            return false;
+        }
+        match branch_label(&statement.command) {
+            Some(label) => self.leads_back || self.is_waited_for(label),
+            None => true,
+        }
+    }
+
+    /// Whether a branch leads to a label that does not stand yet.
+    fn is_waited_for(&self, name: &[u8]) -> bool
+        requires { IsBody self.now }
+        ensures { IsTrue result → (list_any (jumps_to name.now) self.now.statements.items ≡ true) × (list_any (has_label name.now) self.now.statements.items ≡ false) }
+    {
+        self.targets.number_of(name).is_some() && !self.has_label(name)
+    }
+
+    /// Whether a branch leads back, where a command comes behind the statements.
+    fn leads_back_with(&self, command: &Option<Command>) -> bool
+        requires { IsBody self.now }
+        ensures { result ≡ (leads_back self.now.statements.items (branch_label command.now) || self.now.leads_back) }
+    {
+        match branch_label(command) {
+            Some(label) => self.has_label(label) || self.leads_back,
+            None => self.leads_back,
+        }
     }
 
     fn mixes_blocks(&self) -> bool
@@ -116,15 +160,13 @@ impl Body {
     }
 }
 
-fn is_idle(statement: &Statement) -> bool
-    ensures { IsTrue result → IsIdle statement.now }
+/// The label that a command branches to.
+fn branch_label(command: &Option<Command>) -> Option<&[u8]>
+    ensures { option_copied result ≡ branch_label command.now }
 {
-    if statement.label.is_some() {
-        return false;
-    }
-    match &statement.command {
-        Some(Command::Jump(_, _)) => false,
-        _ => true,
+    match command {
+        Some(Command::Jump(_, name)) => Some(name.as_slice()),
+        _ => None,
     }
 }
 
@@ -159,6 +201,21 @@ fn note_label(
     match label {
         Some(name) => labels.insert(alloc, name.as_slice(), number),
         None => Ok(()),
+    }
+}
+
+/// Notes the label that a branch leads to.
+fn note_target(
+    alloc: Global,
+    command: &Option<Command>,
+    number: usize,
+    targets: &mut Labels,
+) -> Result<(), AllocError>
+    ensures { OnOk result ((name : Word) → is_some (lookup (bytes_eq name) targets.new) ≡ true → (is_some (lookup (bytes_eq name) targets.old) || option_map_or (λ label. bytes_eq name label) (branch_label command.now) false) ≡ true) }
+{
+    match branch_label(command) {
+        Some(label) if targets.number_of(label).is_none() => targets.insert(alloc, label, number),
+        _ => Ok(()),
     }
 }
 

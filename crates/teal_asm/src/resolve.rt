@@ -33,6 +33,8 @@ pub(crate) fn instructions_of(alloc: Global, body: Body) -> Result<Vec<Instructi
         uints,
         strings,
         labels,
+        targets: _,
+        leads_back: _,
         commands: _,
         has_uint_block: _,
         has_byte_block: _,

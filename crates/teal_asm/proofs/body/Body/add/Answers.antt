@@ -1,9 +1,10 @@
 use Rattle.std.proofs.Common.{◌++◌, ◌∷◌, [], nat_eq, ◌||◌, ap, sym, ◌∙◌, zero-add, refl, arith}
 use Rattle.std.specs.Str.{bytes_eq}
 use Rattle.teal_source.specs.Statements.{distinct, gathered_uint, gathered_string, gathered_uints, gathered_strings, is_uint_block, is_byte_block}
-use Rattle.teal_asm.specs.Bodies.{command_count}
+use Rattle.teal_asm.specs.Thinned.{command_count}
 use Rattle.teal_asm.specs.Meaning.{labels_from, label_entry}
 use Rattle.teal_asm.proofs.Bodying.{uints-push, strings-push, list_any-push, labels-push, command_count-push, command_count-le, is_mixed, is_too_many, is_behind, few, body_is, is_fresh}
+use Rattle.teal_asm.proofs.Needless.{back_more, targets_more}
 use Rattle.teal_asm.proofs.Thinning.{no_new_block, nothing_new, thins_dropped, thins_itself}
 use Rattle.teal_asm.proofs.body.Body.add.Goals as goal
 
@@ -67,6 +68,8 @@ returns-clause-kept c =
     (c.with_byte_block-self.ensures ∙ ap (λ x. x || is_byte_block s.command) b.byte_block ∙ sym (list_any-push (λ t. is_byte_block t.command) ss s))
     short.0
     short.1
+    (targets_more ss s c.args.self.now.targets _ b.targets c.in_ok-note_target.ensures)
+    (back_more ss s c.args.self.now.leads_back _ b.leads_back c.leads_back_with-leads_back.ensures)
 
 pub note_label-requires : goal.note_label-requires
 note_label-requires c = is_fresh c.args.self.now c.requires.body c.args.statement.label c.requires.fresh
@@ -86,7 +89,7 @@ returns-then-self-byte_block-clause-leaves c =
     let strings = nothing_new bytes_eq c.args.self.now.strings c.gather.new.strings (gathered_strings ss) (gathered_strings (ss ++ s ∷ [])) (gathered_string s.command) b.strings c.in_ok-gather.ensures.strings (strings-push ss s) (omega (arith, c.if-len-strings.true, c.len-then-len-uints.ensures, c.len-strings.ensures)) in
     let uint_block = no_new_block c.args.self.now.has_uint_block c.with_uint_block-self.result _ _ (is_uint_block s.command) b.uint_block c.with_uint_block-self.ensures (list_any-push (λ t. is_uint_block t.command) ss s) c.if-self-uint_block.true in
     let byte_block = no_new_block c.args.self.now.has_byte_block c.with_byte_block-self.result _ _ (is_byte_block s.command) b.byte_block c.with_byte_block-self.ensures (list_any-push (λ t. is_byte_block t.command) ss s) c.if-self-byte_block.true in
-    (ss ++ s ∷ [], whole, thins_dropped ss s (c.is_idle.ensures c.if-is_idle.true) (omega (arith, c.if-self-gt-MOST.true, b.commands)) uints.0 strings.0 uint_block.0 byte_block.0)
+    (ss ++ s ∷ [], whole, thins_dropped ss s (c.is_needless-needless.ensures c.if-needless.true).1 (omega (arith, (c.is_needless-needless.ensures c.if-needless.true).0, b.commands)) uints.0 strings.0 uint_block.0 byte_block.0)
 
 pub returns-then-self-byte_block-clause-kept : goal.returns-then-self-byte_block-clause-kept
 returns-then-self-byte_block-clause-kept c =
@@ -98,4 +101,4 @@ returns-then-self-byte_block-clause-kept c =
     let uint_block = no_new_block c.args.self.now.has_uint_block c.with_uint_block-self.result _ _ (is_uint_block s.command) b.uint_block c.with_uint_block-self.ensures (list_any-push (λ t. is_uint_block t.command) ss s) c.if-self-uint_block.true in
     let byte_block = no_new_block c.args.self.now.has_byte_block c.with_byte_block-self.result _ _ (is_byte_block s.command) b.byte_block c.with_byte_block-self.ensures (list_any-push (λ t. is_byte_block t.command) ss s) c.if-self-byte_block.true in
     let short = few _ _ (sym c.if-gathers_too_many.ensures) in
-    body_is _ ss refl uints.1 strings.1 b.labels b.commands uint_block.1 byte_block.1 short.0 short.1
+    body_is _ ss refl uints.1 strings.1 b.labels b.commands uint_block.1 byte_block.1 short.0 short.1 b.targets b.leads_back
