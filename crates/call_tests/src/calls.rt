@@ -29,6 +29,10 @@ pub const FAULTS: &str = "0200";
 /// Adds 1 to the number under the key `n` of the global state, and approves.
 pub const COUNTS: &str = "022001012601016e28286422086722";
 
+fn bytes_of(alloc: Global, digits: &str) -> Result<ByteString, Fail> {
+    Ok(ByteString::from_vec(hex::decode(alloc, digits)?))
+}
+
 /// A call without arguments by the zero address; the programs and the schema of the global state are those of a creation
 /// or an update.
 pub fn fields(
