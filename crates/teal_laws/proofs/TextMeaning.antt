@@ -27,7 +27,7 @@ use Rattle.teal_source.specs.declared.fault.AsmFaultKind.{AsmFaultKind}
 use Rattle.teal_source.specs.Operands.{Word}
 use Rattle.teal_source.specs.Commands.{command}
 use Rattle.teal_source.specs.Statements.{Words, on_line, on_text, words_of_lines, pragma_version, is_pragma, gathered_uint, gathered_uints, gathered_strings, with_new, distinct, mixes_blocks, gathers_too_many, behind, has_label, label_name, optional_command, labelled, statement, statements}
-use Rattle.teal_asm.specs.Bodies.{command_count}
+use Rattle.teal_asm.specs.Thinned.{command_count}
 use Rattle.teal_asm.specs.Meaning.{Meant, Straight, Branch, Meaning, commands_in, label_entry, labels_from, label_number, uint_block, byte_block, gathered_blocks, read_uint_constant, read_byte_constant, branch, instruction, optional_instruction, instructions, all_instructions, meaning_of_lines, meaning}
 use Rattle.teal_asm.specs.Program.{total_size, instruction_spelling, spelling, program, short_program, line_count, assembled}
 use Rattle.teal_laws.specs.Listed.{AreUints, HasShape, IsOf}
