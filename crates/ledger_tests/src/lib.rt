@@ -2,6 +2,8 @@
 #![tactic(auto)]
 
 #[cfg(test)]
+mod byte_strings;
+#[cfg(test)]
 mod ledger_bytes;
 #[cfg(test)]
 mod ledgers;
