@@ -7,7 +7,8 @@ use arrayvec::ArrayVec;
 use std::alloc::{AllocError, Global};
 use std::marker::Model;
 
-/// A list of bytes. Up to 16 stand in the value itself and take no memory.
+/// A list of bytes. Of a slice, up to 16 stand in the value itself and take no memory; a vector that is taken over stays the
+/// vector that it is.
 #[derive(Debug, Drop)]
 pub struct ByteString {
     bytes: Bytes,
