@@ -44,6 +44,16 @@ impl State {
         }
     }
 
+    /// No entries, in room for so many.
+    pub(crate) fn with_room(alloc: Global, entries: usize) -> Result<Self, AllocError>
+        ensures { IfOk result (λ state. state ≡ []) }
+    {
+        Ok(State {
+            entries: Vec::with_capacity(alloc, entries)?,
+            counts: EntryCounts::none(),
+        })
+    }
+
     /// How many entries there are.
     pub fn len(&self) -> usize
         ensures len { result ≡ length self.now }

@@ -36,7 +36,7 @@ pub(crate) fn state_of(
     entries_of(alloc, count, kinds, rest)
 }
 
-/// So many entries. Nothing is kept for one before it is read.
+/// So many entries, at most as many as a schema allows, in room for just these.
 fn entries_of(
     alloc: Global,
     count: u8,
@@ -45,7 +45,7 @@ fn entries_of(
 ) -> Result<(State, Fields<'_>), LedgerError>
     ensures { Gives (λ x. x) result (entries_at count None kinds fields.entry) }
 {
-    let mut state = State::new(alloc);
+    let mut state = State::with_room(alloc, usize::from(count))?;
     let mut before = None;
     let mut left = kinds;
     let mut rest = fields;
