@@ -25,11 +25,11 @@ pub distinct-append : {A : Type 0} (eq : A → A → Bool) (seen xs ys : List A)
 distinct-append eq seen [] ys = refl
 distinct-append eq seen (x ∷ xs) ys = distinct-append eq _ xs ys
 
-or_assoc : (a b c : Bool) → (a || (b || c)) ≡ ((a || b) || c)
+pub or_assoc : (a b c : Bool) → (a || (b || c)) ≡ ((a || b) || c)
 or_assoc true b c = refl
 or_assoc false b c = refl
 
-or_false : (a : Bool) → (a || false) ≡ a
+pub or_false : (a : Bool) → (a || false) ≡ a
 or_false true = refl
 or_false false = refl
 
@@ -104,11 +104,11 @@ is_behind ss now s uints strings ub bb b e f pushed =
     let more : gathers_too_many (ss ++ s ∷ []) ≡ false = sym (many ss s uints strings ub bb b) ∙ f in
     rw (test, more) (ap (λ ts. Ok ts) (sym pushed))
 
-or_first : (a b : Bool) → (a || b) ≡ false → a ≡ false
+pub or_first : (a b : Bool) → (a || b) ≡ false → a ≡ false
 or_first true b e = absurd cc
 or_first false b e = refl
 
-or_second : (a b : Bool) → (a || b) ≡ false → b ≡ false
+pub or_second : (a b : Bool) → (a || b) ≡ false → b ≡ false
 or_second true b e = absurd cc
 or_second false b e = e
 

@@ -12,24 +12,16 @@ use Rattle.teal_source.specs.declared.fault.AsmFault.{AsmFault}
 use Rattle.teal_source.specs.Operands.{Word}
 use Rattle.teal_source.specs.Statements.{has_label}
 use Rattle.teal_asm.specs.Thinned.{or_else, own_fault, branch_fault, branch_label, front_fault, jumps_to, leads_back, IsNeedless}
-use Rattle.teal_asm.proofs.Bodying.{list_any-push}
+use Rattle.teal_asm.proofs.Bodying.{list_any-push, or_assoc, or_false, or_first, or_second}
 
 -- ---- what labels decide
 
 abbrev SameLabels : List Statement → List Statement → Type 0
 SameLabels x y = (name : Word) → list_any (has_label name) x ≡ list_any (has_label name) y
 
-pub or_none : (b : Bool) → (b || false) ≡ b
-or_none true = refl
-or_none false = refl
-
-or_assoc : (a b c : Bool) → ((a || b) || c) ≡ (a || (b || c))
-or_assoc true b c = refl
-or_assoc false b c = refl
-
 labels-append : (name : Word) (xs ys : List Statement) → list_any (has_label name) (xs ++ ys) ≡ (list_any (has_label name) xs || list_any (has_label name) ys)
 labels-append name [] ys = refl
-labels-append name (x ∷ xs) ys = ap (λ b. has_label name x || b) (labels-append name xs ys) ∙ sym (or_assoc (has_label name x) (list_any (has_label name) xs) (list_any (has_label name) ys))
+labels-append name (x ∷ xs) ys = ap (λ b. has_label name x || b) (labels-append name xs ys) ∙ or_assoc (has_label name x) (list_any (has_label name) xs) (list_any (has_label name) ys)
 
 same_own : (line : ℕ) (label : Option Word) (x y x' y' : List Statement) → SameLabels x x' → SameLabels y y' → own_fault line label x y ≡ own_fault line label x' y'
 same_own line None x y x' y' e f = refl
@@ -37,7 +29,7 @@ same_own line (Some name) x y x' y' e f = rw (e name, f name) refl
 
 pub no_label : (s : Statement) → s.label ≡ None → (before : List Statement) → SameLabels before (before ++ s ∷ [])
 no_label s none before name =
-    sym (list_any-push (has_label name) before s ∙ ap (λ l. list_any (has_label name) before || option_map_or (λ label. bytes_eq name label) l false) none ∙ or_none (list_any (has_label name) before))
+    sym (list_any-push (has_label name) before s ∙ ap (λ l. list_any (has_label name) before || option_map_or (λ label. bytes_eq name label) l false) none ∙ or_false (list_any (has_label name) before))
 
 no_label_first : (s : Statement) → s.label ≡ None → (later : List Statement) → SameLabels (s ∷ later) later
 no_label_first s none later name = ap (λ l. option_map_or (λ label. bytes_eq name label) l false || list_any (has_label name) later) none
@@ -116,14 +108,6 @@ is_some-first None p i = absurd cc
 is_some-else : (o p : Option AsmFault) → is_some p ≡ true → is_some (or_else o p) ≡ true
 is_some-else (Some f) p e = refl
 is_some-else None p e = e
-
-or_first : (a b : Bool) → (a || b) ≡ false → a ≡ false
-or_first true b e = absurd cc
-or_first false b e = refl
-
-or_second : (a b : Bool) → (a || b) ≡ false → b ≡ false
-or_second true b e = absurd cc
-or_second false b e = e
 
 -- a branch to a label that stands nowhere has a fault
 missing : (name : Word) (line : ℕ) (label : Option Word) (before later : List Statement) → option_map_or (λ l. bytes_eq name l) label false ≡ true → list_any (has_label name) before ≡ false → list_any (has_label name) later ≡ false
