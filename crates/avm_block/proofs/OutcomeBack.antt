@@ -1,10 +1,10 @@
 -- An outcome is read from its bytes.
-use Rattle.std.proofs.Common.{◌≡◌, ℕ, ◌%◌, ◌<◌, ◌≤◌, true, leb, List, [], ◌∷◌, ◌++◌, Some, Ok, refl, ap, ◌∙◌, arith}
+use Rattle.std.proofs.Common.{◌≡◌, ℕ, ◌%◌, ◌<◌, ◌≤◌, true, leb, List, [], ◌∷◌, ◌++◌, Ok, refl, ap, ◌∙◌, arith}
 use Rattle.std.specs.Int.{w8}
 use Rattle.std.specs.Option.{ok_or}
 use Rattle.std.proofs.lemmas.Bool.{le-leb}
 use Rattle.teal_value.specs.Answer.{◌>>=◌}
-use Rattle.teal_value.specs.FaultNumbers.{fault_number, faults, numbered}
+use Rattle.teal_value.specs.FaultNumbers.{fault_number, faults}
 use Rattle.teal_value.proofs.FaultsNumbered.{fault_of_number, small_fault}
 use Rattle.teal_value.specs.declared.fault.Fault.{Fault}
 use Rattle.avm_ledger.specs.Spellings.{u8_bytes, u16_bytes}

@@ -1,13 +1,11 @@
 -- Reading an outcome from bytes.
-use Rattle.std.specs.Prelude.{ℕ, ◌==◌, nat_le, if◌then◌else◌, List, [], ◌∷◌, Option, Some, None, Ok, Err}
+use Rattle.std.specs.Prelude.{ℕ, ◌==◌, nat_le, if◌then◌else◌, List, [], Ok, Err}
 use Rattle.std.specs.Option.{ok_or}
 use Rattle.std.specs.Int.{w8, w16}
 use Rattle.teal_value.specs.Answer.{◌>>=◌}
 use Rattle.teal_value.specs.declared.fault.Fault.{Fault}
 use Rattle.teal_value.specs.FaultNumbers.{fault_number, faults, numbered}
 use Rattle.avm_ledger.specs.FieldReader.{Front, number_at}
-use Rattle.avm_call.specs.declared.outcome.Why.{Why}
-use Rattle.avm_call.specs.declared.outcome.Why.TheVariants as why
 use Rattle.avm_call.specs.declared.outcome.Cause.{Cause}
 use Rattle.avm_call.specs.declared.outcome.Cause.TheVariants as cause
 use Rattle.avm_call.specs.declared.outcome.Outcome.{Outcome}

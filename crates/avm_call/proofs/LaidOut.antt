@@ -19,7 +19,7 @@ use Rattle.teal_code.specs.Reader.{Read, varuint_at, instr_at, with_opcode, imme
 use Rattle.teal_check.specs.declared.fault.CheckFault.{CheckFault}
 use Rattle.teal_check.specs.declared.fault.CheckFault.TheVariants as fault
 use Rattle.teal_check.specs.declared.program.Placed.{Placed}
-use Rattle.teal_check.specs.WellFormed.{WellFormed, on_code, version_of, with_known_field, has_field, placed_at, placed_from, places, index_of, number_at, target_of, with_targets, affordable, checked}
+use Rattle.teal_check.specs.WellFormed.{WellFormed, on_code, version_of, placed_at, placed_from, places, index_of, number_at, target_of, with_targets, checked}
 use Rattle.teal_check.specs.WellFormed as check
 use Rattle.teal_check.proofs.CheckedPrograms.{is_checked, is_placed, placed_forward, placed_rises, length-places}
 use Rattle.avm_ops.specs.Immediates.{offset_of}

@@ -5,9 +5,8 @@ use Rattle.avm_items.specs.declared.call_data.CallData.{CallData}
 use Rattle.avm_call.specs.Replay.{replayed}
 use Rattle.mv_history.specs.History.{IsRising, entries_below}
 use Rattle.mv_calls.specs.CallHistory.{CallEntry, call_of, calls_made}
-use Rattle.mv_core.specs.Stores.{Store}
 use Rattle.avm_debug.specs.Laws.{LiveLedgersBeforeAreReplays}
-use Rattle.avm_debug.specs.LiveOpening.{call_of_entry, live_entry, met_live}
+use Rattle.avm_debug.specs.LiveOpening.{call_of_entry, live_entry}
 
 none_below : (t before : ℕ) (es : List CallEntry) → IsRising before es → t ≤ suc before → entries_below t es ≡ []
 none_below t before [] rises le = refl

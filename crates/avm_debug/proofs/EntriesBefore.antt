@@ -1,12 +1,11 @@
 -- The entries of a block with timestamps below that of one of them are those before it.
-use Rattle.std.proofs.Common.{◌≡◌, ◌<◌, ◌≤◌, ◌-◌, ℕ, zero, suc, Bool, true, false, eqb, nat_le, if◌then◌else◌, List, [], ◌∷◌, take, Option, None, Some, refl, ap, ◌∙◌, subst, arith}
+use Rattle.std.proofs.Common.{◌≡◌, ◌<◌, ◌≤◌, ◌-◌, ℕ, zero, suc, Bool, true, false, eqb, nat_le, if◌then◌else◌, List, [], ◌∷◌, take, Option, None, Some, refl, ap, subst, arith}
 use Rattle.std.specs.Prelude.{slice_get}
 use Rattle.avm_call.specs.Replay.{replayed}
 use Rattle.avm_block.specs.declared.entry.Entry.{Entry}
 use Rattle.avm_block.specs.Blocks.{RisesAbove, calls_in}
 use Rattle.avm_replay.specs.Past.{entries_until}
 use Rattle.avm_debug.specs.Laws.{LedgersBeforeAreReplays}
-use Rattle.avm_debug.specs.Opening.{entry_at}
 
 none_until : (t before : ℕ) (es : List Entry) → RisesAbove before es → t ≤ before → entries_until t es ≡ []
 none_until t before [] rises le = refl

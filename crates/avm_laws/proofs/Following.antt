@@ -17,7 +17,7 @@ use Rattle.avm_items.specs.declared.item.Item.{Item}
 use Rattle.avm_items.specs.declared.item.Item.TheVariants as item
 use Rattle.avm_items.specs.declared.item_value.ItemValue.{ItemValue}
 use Rattle.avm_items.specs.declared.item_value.ItemValue.TheVariants as value
-use Rattle.avm_items.specs.Items.{ItemMap, Known, IsInItemOrder, item_cmp, sort_key, value_in, with_item, or_else, over, entry_in, key_value}
+use Rattle.avm_items.specs.Items.{ItemMap, Known, IsInItemOrder, item_cmp, value_in, with_item, or_else, over, entry_in, key_value}
 use Rattle.avm_items.specs.Items as items
 use Rattle.avm_items.specs.LedgerItems.{at, put_one, row_value, counts_value, entry_value, is_of_gone}
 use Rattle.avm_items.specs.PutLaws.{MaySet, MayPut, is_counts, deletes}

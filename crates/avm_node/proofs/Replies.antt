@@ -1,5 +1,5 @@
 -- Replies, by what was read.
-use Rattle.std.proofs.Common.{◌≡◌, ◌∙◌, ap, ◌+◌, ◌++◌, ℕ, List, [], Option, Some, None, Result, refl, true, false, IfSome, option_map, take}
+use Rattle.std.proofs.Common.{◌≡◌, ◌∙◌, ap, ◌+◌, ℕ, List, [], Option, Some, None, Result, refl, true, false, IfSome, option_map, take}
 use Rattle.std.specs.Str.{IsUtf8, is_utf8}
 use Rattle.std.proofs.lemmas.Str.{IsUtf8-from_is_utf8, is_utf8-from_IsUtf8}
 use Rattle.teal_source.specs.declared.fault.AsmFault.{AsmFault}

@@ -9,7 +9,7 @@ use Rattle.avm_call.specs.Replay.{outcome_on, changes_on, ledger_after, outcomes
 use Rattle.avm_laws.specs.LedgerLooks.{IsLookOf, IsOfLedger}
 use Rattle.avm_run.specs.Results.{CallRecord, IsFinished}
 use Rattle.mv_history.specs.History as history
-use Rattle.mv_history.specs.History.{Entry, IsEquality, lookup_after, Replays, state_after}
+use Rattle.mv_history.specs.History.{IsEquality, lookup_after, Replays, state_after}
 use Rattle.mv_calls.specs.CallHistory.{CallEntry, same_item, call_of, result_in, meaning_of}
 
 -- the test of items says exactly which are the same

@@ -1,5 +1,5 @@
 -- What the calls of a store make of what it keeps, by the contracts of the journal and of the shards that are held.
-use Rattle.std.proofs.Common.{◌≡◌, ◌≢◌, ℕ, ◌+◌, ◌-◌, ◌<◌, ◌≤◌, ◌==◌, Bool, true, false, nat_lt, if◌then◌else◌, List, [], ◌∷◌, length, Option, None, Some, get_or, set, refl, sym, ap, ◌∙◌, subst, arith, inl, inr}
+use Rattle.std.proofs.Common.{◌≡◌, ℕ, ◌+◌, ◌-◌, ◌<◌, ◌≤◌, ◌==◌, Bool, nat_lt, if◌then◌else◌, [], length, Option, None, Some, get_or, set, refl, sym, ap, ◌∙◌, subst, arith, inl, inr}
 use Rattle.std.specs.Prelude.{◌⊎◌, ◌||◌, ◌^◌, IsSome}
 use Rattle.teal_value.specs.declared.failure.Failure.{Failure}
 use Rattle.teal_value.specs.declared.failure.Failure.TheVariants as failure
@@ -17,7 +17,7 @@ use Rattle.mv_shards.specs.declared.read_fault.ReadFault.TheVariants.{Pruned}
 use Rattle.mv_shards.specs.Indexes.{shard_of}
 use Rattle.mv_shards.specs.Shards as shard
 use Rattle.mv_shards.specs.Shards.{Shard}
-use Rattle.mv_shards.specs.Helds.{ArePruned, IsHeld, IsHeldPruned, IsHeldRead, IsPrunedIn, Places, shard_for}
+use Rattle.mv_shards.specs.Helds.{ArePruned, IsHeld, IsPrunedIn, Places, shard_for}
 use Rattle.mv_parts.specs.declared.begin_fault.BeginFault.{BeginFault}
 use Rattle.mv_parts.specs.declared.begin_fault.BeginFault.TheVariants.{ClockEnd, Done, NoCall, Taken}
 use Rattle.mv_parts.specs.Journals as journal

@@ -1,11 +1,9 @@
 -- What a commit makes of a store, and why the journal refuses one, where all shards agree with it.
-use Rattle.std.proofs.Common.{◌≡◌, ◌≢◌, ℕ, suc, ◌+◌, ◌-◌, ◌<◌, ◌≤◌, ◌==◌, ◌&&◌, ◌||◌, max, Bool, true, false, nat_lt, if◌then◌else◌, List, [], ◌∷◌, length, Option, None, Some, get_or, set, refl, sym, ap, ◌∙◌, subst, arith}
+use Rattle.std.proofs.Common.{◌≡◌, ◌≢◌, ℕ, suc, ◌-◌, ◌<◌, ◌≤◌, ◌==◌, ◌&&◌, ◌||◌, max, Bool, true, false, nat_lt, if◌then◌else◌, List, [], ◌∷◌, length, Option, None, Some, get_or, set, refl, sym, ap, ◌∙◌, subst, arith}
 use Rattle.std.specs.Prelude.{option_map, IsSome}
 use Rattle.std.specs.Map.{lookup}
 use Rattle.std.specs.List.{AllByRecursion}
 use Rattle.std.proofs.lemmas.List.{length-set}
-use Rattle.teal_value.specs.declared.failure.Failure.{Failure}
-use Rattle.teal_value.specs.declared.failure.Failure.TheVariants as failure
 use Rattle.avm_ledger.specs.declared.header.Header.{Header}
 use Rattle.avm_ledger.specs.Ledgers.{Ledger}
 use Rattle.avm_items.specs.declared.call_data.CallData.{CallData}
@@ -20,12 +18,12 @@ use Rattle.avm_laws.specs.LedgerLooks.{IsOfLedger}
 use Rattle.avm_laws.proofs.Pruned.{value_itself}
 use Rattle.mv_chain.specs.declared.Late.{Late as LateVersion}
 use Rattle.mv_chain.specs.declared.Version.{Version}
-use Rattle.mv_chain.specs.Versions.{lateness, mark_in, newest_at}
+use Rattle.mv_chain.specs.Versions.{mark_in, newest_at}
 use Rattle.mv_history.specs.Facts.{IsCheckedCommit}
 use Rattle.mv_history.specs.History as history
 use Rattle.mv_history.specs.History.{Agrees, entries_with, state_below, version_below}
 use Rattle.mv_history.specs.Schedule.{AreMarked}
-use Rattle.mv_history.specs.World.{IsInTime, after_commit, attempt_at, attempts_without, greatest_mark}
+use Rattle.mv_history.specs.World.{after_commit, attempt_at, attempts_without, greatest_mark}
 use Rattle.mv_history.proofs.Attempts.{all_without, found_attempt}
 use Rattle.mv_history.proofs.Lists.{Compared, less, not_less, compared, Equals, equal, unequal, equals}
 use Rattle.mv_history.proofs.SameWorlds.{version_below-monotone}
@@ -38,9 +36,9 @@ use Rattle.mv_calls.specs.Laws.{entry_of}
 use Rattle.mv_calls.proofs.Histories.{finished_calls_are_entries}
 use Rattle.mv_calls.proofs.SerialCalls.{items_have_an_equality}
 use Rattle.mv_shards.specs.Indexes.{shard_of}
-use Rattle.mv_shards.specs.Helds.{AreHeld, IsHeld, Places}
+use Rattle.mv_shards.specs.Helds.{Places}
 use Rattle.mv_shards.specs.Shards.{Shard, versions_held}
-use Rattle.mv_shards.specs.Writing.{AreLow, AreWritten, IsLowAt, NoneForeign, committed_versions, has_timestamp, has_write_at, is_foreign, versions_for, versions_or_none}
+use Rattle.mv_shards.specs.Writing.{AreWritten, IsLowAt, NoneForeign, committed_versions, has_timestamp, has_write_at, is_foreign, versions_for, versions_or_none}
 use Rattle.mv_parts.specs.Commits.{IsOwnCall, later, late_or, lateness_in, lateness_of, moved_item, no_version}
 use Rattle.mv_parts.specs.Commits as parts
 use Rattle.mv_parts.proofs.Commits.{held_all, low_over, over_written, versions_written}

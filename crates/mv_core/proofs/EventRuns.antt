@@ -1,5 +1,5 @@
 -- Events one after another, from a store in which nothing has begun.
-use Rattle.std.proofs.Common.{◌≡◌, ℕ, zero, suc, ◌+◌, ◌<◌, ◌≤◌, List, [], ◌∷◌, ◌++◌, length, map, replicate, take, Option, None, Some, get_or, refl, sym, ap, ◌∙◌, subst, arith}
+use Rattle.std.proofs.Common.{◌≡◌, ℕ, zero, suc, ◌+◌, ◌<◌, ◌≤◌, List, [], ◌∷◌, ◌++◌, length, replicate, take, None, Some, get_or, refl, sym, ap, ◌∙◌, subst, arith}
 use Rattle.std.proofs.Math.Seq.{take-suc}
 use Rattle.std.proofs.lemmas.List.{take_all}
 use Rattle.avm_ledger.specs.declared.header.Header.{Header}
@@ -8,7 +8,7 @@ use Rattle.avm_items.specs.declared.call_data.CallData.{CallData}
 use Rattle.avm_items.specs.LedgerItems.{at}
 use Rattle.mv_history.specs.World.{attempt_at}
 use Rattle.mv_history.proofs.SameWorlds.{same_world-itself, same_world-trans}
-use Rattle.mv_calls.specs.CallHistory.{CallAttempt, same_item}
+use Rattle.mv_calls.specs.CallHistory.{same_item}
 use Rattle.mv_running.specs.declared.Event.{Event}
 use Rattle.mv_running.specs.Laws.{IsSameRunning}
 use Rattle.mv_running.specs.Running.{RunInput, Running, first_running, running_after, running_from, worker_at}
@@ -18,7 +18,7 @@ use Rattle.mv_core.specs.declared.world.Worker.{Worker}
 use Rattle.mv_core.specs.declared.world.Worker.TheVariants as worker
 use Rattle.mv_core.specs.Calls.{first_store}
 use Rattle.mv_core.specs.Stores.{Store}
-use Rattle.mv_core.specs.Worlds.{AreLiveIn, AreSound, IsLiveWith, IsRunTo, IsStep, attempt_of, input_of, running_of}
+use Rattle.mv_core.specs.Worlds.{AreLiveIn, AreSound, IsRunTo, IsStep, input_of, running_of}
 
 running_more : (input : RunInput) (r : Running) (es : List Event) (e : Event) → running_from input r (es ++ e ∷ []) ≡ running_after input (running_from input r es) e
 running_more input r [] e = refl

@@ -19,14 +19,13 @@ use Rattle.mv_chain.proofs.Marks.{every_prune_keeps_marks_lem, every_read_raises
 use Rattle.mv_history.specs.History.{commit_count, version_below}
 use Rattle.mv_history.specs.Schedule.{IsConsistent, IsConsistentWorld, IsSchedule}
 use Rattle.mv_history.specs.SameWorlds.{HaveSameMarks}
-use Rattle.mv_history.specs.World.{IsLowerBound, KeepsNeededMarks, after_abandon, after_begin, after_prune, after_read, attempt_at, attempts_with_read, attempts_without, fresh_attempt, greatest_mark, live_count, low_after_prune, lowest_live}
+use Rattle.mv_history.specs.World.{IsLowerBound, KeepsNeededMarks, after_abandon, after_begin, attempt_at, attempts_with_read, attempts_without, fresh_attempt, greatest_mark, live_count, low_after_prune, lowest_live}
 use Rattle.mv_history.proofs.Attempts.{all_without, found_attempt, lowest_live-at_most, pruned_below}
 use Rattle.mv_history.proofs.Events.{schedule_after_abandon, schedule_after_begin}
 use Rattle.mv_history.proofs.Lists.{Compared, less, not_less, compared, all_map, all_push}
 use Rattle.mv_history.proofs.SameWorlds.{version_below-monotone}
 use Rattle.mv_history.proofs.Worlds.{greatest_mark-push}
-use Rattle.mv_agreement.specs.Agreement.{HoldsVersions}
-use Rattle.mv_agreement.specs.Stores.{IsStore, KeepsMarksFrom, after_item_read, marks_of}
+use Rattle.mv_agreement.specs.Stores.{IsStore, KeepsMarksFrom, marks_of}
 use Rattle.mv_agreement.proofs.Stores.{every_prune_leaves_a_store_lem, every_read_leaves_a_store_lem}
 use Rattle.mv_calls.specs.CallHistory.{CallAttempt, CallWorld, meaning_of, same_item}
 use Rattle.mv_calls.proofs.SerialCalls.{items_have_an_equality}
@@ -34,13 +33,13 @@ use Rattle.mv_shards.specs.Indexes.{shard_count, shard_of}
 use Rattle.mv_shards.specs.Chains.{with_versions}
 use Rattle.mv_shards.specs.Shards.{Shard, versions_held}
 use Rattle.mv_shards.specs.Shards as shard
-use Rattle.mv_shards.specs.Helds.{ArePruned, IsPrunedPlace, Places, shard_for}
+use Rattle.mv_shards.specs.Helds.{ArePruned, Places, shard_for}
 use Rattle.mv_shards.specs.Writing.{versions_for, versions_or_none}
 use Rattle.mv_parts.specs.Journals.{IsOver}
 use Rattle.mv_parts.proofs.Opens.{index_within}
 use Rattle.mv_running.specs.Running.{place_of}
 use Rattle.mv_running.proofs.Workers.{with_item-new}
-use Rattle.mv_core.specs.Places.{ArePlacesOf, IsLive, live_in}
+use Rattle.mv_core.specs.Places.{IsLive, live_in}
 use Rattle.mv_core.specs.Stores.{CallSlots, IsFirstRead, IsKept, IsPrune, IsReadAgain, marks_in, shown}
 use Rattle.mv_core.proofs.Attempts.{all_in, attempt_here, count_in, live_begun, live_ended, live_read, places_begun, places_ended, places_read}
 use Rattle.mv_core.proofs.Held.{IsRaisedPlace, marks_of_places, none_stays, raised_place, shards_after_read, versions_after_read}

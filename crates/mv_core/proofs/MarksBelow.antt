@@ -1,5 +1,5 @@
 -- The marks of the journal's own versions stay below those of the shards.
-use Rattle.std.proofs.Common.{◌≡◌, ◌≢◌, ℕ, suc, ◌<◌, ◌≤◌, ◌==◌, max, Bool, true, false, if◌then◌else◌, List, [], ◌∷◌, Option, None, Some, refl, sym, ap, ◌∙◌, subst, arith}
+use Rattle.std.proofs.Common.{◌≡◌, ◌≢◌, ℕ, suc, ◌<◌, ◌≤◌, ◌==◌, max, Bool, true, false, if◌then◌else◌, List, [], ◌∷◌, Option, None, Some, refl, ap, ◌∙◌, arith}
 use Rattle.std.specs.Map.{lookup}
 use Rattle.std.specs.List.{AllByRecursion}
 use Rattle.avm_ledger.specs.Ledgers.{Ledger}
@@ -8,7 +8,7 @@ use Rattle.avm_items.specs.declared.item_value.ItemValue.{ItemValue}
 use Rattle.avm_items.specs.LedgerItems.{at}
 use Rattle.avm_call.specs.declared.outcome.Outcome.{Outcome}
 use Rattle.mv_chain.specs.declared.Version.{Version}
-use Rattle.mv_chain.specs.Versions.{IsChain, mark_in, newest_at, oldest_timestamp, versions_read_at, versions_with}
+use Rattle.mv_chain.specs.Versions.{IsChain, mark_in, newest_at, oldest_timestamp, versions_read_at}
 use Rattle.mv_chain.proofs.Marks.{every_install_keeps_marks_lem, every_read_raises_one_mark_lem}
 use Rattle.mv_history.specs.History.{IsRising, entries_with, version_below}
 use Rattle.mv_history.proofs.SameWorlds.{version_below-grows}

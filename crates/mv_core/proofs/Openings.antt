@@ -1,5 +1,5 @@
 -- A store in which nothing has begun keeps what a store keeps.
-use Rattle.std.proofs.Common.{◌≡◌, ℕ, zero, suc, ◌+◌, ◌<◌, List, [], ◌∷◌, ◌++◌, length, length-append, Option, None, Some, get_or, refl, sym, ap, ◌∙◌, subst, arith}
+use Rattle.std.proofs.Common.{◌≡◌, ℕ, zero, suc, ◌+◌, List, [], ◌∷◌, ◌++◌, length, length-append, Option, None, get_or, refl, sym, subst, arith}
 use Rattle.avm_ledger.specs.declared.header.Header.{Header}
 use Rattle.avm_ledger.specs.Ledgers.{IsOrderly, Ledger}
 use Rattle.avm_items.specs.declared.call_data.CallData.{CallData}

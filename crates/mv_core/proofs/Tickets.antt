@@ -1,7 +1,7 @@
 -- The attempt that a ticket names.
 use Rattle.std.proofs.Common.{◌≡◌, ◌≢◌, ℕ, zero, suc, ◌-◌, ◌<◌, ◌≤◌, List, [], ◌∷◌, length, Option, None, Some, get_or, refl, sym, ap, ◌∙◌, subst, arith}
 use Rattle.mv_history.specs.World.{Attempt}
-use Rattle.mv_core.specs.Places.{IsNowhere, IsPlaced, Slots}
+use Rattle.mv_core.specs.Places.{IsNowhere, Slots}
 
 some_is : {X : Type 0} {a b : X} → Some a ≡ Some b → a ≡ b
 some_is e = cc

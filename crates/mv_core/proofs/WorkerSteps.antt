@@ -1,7 +1,6 @@
 -- One event of one worker, against what it means.
-use Rattle.std.proofs.Common.{◌≡◌, ℕ, zero, suc, ◌+◌, ◌-◌, ◌<◌, ◌≤◌, ◌==◌, ◌&&◌, not, Bool, true, false, nat_lt, nat_le, if◌then◌else◌, List, [], ◌∷◌, length, map, Option, None, Some, Result, Ok, Err, get_or, set, slice_set, refl, sym, ap, ◌∙◌, subst, arith, inl, inr}
+use Rattle.std.proofs.Common.{◌≡◌, ℕ, zero, suc, ◌+◌, ◌-◌, ◌<◌, ◌≤◌, ◌==◌, ◌&&◌, not, Bool, true, false, nat_lt, nat_le, if◌then◌else◌, List, [], ◌∷◌, length, map, Option, None, Some, Ok, Err, get_or, set, slice_set, refl, sym, ap, ◌∙◌, subst, arith, inl, inr}
 use Rattle.std.specs.Prelude.{◌⊎◌, ◌^◌, is_none, is_some, option_map}
-use Rattle.std.specs.List.{AllByRecursion}
 use Rattle.std.proofs.lemmas.List.{map-set, length-map}
 use Rattle.avm_items.specs.declared.item.Item.{Item}
 use Rattle.avm_items.specs.declared.item_value.ItemValue.{ItemValue}
@@ -15,8 +14,7 @@ use Rattle.avm_run.specs.Results.{CallRecord, with_changes}
 use Rattle.avm_run.specs.RunState.{Progress}
 use Rattle.mv_history.specs.History.{commit_count, version_below}
 use Rattle.mv_history.specs.SameWorlds.{HaveSameMarks, IsSameWorld}
-use Rattle.mv_history.specs.World.{after_abandon, after_begin, after_commit, after_prune, after_read, attempt_at, fresh_attempt, greatest_mark, live_count}
-use Rattle.mv_history.proofs.Lists.{Compared, less, not_less, compared}
+use Rattle.mv_history.specs.World.{after_abandon, after_begin, after_commit, after_prune, after_read, fresh_attempt, greatest_mark, live_count}
 use Rattle.mv_history.proofs.SameWorlds.{same_world-itself, same_world-sym}
 use Rattle.mv_calls.specs.CallHistory.{CallAttempt, CallEntry, CallWorld, call_of, same_item}
 use Rattle.mv_calls.specs.Laws.{entry_of}
@@ -32,7 +30,7 @@ use Rattle.mv_core.specs.declared.world.Worker.TheVariants as worker
 use Rattle.mv_core.specs.Commits.{late_write}
 use Rattle.mv_core.specs.Places.{IsLive}
 use Rattle.mv_core.specs.Stores.{IsFirstRead, IsPrune, IsReadAgain, Store}
-use Rattle.mv_core.specs.Worlds.{AreSound, AsksFor, AsksNext, EndsNow, HasEnded, IsAbandonBy, IsAdvanced, IsBegun, IsBegunBy, IsCommit, IsCommitBy, IsLiveIfAny, IsLiveWith, IsRead, IsReadBy, IsSound, IsStep, IsWork, attempt_by, attempt_of, input_of, may_begin_call, reads_or_none, running_of, ticket_of, worker_in}
+use Rattle.mv_core.specs.Worlds.{AreSound, AsksFor, HasEnded, IsAbandonBy, IsAdvanced, IsBegunBy, IsCommitBy, IsLiveIfAny, IsLiveWith, IsRead, IsReadBy, IsSound, IsStep, IsWork, attempt_by, attempt_of, input_of, may_begin_call, reads_or_none, running_of, ticket_of, worker_in}
 
 some_is : {X : Type 0} {a b : X} → Some a ≡ Some b → a ≡ b
 some_is e = cc

@@ -1,5 +1,5 @@
 -- When a finished call commits, why it is refused, and what a commit makes of a store.
-use Rattle.std.specs.Prelude.{◌≡◌, ℕ, suc, nat_lt, if◌then◌else◌, List, [], ◌∷◌, get_or, set, Option, None, Some}
+use Rattle.std.specs.Prelude.{◌≡◌, ℕ, suc, nat_lt, if◌then◌else◌, [], ◌∷◌, get_or, set, Option, None, Some}
 use Rattle.teal_value.specs.declared.failure.Failure.{Failure}
 use Rattle.teal_value.specs.declared.failure.Failure.TheVariants as failure
 use Rattle.avm_items.specs.declared.item.Item.{Item}

@@ -1,5 +1,5 @@
 -- The marks of versions as a list, as worlds have them.
-use Rattle.std.specs.Prelude.{ℕ, List, [], ◌∷◌, ◌++◌}
+use Rattle.std.specs.Prelude.{List, [], ◌∷◌, ◌++◌}
 use Rattle.mv_chain.specs.declared.Version.{Version}
 use Rattle.mv_history.specs.World.{Mark}
 

@@ -1,5 +1,5 @@
 -- The store: what is seen of it, what it keeps, and what its calls do.
-use Rattle.std.specs.Prelude.{◌≡◌, ℕ, suc, ◌+◌, ◌⊎◌, List, [], ◌∷◌, ◌++◌, length, get_or, set, Option, None, Some}
+use Rattle.std.specs.Prelude.{◌≡◌, ℕ, suc, ◌+◌, List, [], ◌∷◌, ◌++◌, length, get_or, set, Option, None, Some}
 use Rattle.std.specs.Map.{keys_of}
 use Rattle.avm_ledger.specs.declared.header.Header.{Header}
 use Rattle.avm_ledger.specs.Ledgers.{IsOrderly, Ledger}
@@ -22,7 +22,7 @@ use Rattle.mv_shards.specs.Writing.{versions_for}
 use Rattle.mv_parts.specs.Journals.{AreAllOver, AreLiveCalls}
 use Rattle.mv_running.specs.Running.{place_of}
 use Rattle.mv_core.specs.Marks.{marks_among}
-use Rattle.mv_core.specs.Places.{ArePlacesOf, IsLive, Slots, live_in}
+use Rattle.mv_core.specs.Places.{ArePlacesOf, Slots, live_in}
 
 -- what is seen of it: the world that its events lead to, and the versions of all items, in shards
 pub record Store : Type 0 where

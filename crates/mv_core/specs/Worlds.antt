@@ -1,9 +1,6 @@
 -- Eight workers over a store, against what their steps mean.
-use Rattle.std.specs.Prelude.{◌≡◌, ℕ, suc, ◌+◌, ◌^◌, ◌-◌, ◌==◌, ◌&&◌, Bool, true, false, nat_lt, is_some, List, [], ◌∷◌, length, get_or, map, Option, IsSome, None, Some, Err}
+use Rattle.std.specs.Prelude.{◌≡◌, ℕ, suc, ◌+◌, ◌^◌, ◌-◌, ◌==◌, ◌&&◌, Bool, true, false, nat_lt, is_some, List, [], get_or, map, Option, IsSome, None, Some, Err}
 use Rattle.std.specs.List.{AllByRecursion}
-use Rattle.avm_ledger.specs.declared.header.Header.{Header}
-use Rattle.avm_ledger.specs.Ledgers.{Ledger}
-use Rattle.avm_items.specs.declared.call_data.CallData.{CallData}
 use Rattle.avm_items.specs.declared.item.Item.{Item}
 use Rattle.avm_items.specs.Asks.{answer_from}
 use Rattle.avm_items.specs.Items.{ItemMap, value_in, with_item}

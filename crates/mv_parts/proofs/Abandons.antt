@@ -21,7 +21,7 @@ use Rattle.mv_history.proofs.Attempts.{all_without, found_attempt, live_count-en
 use Rattle.mv_history.proofs.Lists.{Equals, equal, unequal, equals}
 use Rattle.mv_history.proofs.Events.{schedule_after_abandon}
 use Rattle.mv_agreement.specs.Stores.{marks_of}
-use Rattle.mv_calls.specs.CallHistory.{CallAttempt, CallEntry, CallWorld, same_item}
+use Rattle.mv_calls.specs.CallHistory.{CallAttempt, CallEntry, same_item}
 use Rattle.mv_parts.specs.declared.call_state.CallState.{CallState}
 use Rattle.mv_parts.specs.declared.call_state.CallState.TheVariants.{Idle, Live, Committed}
 use Rattle.mv_shards.specs.Helds.{Places}

@@ -22,7 +22,7 @@ use Rattle.mv_parts.specs.declared.call_state.CallState.{CallState}
 use Rattle.mv_parts.specs.declared.call_state.CallState.TheVariants.{Idle, Live, Committed}
 use Rattle.mv_shards.specs.Helds.{Places}
 use Rattle.mv_shards.specs.Writing.{versions_for}
-use Rattle.mv_parts.specs.Journals.{AreLiveCalls, HasStates, IsKept, Journal, begin_fault, journal_of, live_of, live_state, state_in}
+use Rattle.mv_parts.specs.Journals.{AreLiveCalls, HasStates, IsKept, begin_fault, journal_of, live_of, live_state, state_in}
 use Rattle.mv_parts.proofs.States.{begins}
 
 -- ---- the live attempts

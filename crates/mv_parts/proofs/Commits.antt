@@ -1,51 +1,29 @@
 -- A commit: what the tests say, the entry, and what a journal keeps.
-use Rattle.std.proofs.Common.{◌≡◌, ◌≢◌, ℕ, suc, ◌+◌, ◌-◌, ◌<◌, ◌≤◌, max, Bool, true, false, cond, if◌then◌else◌, not, ◌==◌, nat_lt, List, [], ◌∷◌, length, Option, None, Some, get_or, refl, sym, ap, ◌∙◌, subst, arith}
-use Rattle.std.specs.Prelude.{set, option_map, IsSome, IfSome, IfNone, IsTrue, ◌↔◌}
-use Rattle.std.specs.Map.{keys_of, remove_entry}
-use Rattle.std.specs.BTreeMap.{is_at}
+use Rattle.std.proofs.Common.{◌≡◌, ℕ, ◌≤◌, Bool, true, false, if◌then◌else◌, ◌==◌, nat_lt, List, [], ◌∷◌, Option, None, Some, get_or, refl, sym, ap, ◌∙◌, subst, arith}
+use Rattle.std.specs.Prelude.{IsSome, IfSome, IfNone, IsTrue, ◌↔◌}
 use Rattle.std.specs.List.{AllByRecursion}
-use Rattle.std.specs.Ordering.{nat_cmp}
-use Rattle.std.specs.List.Sorted.{IsStrictlySortedBy}
-use Rattle.std.proofs.lemmas.List.{get_or-set_same, get_or-set_other, length-set}
 use Rattle.avm_ledger.specs.declared.header.Header.{Header}
 use Rattle.avm_ledger.specs.Ledgers.{Ledger}
 use Rattle.avm_items.specs.declared.call_data.CallData.{CallData}
 use Rattle.avm_items.specs.declared.item.Item.{Item}
 use Rattle.avm_items.specs.declared.item_value.ItemValue.{ItemValue}
 use Rattle.avm_items.specs.Items.{ItemMap, Look}
-use Rattle.avm_items.specs.LedgerItems.{at}
 use Rattle.avm_items.specs.SameValues.{is_same_value}
-use Rattle.avm_call.specs.declared.outcome.Outcome.{Outcome}
-use Rattle.avm_run.specs.Results.{CallRecord, IsFinished}
-use Rattle.avm_laws.specs.LedgerLooks.{IsOfLedger}
+use Rattle.avm_run.specs.Results.{CallRecord}
 use Rattle.mv_chain.specs.declared.Late.{Late as LateVersion}
 use Rattle.mv_chain.specs.declared.Version.{Version}
-use Rattle.mv_chain.specs.Versions.{lateness, mark_in, newest_at}
-use Rattle.mv_history.specs.Facts.{IsCheckedCommit}
-use Rattle.mv_history.specs.History.{Agrees, commit_count, entries_with, state_below, version_below}
-use Rattle.mv_history.specs.World.{IsInTime, after_commit, attempt_at, attempts_without, live_count}
-use Rattle.mv_history.proofs.Attempts.{all_without, commit_count-entries_with, found_attempt, live_count-ended}
+use Rattle.mv_chain.specs.Versions.{lateness, newest_at}
+use Rattle.mv_history.specs.History.{Agrees}
 use Rattle.mv_history.proofs.Lists.{Compared, less, not_less, compared, Equals, equal, unequal, equals}
-use Rattle.mv_history.proofs.Versions.{all_with}
-use Rattle.mv_agreement.specs.Stores.{HoldEntries, IsStore, after_entry, marks_of}
-use Rattle.mv_agreement.proofs.Agreements.{every_write_follows_the_version_below_lem, no_version_is_at_a_fresh_timestamp_lem}
-use Rattle.mv_agreement.proofs.Stores.{every_commit_leaves_a_store_lem}
-use Rattle.mv_calls.specs.CallHistory.{CallAttempt, CallEntry, call_of, meaning_of, same_item}
-use Rattle.mv_calls.specs.Laws.{entry_of}
-use Rattle.mv_calls.specs.SerialCalls.{AreOfCalls}
-use Rattle.mv_calls.proofs.Histories.{finished_calls_are_entries}
-use Rattle.mv_calls.proofs.SerialCalls.{items_have_an_equality}
+use Rattle.mv_calls.specs.CallHistory.{CallAttempt, call_of}
 use Rattle.mv_shards.specs.Indexes.{shard_count, shard_of}
 use Rattle.mv_shards.specs.Helds.{AreHeld, IsHeld, Places, shard_for}
 use Rattle.mv_shards.specs.Shards.{Shard}
-use Rattle.mv_shards.specs.Writing.{AreAbsent, AreLow, AreWritten, CanTake, IsLowAt, IsWrittenPlace, NoneForeign, committed_versions, versions_for, versions_or_none}
-use Rattle.mv_shards.proofs.Foreign.{absent_all, low_all}
-use Rattle.mv_parts.specs.declared.call_state.CallState.{CallState}
-use Rattle.mv_parts.specs.declared.call_state.CallState.TheVariants.{Idle, Live, Committed}
+use Rattle.mv_shards.specs.Writing.{AreLow, AreWritten, IsLowAt, IsWrittenPlace, NoneForeign, committed_versions, versions_for, versions_or_none}
 use Rattle.mv_parts.specs.declared.commit_fault.CommitFault.{CommitFault}
 use Rattle.mv_parts.specs.declared.commit_fault.CommitFault.TheVariants as fault
-use Rattle.mv_parts.specs.Journals.{AreAllOver, AreLiveCalls, HasStates, IsKept, IsLive, IsOfNumber, IsOver, Journal, journal_of, live_of, live_state, state_in}
-use Rattle.mv_parts.specs.Commits.{AreCovered, IsOwnCall, IsTestRefusal, IsWriteRefusal, MayCommit, MayWrite, late_or, late_write, lateness_in, lateness_of, later, moved_item, no_version, state_for}
+use Rattle.mv_parts.specs.Journals.{AreAllOver, IsLive, IsOver, Journal}
+use Rattle.mv_parts.specs.Commits.{IsOwnCall, IsTestRefusal, IsWriteRefusal, MayWrite, late_or, late_write, lateness_in, lateness_of, later, moved_item, no_version, state_for}
 use Rattle.mv_parts.proofs.Opens.{index_within}
 
 -- ---- what the tests say

@@ -1,5 +1,5 @@
 -- The place of an entry among those of rising timestamps.
-use Rattle.std.proofs.Common.{◌≡◌, ℕ, zero, suc, ◌<◌, ◌≤◌, Bool, true, false, if◌then◌else◌, nat_le, nat_lt, insert, List, [], ◌∷◌, length, get_or, refl, sym, ap, ◌∙◌, arith}
+use Rattle.std.proofs.Common.{◌≡◌, ℕ, zero, suc, ◌<◌, ◌≤◌, Bool, true, false, if◌then◌else◌, nat_le, nat_lt, insert, List, [], ◌∷◌, length, get_or, refl, ap, arith}
 use Rattle.std.specs.List.Sorted.{IsNonDecreasingBy, IsPartitionPoint}
 use Rattle.mv_chain.proofs.Places.{AtMost, within, above, at_most}
 use Rattle.mv_history.proofs.Lists.{Compared, less, not_less, compared}

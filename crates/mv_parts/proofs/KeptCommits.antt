@@ -1,5 +1,5 @@
 -- What a journal keeps over a commit.
-use Rattle.std.proofs.Common.{◌≡◌, ◌≢◌, ℕ, suc, ◌+◌, ◌-◌, ◌<◌, ◌≤◌, max, Bool, true, false, cond, if◌then◌else◌, not, ◌==◌, nat_lt, List, [], ◌∷◌, length, Option, None, Some, get_or, refl, sym, ap, ◌∙◌, subst, arith}
+use Rattle.std.proofs.Common.{◌≡◌, ◌≢◌, ℕ, suc, ◌+◌, ◌-◌, ◌<◌, ◌≤◌, Bool, true, false, if◌then◌else◌, ◌==◌, List, [], ◌∷◌, length, Some, get_or, refl, sym, ap, ◌∙◌, subst, arith}
 use Rattle.std.specs.Prelude.{set, option_map, IsSome}
 use Rattle.std.specs.Map.{keys_of, remove_entry}
 use Rattle.std.specs.BTreeMap.{is_at}
@@ -12,40 +12,32 @@ use Rattle.avm_ledger.specs.Ledgers.{Ledger}
 use Rattle.avm_items.specs.declared.call_data.CallData.{CallData}
 use Rattle.avm_items.specs.declared.item.Item.{Item}
 use Rattle.avm_items.specs.declared.item_value.ItemValue.{ItemValue}
-use Rattle.avm_items.specs.Items.{ItemMap, Look}
+use Rattle.avm_items.specs.Items.{ItemMap}
 use Rattle.avm_items.specs.LedgerItems.{at}
-use Rattle.avm_items.specs.SameValues.{is_same_value}
 use Rattle.avm_call.specs.declared.outcome.Outcome.{Outcome}
 use Rattle.avm_run.specs.Results.{CallRecord, IsFinished}
 use Rattle.avm_laws.specs.LedgerLooks.{IsOfLedger}
-use Rattle.mv_chain.specs.declared.Late.{Late as LateVersion}
-use Rattle.mv_chain.specs.declared.Version.{Version}
-use Rattle.mv_chain.specs.Versions.{lateness, mark_in, newest_at}
+use Rattle.mv_chain.specs.Versions.{newest_at}
 use Rattle.mv_history.specs.Facts.{IsCheckedCommit}
 use Rattle.mv_history.specs.History.{Agrees, commit_count, entries_with, state_below, version_below}
-use Rattle.mv_history.specs.World.{IsInTime, after_commit, attempt_at, attempts_without, live_count}
-use Rattle.mv_history.proofs.Attempts.{all_without, commit_count-entries_with, found_attempt, live_count-ended}
-use Rattle.mv_history.proofs.Lists.{Compared, less, not_less, compared, Equals, equal, unequal, equals}
+use Rattle.mv_history.specs.World.{after_commit, attempt_at, attempts_without}
+use Rattle.mv_history.proofs.Attempts.{all_without, commit_count-entries_with, found_attempt}
+use Rattle.mv_history.proofs.Lists.{Equals, equal, unequal, equals}
 use Rattle.mv_history.proofs.Versions.{all_with}
-use Rattle.mv_agreement.specs.Stores.{HoldEntries, IsStore, after_entry, marks_of}
+use Rattle.mv_agreement.specs.Stores.{IsStore, after_entry, marks_of}
 use Rattle.mv_agreement.proofs.Agreements.{every_write_follows_the_version_below_lem, no_version_is_at_a_fresh_timestamp_lem}
 use Rattle.mv_agreement.proofs.Stores.{every_commit_leaves_a_store_lem}
 use Rattle.mv_calls.specs.CallHistory.{CallAttempt, CallEntry, call_of, meaning_of, same_item}
 use Rattle.mv_calls.specs.Laws.{entry_of}
-use Rattle.mv_calls.specs.SerialCalls.{AreOfCalls}
 use Rattle.mv_calls.proofs.Histories.{finished_calls_are_entries}
 use Rattle.mv_calls.proofs.SerialCalls.{items_have_an_equality}
-use Rattle.mv_shards.specs.Indexes.{shard_count, shard_of}
-use Rattle.mv_shards.specs.Helds.{AreHeld, IsHeld, Places, shard_for}
-use Rattle.mv_shards.specs.Shards.{Shard}
-use Rattle.mv_shards.specs.Writing.{AreAbsent, AreLow, AreWritten, CanTake, IsLowAt, IsWrittenPlace, NoneForeign, committed_versions, versions_for, versions_or_none}
+use Rattle.mv_shards.specs.Helds.{AreHeld, Places}
+use Rattle.mv_shards.specs.Writing.{AreAbsent, AreLow, AreWritten, CanTake, committed_versions, versions_for}
 use Rattle.mv_shards.proofs.Foreign.{absent_all, low_all}
 use Rattle.mv_parts.specs.declared.call_state.CallState.{CallState}
-use Rattle.mv_parts.specs.declared.call_state.CallState.TheVariants.{Idle, Live, Committed}
-use Rattle.mv_parts.specs.declared.commit_fault.CommitFault.{CommitFault}
-use Rattle.mv_parts.specs.declared.commit_fault.CommitFault.TheVariants as fault
-use Rattle.mv_parts.specs.Journals.{AreAllOver, AreLiveCalls, HasStates, IsKept, IsOfNumber, IsOver, Journal, journal_of, live_of, live_state, state_in}
-use Rattle.mv_parts.specs.Commits.{AreCovered, IsCommitted, IsOwnCall, MayCommit, MayWrite, late_or, late_write, lateness_in, lateness_of, later, moved_item, no_version, state_for}
+use Rattle.mv_parts.specs.declared.call_state.CallState.TheVariants.{Idle, Committed}
+use Rattle.mv_parts.specs.Journals.{AreLiveCalls, HasStates, IsKept, Journal, journal_of, live_of, live_state, state_in}
+use Rattle.mv_parts.specs.Commits.{AreCovered, IsCommitted, MayCommit, moved_item, no_version, state_for}
 use Rattle.avm_laws.proofs.Pruned.{same_value}
 use Rattle.mv_parts.proofs.Abandons.{attempt_found, listed, live_removed, number_found, other_state}
 use Rattle.mv_parts.proofs.Commits.{all_held, held_all, low_over, none_late, over_written, unmoved_agrees, versions_written}

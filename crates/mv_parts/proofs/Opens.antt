@@ -1,5 +1,5 @@
 -- A journal of which no call has begun.
-use Rattle.std.proofs.Common.{◌≡◌, ℕ, ◌+◌, ◌<◌, ◌≤◌, nat_lt, zero, suc, Bool, true, false, if◌then◌else◌, ◌==◌, Option, None, Some, List, [], ◌∷◌, ◌++◌, length, refl, sym, ap, ◌∙◌, subst, arith, get_or, length-append, replicate}
+use Rattle.std.proofs.Common.{◌≡◌, ℕ, ◌+◌, ◌<◌, ◌≤◌, nat_lt, zero, suc, Bool, true, false, if◌then◌else◌, ◌==◌, Option, None, Some, List, [], length, refl, sym, ap, ◌∙◌, subst, arith, get_or, replicate}
 use Rattle.std.specs.Prelude.{set}
 use Rattle.std.proofs.lemmas.List.{get_or-set_same, get_or-set_other, length-set}
 use Rattle.mv_shards.proofs.Foreign.{beyond}
@@ -10,12 +10,11 @@ use Rattle.avm_items.specs.declared.item.Item.{Item}
 use Rattle.avm_items.specs.declared.item_value.ItemValue.{ItemValue}
 use Rattle.avm_items.specs.LedgerItems.{at}
 use Rattle.avm_call.specs.declared.outcome.Outcome.{Outcome}
-use Rattle.avm_laws.specs.LedgerLooks.{IsOfLedger}
 use Rattle.mv_history.proofs.Events.{schedule_first}
 use Rattle.mv_history.proofs.Lists.{Compared, less, not_less, compared, Equals, equal, unequal, equals}
-use Rattle.mv_agreement.specs.Stores.{IsStore, marks_of}
+use Rattle.mv_agreement.specs.Stores.{marks_of}
 use Rattle.mv_agreement.proofs.Agreements.{every_first_version_agrees_lem}
-use Rattle.mv_calls.specs.CallHistory.{CallEntry, meaning_of, same_item}
+use Rattle.mv_calls.specs.CallHistory.{CallEntry, same_item}
 use Rattle.avm_items.specs.declared.item.Item.TheVariants as item
 use Rattle.mv_agreement.specs.Agreement.{HoldsVersions}
 use Rattle.mv_chain.specs.Versions.{mark_in}

@@ -1,5 +1,5 @@
 -- Of which calls a journal is opened.
-use Rattle.std.specs.Prelude.{◌≡◌, ℕ, zero, suc, ◌∷◌, ◌<◌, nat_lt, if◌then◌else◌, List, [], length, get_or, Option, None, Some, option_map}
+use Rattle.std.specs.Prelude.{◌≡◌, ℕ, zero, suc, ◌∷◌, nat_lt, if◌then◌else◌, List, [], length, Option, None, Some, option_map}
 use Rattle.teal_value.specs.declared.failure.Failure.{Failure}
 use Rattle.teal_value.specs.declared.failure.Failure.TheVariants as failure
 use Rattle.avm_ledger.specs.declared.header.Header.{Header}

@@ -30,7 +30,7 @@ use Rattle.teal_source.specs.Statements.{Words, on_line, on_text, words_of_lines
 use Rattle.teal_asm.specs.Thinned.{command_count}
 use Rattle.teal_asm.specs.Meaning.{Meant, Straight, Branch, Meaning, commands_in, label_entry, labels_from, label_number, uint_block, byte_block, gathered_blocks, read_uint_constant, read_byte_constant, branch, instruction, optional_instruction, instructions, all_instructions, meaning_of_lines, meaning}
 use Rattle.teal_asm.specs.Program.{total_size, instruction_spelling, spelling, program, short_program, line_count, assembled}
-use Rattle.teal_laws.specs.Listed.{AreUints, HasShape, IsOf}
+use Rattle.teal_laws.specs.Listed.{AreUints, HasShape}
 use Rattle.teal_laws.specs.Listed as listed
 use Rattle.teal_laws.specs.ListedMeaning.{IsNoOffset, program_meaning, IsMeant, AreMeant}
 use Rattle.teal_laws.specs.TextCost.{meant_cost}

@@ -1,5 +1,4 @@
 -- A row of the program, without where its texts and lists lie in memory.
-use Rattle.std.specs.Prelude.{ℕ}
 use Rattle.teal_table.specs.declared.entry.Row.{Row as Kept}
 use Rattle.teal_table.specs.Table.{Row}
 

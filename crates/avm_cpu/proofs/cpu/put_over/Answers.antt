@@ -1,4 +1,4 @@
-use Rattle.std.proofs.Common.{◌≡◌, ◌-◌, ◌+◌, ap, ◌∙◌, length, set, take}
+use Rattle.std.proofs.Common.{◌-◌, ◌+◌, ap, ◌∙◌, length, set, take}
 use Rattle.std.specs.Prelude.{reverse}
 use Rattle.std.specs.List.{refill}
 use Rattle.std.proofs.lemmas.List.{length-set}

@@ -1,4 +1,4 @@
-use Rattle.std.proofs.Common.{◌∙◌, sym, arith, refl}
+use Rattle.std.proofs.Common.{arith, refl}
 use Rattle.avm_items.proofs.SameItems.{lists_alike, next_alike}
 use Rattle.avm_items.proofs.item_map.are_same_entries.Goals as goal
 

@@ -1,6 +1,5 @@
 use Rattle.std.proofs.Common.{Some, refl, sym, ap, ◌∙◌, subst}
 use Rattle.avm_items.specs.Environments.{Environment}
-use Rattle.avm_run.specs.declared.running.Running.{Running}
 use Rattle.avm_run.specs.Standing.{AsksThere, BeginsRun, EndsThere, StopsWithin}
 use Rattle.avm_run.proofs.Leading.{too_many_steps, stops_there, asks_behind, closes, ends_after, ends_run}
 use Rattle.avm_run.proofs.phase.run_program.Goals as goal

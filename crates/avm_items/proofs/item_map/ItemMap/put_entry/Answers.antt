@@ -1,5 +1,5 @@
-use Rattle.std.proofs.Common.{subst, ap, sym}
-use Rattle.std.proofs.lemmas.Result.{IfOk-weaker, on_err_weaker}
+use Rattle.std.proofs.Common.{subst}
+use Rattle.std.proofs.lemmas.Result.{IfOk-weaker}
 use Rattle.avm_ledger.specs.Entries.{with_entry}
 use Rattle.sorted_entries.specs.Places.{StandsAt}
 use Rattle.avm_items.specs.Items.{item_cmp}

@@ -1,4 +1,4 @@
-use Rattle.std.proofs.Common.{◌≡◌, ◌+◌, arith, sym, ap, subst, length, ◌∙◌}
+use Rattle.std.proofs.Common.{◌+◌, arith, sym, ap, subst, length, ◌∙◌}
 use Rattle.avm_ledger.specs.Entries.{IsInKeyOrder}
 use Rattle.avm_ledger.specs.Schemas.{IsCounted, uncounted}
 use Rattle.avm_ledger.proofs.Changes.{byte_total}

@@ -1,4 +1,4 @@
-use Rattle.std.proofs.Common.{◌≡◌, ◌∙◌, None, Some, get_or, set, sym, ap, subst}
+use Rattle.std.proofs.Common.{None, Some, subst}
 use Rattle.mv_core.specs.Places.{IsNowhere, IsPlaced}
 use Rattle.mv_core.proofs.Calls.{store_abandoned_at, store_nowhere, store_placed}
 use Rattle.mv_core.proofs.store.Store.abandon.Goals as goal

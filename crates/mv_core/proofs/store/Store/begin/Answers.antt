@@ -1,5 +1,5 @@
 use Rattle.std.proofs.Common.{◌∙◌}
-use Rattle.mv_core.proofs.Calls.{begun_within, refusal_shown, same_fault, store_begun}
+use Rattle.mv_core.proofs.Calls.{refusal_shown, same_fault, store_begun}
 use Rattle.mv_core.proofs.store.Store.begin.Goals as goal
 
 pub invariant_of-self : goal.invariant_of-self

@@ -1,4 +1,4 @@
-use Rattle.std.proofs.Common.{◌≡◌, refl, subst}
+use Rattle.std.proofs.Common.{subst}
 use Rattle.mv_core.specs.Places.{IsNowhere, IsPlaced}
 use Rattle.mv_core.proofs.Calls.{store_nowhere}
 use Rattle.mv_core.proofs.CommitCalls.{error_known, same_parts, store_committed, store_refused}

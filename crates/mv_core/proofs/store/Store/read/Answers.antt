@@ -1,4 +1,4 @@
-use Rattle.std.proofs.Common.{◌≡◌, ◌∙◌, Err, None, Some, get_or, refl, ap, subst}
+use Rattle.std.proofs.Common.{◌∙◌, Err, None, Some, refl, ap, subst}
 use Rattle.teal_value.specs.declared.failure.Failure.TheVariants.{Fault}
 use Rattle.mv_core.specs.Places.{IsNowhere, IsPlaced}
 use Rattle.mv_core.proofs.Calls.{only_pruned, store_never_pruned, store_nowhere, store_placed, store_read, store_same}
