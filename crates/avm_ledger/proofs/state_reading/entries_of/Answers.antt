@@ -6,7 +6,7 @@ use Rattle.avm_ledger.proofs.state_reading.entries_of.Goals as goal
 
 pub returns-in_err-bytes : goal.returns-in_err-bytes
 returns-in_err-bytes c =
-    let p = err_from_is_err_and c.from_residual.result c.from_residual.ensures.1 in
+    let p = err_from_is_err_and c.from_residual-in_err-bytes.result c.from_residual-in_err-bytes.ensures.1 in
     rw (p.1, p.2) (no_key c.loop.state _ c.loop.left (c.args.count - c.loop.counter) c.loop.rest c.in_err-bytes.field-0.0 _ c.loop.invariant c.in_err-bytes.ensures (omega arith))
 
 pub returns-in_err-value : goal.returns-in_err-value

@@ -1,0 +1,9 @@
+use Rattle.std.proofs.Common.{subst, sym}
+use Rattle.avm_ledger.specs.Entries.{IsInKeyOrder}
+use Rattle.avm_ledger.specs.Schemas.{IsCounted, no_entries}
+use Rattle.avm_ledger.proofs.Counts.{none_counted}
+use Rattle.avm_ledger.proofs.state.State.with_room.Goals as goal
+
+pub invariant_of-result : goal.invariant_of-result
+invariant_of-result c =
+    rw c.none.ensures (subst (λ es. IsCounted es no_entries × IsInKeyOrder es) (sym c.in_ok-with_capacity.ensures.items) none_counted)
