@@ -1,5 +1,6 @@
 -- The first of an input's lines, and those behind it.
-use Rattle.std.proofs.Common.{◌≡◌, ◌∙◌, ap, ℕ, ◌+◌, ◌<◌, Bool, true, false, eqb, List, [], ◌∷◌, length, take, drop, length-drop, refl, not, arith, inl, inr}
+use Rattle.std.proofs.Common.{◌≡◌, ◌∙◌, ap, ℕ, ◌+◌, ◌<◌, Bool, true, false, eqb, List, [], ◌∷◌, length, take, drop, length-drop, Some, None, Result, Ok, Err, refl, not, arith, inl, inr}
+use Rattle.std.specs.Result.{result_ok}
 use Rattle.std.specs.List.{list_all, slice_split}
 use Rattle.std.specs.Str.Lines.{lines, lines_of_parts, strip_carriage_return}
 use Rattle.std.proofs.lemmas.List.{drop_all, nil_from_length}
@@ -11,7 +12,9 @@ use Rattle.std.proofs.lemmas.Bool.Decides.{nat_tests}
 use Rattle.teal_text.specs.Tokens.{is_blank}
 use Rattle.teal_text.specs.Lines.{is_line_feed, line_len, line_text}
 use Rattle.teal_text.proofs.LineReading.{has_first, line_text_before, line_text_whole, not_false}
-use Rattle.avm_node.specs.DigitLines.{lines_after}
+use Rattle.hex.specs.declared.error.FromHexError.{FromHexError}
+use Rattle.avm_node.specs.DigitLines.{lines_after, on_digits}
+use Rattle.avm_node.specs.declared.refusal.Refusal.TheVariants as refusal
 
 abbrev behind : List ℕ → List ℕ
 behind bytes = drop (line_len bytes + 1) bytes
@@ -60,3 +63,12 @@ none_left before bytes e = let none : bytes ≡ [] = nil_from_length bytes (eqb-
 
 pub some_bytes : (bytes : List ℕ) (none : Bool) → none ≡ eqb (length bytes) 0 → none ≡ false → 0 < length bytes
 some_bytes bytes none e f = grind (arith, nat_tests)
+
+-- a line's bytes, or its refusal, by what was read
+pub line_read : (number : ℕ) (meant : Result (List ℕ) FromHexError) (bytes : List ℕ) → Some bytes ≡ result_ok meant → on_digits number meant ≡ Ok bytes
+line_read number (Ok read) bytes e = cc
+line_read number (Err why) bytes e = absurd cc
+
+pub line_refused : (number : ℕ) (meant : Result (List ℕ) FromHexError) → None ≡ result_ok meant → on_digits number meant ≡ Err (refusal.Hex number)
+line_refused number (Ok read) e = absurd cc
+line_refused number (Err why) e = refl

@@ -1,8 +1,5 @@
-pub mod CommandNames
-pub mod NumberTexts
 pub mod Replies
 pub mod DigitLines
-pub mod ReadPairs
 pub mod CallsReading
 pub mod PoolAnswers
 pub mod StepsMade

@@ -8,7 +8,7 @@ use Rattle.avm_ledger.specs.declared.header.Profile.{Profile}
 use Rattle.avm_ledger.specs.declared.header.Profile.TheVariants as profile
 use Rattle.avm_items.specs.declared.call_data.CallData.{CallData}
 use Rattle.avm_call.specs.CallRules.{needed_profile}
-use Rattle.avm_block.specs.AcceptedCalls.{is_within}
+use Rattle.avm_block.specs.AcceptedCalls.{fits_in}
 use Rattle.avm_ops.specs.Objects.{IsFull, IsLeastMissing, Slots}
 use Rattle.avm_replay.specs.Plain.{first_beyond}
 use Rattle.avm_pool.specs.declared.pool_fault.PoolFault.{PoolFault}
@@ -17,7 +17,7 @@ use Rattle.avm_pool.specs.Refusals.{AreFull, HasWorkers, IsFirstMissing, IsRefus
 use Rattle.avm_node.specs.ProposeCommands.{IsPoolFault, most_calls}
 use Rattle.avm_node.specs.WorkerSets.{AreWorkerSets}
 
-within_three : (needed : Profile) → is_within needed profile.Three ≡ true
+within_three : (needed : Profile) → fits_in needed profile.Three ≡ true
 within_three profile.Two = refl
 within_three profile.Three = refl
 

@@ -6,8 +6,8 @@ use Rattle.hex.specs.Hex.{encode_lower}
 use Rattle.teal_source.specs.declared.fault.AsmFault.{AsmFault}
 use Rattle.teal_source.specs.FaultNames.{asm_fault_name}
 use Rattle.teal_asm.specs.Program.{assembled}
-use Rattle.avm_node.specs.declared.command_line.NodeCommand.{NodeCommand}
-use Rattle.avm_node.specs.declared.command_line.NodeCommand.TheVariants.{Asm, Check, Debug, Dis, Propose, Replay, State}
+use Rattle.avm_words.specs.declared.command_line.NodeCommand.{NodeCommand}
+use Rattle.avm_words.specs.declared.command_line.NodeCommand.TheVariants.{Asm, Check, Debug, Dis, Propose, Replay, State}
 use Rattle.avm_node.specs.Replies.{Reply, done, failed, input_refusal, refused, usage_reply}
 use Rattle.avm_node.specs.Programs.{check_reply, dis_reply}
 use Rattle.avm_node.specs.BlockCommands.{IsReplayReply, state_reply}

@@ -15,7 +15,7 @@ use Rattle.avm_replay.specs.declared.verdict.Verdict.{Verdict}
 use Rattle.avm_replay.specs.declared.verdict.Verdict.TheVariants as verdict
 use Rattle.avm_replay.specs.declared.past.StateFault.TheVariants as state_fault
 use Rattle.avm_replay.specs.Verdicts.{Judges}
-use Rattle.avm_replay.specs.Past.{ledger_at}
+use Rattle.avm_replay.specs.Past.{ledger_until}
 use Rattle.avm_node.specs.declared.refusal.Refusal.{Refusal}
 use Rattle.avm_node.specs.declared.refusal.Refusal.TheVariants as refusal
 use Rattle.avm_node.specs.Outcomes.{outcome_text}
@@ -72,7 +72,7 @@ IsReplayReply input reply = IsVerdictReply (ledger_and_block (digit_lines input)
 -- the ledger at a timestamp, unless the block stands over another
 abbrev pub past_of : ℕ → Ledger × Block → Result Ledger Refusal
 past_of timestamp input =
-    if are_same_bytes input.1.base (ledger_digest input.0) then Ok (ledger_at input.0 input.1 timestamp) else Err (refusal.State state_fault.WrongBase)
+    if are_same_bytes input.1.base (ledger_digest input.0) then Ok (ledger_until input.0 input.1 timestamp) else Err (refusal.State state_fault.WrongBase)
 
 -- the ledger at a timestamp, of an input
 abbrev pub past_ledger : ℕ → List ℕ → Result Ledger Refusal

@@ -1,7 +1,5 @@
-pub mod CommandLine
 pub mod Replies
 pub mod DigitLines
-pub mod DigitPairs
 pub mod Lines
 pub mod Refusals
 pub mod Programs

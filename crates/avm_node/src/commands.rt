@@ -3,18 +3,18 @@
 ghost use Rattle.std.specs.Prelude.{◌≡◌, IfOk, IfSome, IsSome, None, Some, map};
 ghost use Rattle.avm_node.specs.Answers.{Answers, IsCommandReply, IsReply};
 ghost use Rattle.avm_ops.specs.Objects.{IsFull};
-ghost use Rattle.avm_node.specs.CommandLine.{command_in, workers_of};
+ghost use Rattle.avm_words.specs.CommandLine.{command_in, workers_of};
 ghost use Rattle.avm_node.specs.Replies.{failed};
 ghost use Rattle.avm_node.specs.Shown.{shown};
 
 use crate::asm::{asm_reply, input_refusal};
 use crate::block_commands::{replay_reply, state_reply};
-use crate::command_line::{NodeCommand, command_in, workers_of};
 use crate::debug_command::debug_reply;
 use crate::input::{INPUT_LIMIT, read_input};
 use crate::output::{FAILED, Reply, USAGE, write_reply};
 use crate::programs::{check_reply, dis_reply};
 use avm_ops::{BoxedOp, Op, OpSet};
+use avm_words::{NodeCommand, command_in, workers_of};
 use std::alloc::{AllocError, Global};
 use std::io::{self, Read, Write};
 

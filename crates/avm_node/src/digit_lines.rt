@@ -9,8 +9,8 @@ ghost use Rattle.teal_text.specs.Tokens.{is_blank};
 ghost use Rattle.avm_node.specs.DigitLines.{bytes_of, digit_lines, first_bytes, with_no_line};
 ghost use Rattle.avm_node.specs.Lines.{IsTaken};
 
-use crate::digits::decode_digits;
 use crate::refusal::Refusal;
+use hex_digits::decode_digits;
 use std::alloc::Global;
 use std::marker::Model;
 use teal_text::first_line;
@@ -105,7 +105,7 @@ fn is_blank(byte: u8) -> bool
     byte == b' ' || byte == b'\t'
 }
 
-#[tactic(auto, using(crate::proofs::ReadPairs::line_read, crate::proofs::ReadPairs::line_refused))]
+#[tactic(auto, using(crate::proofs::DigitLines::line_read, crate::proofs::DigitLines::line_refused))]
 fn bytes_of(alloc: Global, number: usize, digits: &[u8]) -> Result<Vec<u8>, Failure<Refusal>>
     ensures { Gives (λ bytes. bytes.items) result (bytes_of (record { number = number; digits = digits.now })) }
 {

@@ -2,18 +2,18 @@
 
 ghost use Rattle.std.specs.Prelude.{◌≡◌, IfOk, None, map};
 ghost use Rattle.avm_node.specs.Answers.{Answers, IsReply};
-ghost use Rattle.avm_node.specs.CommandLine.{command_in};
-ghost use Rattle.avm_node.specs.declared.command_line.NodeCommand.TheVariants.{Propose};
+ghost use Rattle.avm_words.specs.CommandLine.{command_in};
+ghost use Rattle.avm_words.specs.declared.command_line.NodeCommand.TheVariants.{Propose};
 ghost use Rattle.avm_node.specs.Shown.{shown};
 ghost use Rattle.avm_node.specs.WorkerSets.{AreSets, AreWorkerSets};
 
 use crate::asm::input_refusal;
-use crate::command_line::{command_in, workers_of};
 use crate::commands::answer_to;
 use crate::input::{INPUT_LIMIT, read_input};
 use crate::output::{FAILED, Reply, write_reply};
 use crate::propose_command::propose_reply;
 use avm_ops::{BoxedOp, Op, OpSet};
+use avm_words::{command_in, workers_of};
 use std::alloc::Global;
 use std::io::{self, Read, Write};
 use std::sync::Wait;

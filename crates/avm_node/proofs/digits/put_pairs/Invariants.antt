@@ -1,5 +1,0 @@
-use Rattle.avm_node.specs.DigitPairs.{AreWritten}
-use Rattle.avm_node.proofs.digits.put_pairs.Given as goal
-
-abbrev pub invariant-pairs : goal.invariant-pairs
-invariant-pairs l = AreWritten l.numbers l.fn.bytes l.bytes l.start l.i
