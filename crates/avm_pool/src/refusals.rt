@@ -1,15 +1,15 @@
 //! What is tested before any thread starts.
 
-ghost use Rattle.std.specs.Prelude.{◌≡◌, ◌≤◌, ◌<◌, All, IfNone, IfSome, length};
+ghost use Rattle.std.specs.Prelude.{IfNone, IfSome};
 ghost use Rattle.avm_ops.specs.Objects.{IsFull};
-ghost use Rattle.avm_replay.specs.Plain.{first_beyond};
 ghost use Rattle.avm_pool.specs.Refusals.{AreFull, IsFirstMissing, IsTestRefusal, MayPropose};
 
 use crate::pool_fault::PoolFault;
-use avm_block::{MAX_ENTRIES, accepts};
+use avm_block::MAX_ENTRIES;
 use avm_call::Call;
-use avm_ledger::{Header, Profile};
+use avm_ledger::Header;
 use avm_ops::{BoxedOp, Op, OpSet};
+use avm_replay::first_beyond;
 
 /// How many workers there are at most.
 const MOST_WORKERS: usize = 8;
@@ -48,19 +48,4 @@ fn missing(sets: &[OpSet], own: &OpSet) -> Option<u8>
             None => missing(sets, own),
         },
     }
-}
-
-/// The number of the first call that needs a newer profile.
-fn first_beyond(profile: Profile, calls: &[Call]) -> Option<u32>
-    requires { length calls.now ≤ MAX_ENTRIES }
-    ensures { result ≡ first_beyond profile 1 calls.now }
-{
-    let mut number = 0;
-    for call in calls {
-        number += 1;
-        if !accepts(profile, call) {
-            return Some(number);
-        }
-    }
-    None
 }

@@ -6,7 +6,7 @@ ghost use Rattle.avm_ledger.specs.Spellings.{ledger_digest};
 ghost use Rattle.avm_call.specs.Replay.{replayed};
 ghost use Rattle.avm_block.specs.Blocks.{RisesAbove, calls_in};
 ghost use Rattle.avm_replay.specs.FaultNames.{state_fault_name};
-ghost use Rattle.avm_replay.specs.Past.{IsRefused, entries_until, ledger_at};
+ghost use Rattle.avm_replay.specs.Past.{IsRefused, entries_until, ledger_until};
 
 use crate::base::Base;
 use avm_block::{Block, Entry};
@@ -49,7 +49,7 @@ pub fn state_at(
 ) -> Result<Ledger, StateError>
     requires full { IsFull ⟦<BoxedOp as Op>⟧.opcode ops.now }
     ensures base { IfOk result (λ _. block.now.base ≡ ledger_digest ledger.now) }
-    ensures state { IfOk result (λ after. after ≡ ledger_at ledger.now block.now timestamp) }
+    ensures state { IfOk result (λ after. after ≡ ledger_until ledger.now block.now timestamp) }
     ensures refused { IfErr result (IsRefused ledger.now block.now) }
 {
     let copy = ledger.clone()?;
@@ -67,7 +67,7 @@ pub fn state_at_owned(
 ) -> Result<Ledger, StateError>
     requires full { IsFull ⟦<BoxedOp as Op>⟧.opcode ops.now }
     ensures base { IfOk result (λ _. block.now.base ≡ ledger_digest base) }
-    ensures state { IfOk result (λ after. after ≡ ledger_at base block.now timestamp) }
+    ensures state { IfOk result (λ after. after ≡ ledger_until base block.now timestamp) }
     ensures refused { IfErr result (IsRefused base block.now) }
 {
     if *base.digest() != *block.base() {

@@ -22,7 +22,7 @@ pub enum PlainBlockFault {
     /// There are more than a block has entries.
     TooMany,
     /// The call of this number, counted from 1, needs a newer profile than the header's.
-    Profile { number: usize },
+    Profile { number: u32 },
 }
 
 impl PlainBlockFault {
@@ -66,8 +66,8 @@ pub fn plain_block(
     Ok(Block::new(base, *header, entries, digest))
 }
 
-/// The number of the first call that a block of the profile may not have.
-fn first_beyond(profile: Profile, calls: &[Call]) -> Option<usize>
+/// The number, counted from 1, of the first call that a block of the profile may not have, since it needs a newer one.
+pub fn first_beyond(profile: Profile, calls: &[Call]) -> Option<u32>
     requires few { length calls.now ≤ MAX_ENTRIES }
     ensures beyond { result ≡ first_beyond profile 1 calls.now }
     ensures accepted { result ≡ None → All (λ call. is_accepted profile call ≡ true) calls.now }
