@@ -14,7 +14,7 @@ use avm_ledger::{Ledger, Profile, Schema};
 use avm_ops::{BoxedOp, Op, OpSet, Ops};
 use avm_replay::{PlainBlockFault, StateFault, Verdict, plain_block, replay, state_at};
 use avm_state_ops::StateOp;
-use sample_calls::bare::{NO_ENTRY, checked, fields, header};
+use sample_calls::bare::{NO_ENTRY, call, header};
 use sample_calls::full_set;
 use sample_calls::rows::ledger_of;
 use std::alloc::Global;
@@ -47,21 +47,8 @@ fn block_of(alloc: Global, digits: &str) -> Result<Block, Fail> {
     Ok(decode(alloc, hex::decode(alloc, digits)?.as_slice())?)
 }
 
-/// A call by the zero address; the programs and the schema of each state are those of a creation.
-fn call_of(
-    alloc: Global,
-    application: u64,
-    completion: Completion,
-    approval: &str,
-    clear: &str,
-    schema: Schema,
-) -> Result<Call, Fail> {
-    let fields = fields(alloc, application, completion, approval, clear, schema)?;
-    checked(alloc, fields)
-}
-
 fn creation_of(alloc: Global, program: &str) -> Result<Call, Fail> {
-    call_of(alloc, 0, Completion::NoOp, program, program, NO_ENTRY)
+    call(alloc, 0, Completion::NoOp, program, program, NO_ENTRY)
 }
 
 /// A block of these calls over the empty ledger.
@@ -291,7 +278,7 @@ const ERRED: Outcome = Outcome::ClearedAnyway(Cause::Faulted(Fault::Err, 11));
 fn calls_of_cases(alloc: Global) -> Result<Vec<Call>, Fail> {
     let mut calls = Vec::new(alloc);
     for (application, completion, approval, clear, schema, _outcome) in CASES {
-        calls.push(call_of(alloc, application, completion, approval, clear, schema)?)?;
+        calls.push(call(alloc, application, completion, approval, clear, schema)?)?;
     }
     Ok(calls)
 }

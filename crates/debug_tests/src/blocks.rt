@@ -8,7 +8,7 @@ use avm_items::Completion;
 use avm_ledger::{Ledger, Profile, Schema};
 use avm_ops::{BoxedOp, Op, OpSet};
 use avm_replay::plain_block;
-use sample_calls::bare::{NO_ENTRY, checked, fields, header};
+use sample_calls::bare::{NO_ENTRY, call, header};
 use std::alloc::Global;
 use std::test::Fail;
 
@@ -24,19 +24,6 @@ pub(crate) struct Programs {
     pub(crate) clear: &'static str,
 }
 
-/// A call by the zero address; the programs and the schema of each state are those of a creation.
-fn call_of(
-    alloc: Global,
-    application: u64,
-    completion: Completion,
-    approval: &str,
-    clear: &str,
-    schema: Schema,
-) -> Result<Call, Fail> {
-    let fields = fields(alloc, application, completion, approval, clear, schema)?;
-    checked(alloc, fields)
-}
-
 /// The block of a creation of this program, and a call of what it makes.
 pub(crate) fn block_of(
     alloc: Global,
@@ -48,8 +35,8 @@ pub(crate) fn block_of(
     requires full { IsFull ⟦<BoxedOp as Op>⟧.opcode ops.now }
 {
     let mut calls = Vec::new(alloc);
-    calls.push(call_of(alloc, 0, Completion::NoOp, program, program, ONE_UINT)?)?;
-    calls.push(call_of(alloc, application, completion, "", "", NO_ENTRY)?)?;
+    calls.push(call(alloc, 0, Completion::NoOp, program, program, ONE_UINT)?)?;
+    calls.push(call(alloc, application, completion, "", "", NO_ENTRY)?)?;
     let ledger = Ledger::new(alloc);
     match plain_block(alloc, &ledger, &header(Profile::Two), calls, ops) {
         Ok(block) => Ok(block),
@@ -63,7 +50,7 @@ fn later_call(alloc: Global, completion: Completion) -> Result<Call, Fail> {
         Completion::UpdateApplication => "0220010722",
         _ => "",
     };
-    call_of(alloc, 1, completion, brought, brought, NO_ENTRY)
+    call(alloc, 1, completion, brought, brought, NO_ENTRY)
 }
 
 /// The block of a creation of these programs, and calls of what it makes with these completions.
@@ -81,7 +68,7 @@ pub(crate) fn block_of_calls(
         clear,
     } = *programs;
     let mut calls = Vec::new(alloc);
-    calls.push(call_of(alloc, 0, Completion::NoOp, approval, clear, TWO_UINTS)?)?;
+    calls.push(call(alloc, 0, Completion::NoOp, approval, clear, TWO_UINTS)?)?;
     for completion in completions {
         calls.push(later_call(alloc, *completion)?)?;
     }

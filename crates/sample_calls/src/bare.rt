@@ -58,6 +58,19 @@ pub fn fields(
     })
 }
 
+/// A call of such fields.
+pub fn call(
+    alloc: Global,
+    application: u64,
+    completion: Completion,
+    approval: &str,
+    clear: &str,
+    schema: Schema,
+) -> Result<Call, Fail> {
+    let fields = fields(alloc, application, completion, approval, clear, schema)?;
+    checked(alloc, fields)
+}
+
 /// The fields as a call.
 pub fn checked(alloc: Global, fields: CallData) -> Result<Call, Fail> {
     match Call::check(alloc, fields) {

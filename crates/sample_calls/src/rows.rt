@@ -2,9 +2,9 @@
 
 ghost use Rattle.std.specs.Prelude.{IfOk};
 
-use crate::bare::checked;
+use crate::bare::{checked, fields};
 use avm_call::Call;
-use avm_items::{Addresses, CallData, Completion};
+use avm_items::{Addresses, Completion};
 use avm_ledger::{Header, Ledger, Profile, Schema};
 use std::alloc::Global;
 use std::test::Fail;
@@ -52,34 +52,25 @@ fn arguments_of(alloc: Global, count: usize) -> Result<ByteStrings, Fail> {
     Ok(ByteStrings::from_vec(arguments))
 }
 
-fn program_of(alloc: Global, row: &Row) -> Result<ByteString, Fail> {
-    Ok(ByteString::from_vec(hex::decode(alloc, row.program)?))
-}
-
 /// The call of a row.
 pub fn call_of(alloc: Global, row: &Row) -> Result<Call, Fail> {
     let schema = Schema {
         uints: row.uints,
         bytes: 0,
     };
-    let fields = CallData {
-        sender: row.sender,
-        fee: 0,
-        first_valid: 0,
-        last_valid: 0,
-        note: ByteString::new(),
-        lease: [0; 32],
-        rekey_to: Address([0; 32]),
-        application: row.application,
-        completion: row.completion,
-        arguments: arguments_of(alloc, row.arguments)?,
-        accounts: Addresses::from_vec(vec![in alloc; row.account]?),
-        foreign_applications: Uints::from_vec(vec![in alloc; row.foreign]?),
-        approval: program_of(alloc, row)?,
-        clear: program_of(alloc, row)?,
-        global_schema: schema,
-        local_schema: schema,
-    };
+    let program = row.program;
+    let mut fields = fields(
+        alloc,
+        row.application,
+        row.completion,
+        program,
+        program,
+        schema,
+    )?;
+    fields.sender = row.sender;
+    fields.arguments = arguments_of(alloc, row.arguments)?;
+    fields.accounts = Addresses::from_vec(vec![in alloc; row.account]?);
+    fields.foreign_applications = Uints::from_vec(vec![in alloc; row.foreign]?);
     checked(alloc, fields)
 }
 
