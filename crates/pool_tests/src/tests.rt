@@ -7,10 +7,11 @@ use crate::sets::full_ops;
 use sample_calls::random::Random;
 use sample_calls::rows::{calls_of, ledger_of};
 use sample_calls::samples::{BASE, ROWS};
+use std::ops::Range;
 use std::test::Fail;
 
-/// So many random blocks.
-const BLOCKS: u64 = 2000;
+/// So many random blocks has each test of them.
+const BLOCKS: u64 = 1000;
 
 #[test]
 fn cases(rt: HostRuntime) -> Result<(), Fail> {
@@ -29,21 +30,33 @@ fn cases(rt: HostRuntime) -> Result<(), Fail> {
     Ok(())
 }
 
-#[test]
-fn random_blocks(rt: HostRuntime) -> Result<(), Fail> {
+/// Makes and replays the block of each seed.
+fn run_blocks(rt: &HostRuntime, seeds: Range<u64>) -> Result<(), Fail> {
     let alloc = rt.alloc();
     let own = full_ops(alloc)?;
     let base = ledger_of(alloc, BASE)?;
     let all = calls_of(alloc, &ROWS)?;
-    for seed in 0..BLOCKS {
+    for seed in seeds {
         let mut random = Random::new(seed);
         let mut sets = Vec::new(alloc);
         for _ in 0..2 + random.below(7) {
             sets.push(full_ops(alloc)?)?;
         }
-        let run = run_block(&rt, alloc, &base, &all, &mut random, sets, &own);
+        let run = run_block(rt, alloc, &base, &all, &mut random, sets, &own);
         assert!(rt; run.is_ok(), "block {seed}");
         run?;
     }
     Ok(())
+}
+
+// Two tests, since each has a time of its own to end in.
+
+#[test]
+fn random_blocks(rt: HostRuntime) -> Result<(), Fail> {
+    run_blocks(&rt, 0..BLOCKS)
+}
+
+#[test]
+fn more_random_blocks(rt: HostRuntime) -> Result<(), Fail> {
+    run_blocks(&rt, BLOCKS..2 * BLOCKS)
 }
