@@ -28,7 +28,7 @@ use Rattle.avm_debug.specs.DebugRuns.{IsKept, seen}
 use Rattle.avm_debug.specs.Opening.{HasNoProgram, HasProgram, row_of}
 use Rattle.avm_debug.specs.Starting.{Begins, HasBegun, HasNothing, IsAtTests, StartsOver}
 use Rattle.avm_debug.specs.Stepping.{reads_in, supplied}
-use Rattle.avm_debug.proofs.OneMore.{agrees_after, one_longer}
+use Rattle.avm_items.proofs.OneMore.{agrees_after, one_longer}
 
 same_run : {p q : Progress} → Some p ≡ Some q → p ≡ q
 same_run e = cc

@@ -1,6 +1,5 @@
 pub mod PathSteps
 pub mod OnlyFaults
-pub mod OneMore
 pub mod Supplied
 pub mod KnownItself
 pub mod ScratchSpace

@@ -14,7 +14,7 @@ use Rattle.avm_ops.specs.Effect.{effect}
 use Rattle.avm_call.specs.declared.outcome.Ended.{Ended}
 use Rattle.avm_call.specs.declared.outcome.Ended.TheVariants as ended
 use Rattle.avm_call.specs.Ends.{HasEnded}
-use Rattle.avm_call.specs.Runs.{Execution, Position, context_at, instruction_at, known_itself, path, start, step, stepped, version_at}
+use Rattle.avm_call.specs.Runs.{Execution, Position, context_at, instruction_at, known_itself, path, start, step, stepped, version_in_front}
 use Rattle.avm_call.specs.Calls.{admitted, execution, prepared}
 use Rattle.avm_call.specs.CallPaths.{call_path}
 use Rattle.avm_call.proofs.Paths.{read_on}
@@ -32,7 +32,7 @@ before_end place end lt = grind (arith, nat_tests)
 
 -- an instruction stands there, and not the end
 pub inside_there : (program : List ℕ) (place : ℕ) (i : Instr) (next : ℕ) → instruction_at program place ≡ Ok (i, next) → eqb place (length program) ≡ false
-inside_there program place i next there = before_end place (length program) (read_on (version_at program).0 program place i next there).0
+inside_there program place i next there = before_end place (length program) (read_on (version_in_front program).0 program place i next there).0
 
 abbrev pub IsFault : Ended → Type 0
 IsFault (ended.Faulted f place) = Unit {0}

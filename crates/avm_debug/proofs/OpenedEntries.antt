@@ -8,7 +8,7 @@ use Rattle.avm_ledger.specs.Ledgers.{Ledger}
 use Rattle.avm_ledger.specs.Spellings.{ledger_digest}
 use Rattle.avm_block.specs.declared.entry.Entry.{Entry}
 use Rattle.avm_block.specs.Blocks.{Block}
-use Rattle.avm_replay.specs.Past.{ledger_at}
+use Rattle.avm_replay.specs.Past.{ledger_until}
 use Rattle.avm_debug.specs.declared.faults.OpenFault.{OpenFault}
 use Rattle.avm_debug.specs.declared.faults.OpenFault.TheVariants as fault
 use Rattle.avm_debug.specs.Debugging.{Debugged}
@@ -18,7 +18,7 @@ use Rattle.avm_debug.specs.Opening.{HasNoProgram, HasProgram, IsOpenRefusal, IsO
 pub record IsMet (base : Ledger) (b : Block) (number : ℕ) (e : Entry) (l : Ledger) (header : Header) : Type 0 where
   pub there : entry_at b.entries number ≡ Some e
   pub same_base : b.base ≡ ledger_digest base
-  pub before : l ≡ ledger_at base b (e.timestamp - 1)
+  pub before : l ≡ ledger_until base b (e.timestamp - 1)
   pub same_header : header ≡ b.header
 
 abbrev first_of : Ledger → Entry → Header → Option Debugged

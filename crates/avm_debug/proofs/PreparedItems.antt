@@ -21,8 +21,8 @@ use Rattle.avm_items.specs.Items.{ItemMap, item_cmp, or_else, over, value_in, wi
 use Rattle.avm_items.specs.LedgerItems.{at, put, put_one}
 use Rattle.avm_items.specs.PutLaws.{changes_with}
 use Rattle.avm_items.proofs.Puts.{item_total, keeps_others}
-use Rattle.avm_call.specs.Calls.{created, creation, prepared, sender_item}
-use Rattle.avm_debug.proofs.OneMore.{is_there}
+use Rattle.avm_call.specs.Calls.{created, new_application, prepared, sender_item}
+use Rattle.avm_items.proofs.OneMore.{is_there}
 
 abbrev Spares : Item → Item → Type 0
 Spares y x = changes_with x y ≡ false
@@ -64,7 +64,7 @@ counts_spares (item.Counts other) id = refl
 counts_spares (item.Key other key) id = refl
 counts_spares (item.Local who other) id = refl
 
-creation_spares : (call : CallData) (id : ℕ) (y : Item) → Spares y (item.App id) → SparedBy (creation call id) y
+creation_spares : (call : CallData) (id : ℕ) (y : Item) → Spares y (item.App id) → SparedBy (new_application call id) y
 creation_spares call id y app =
     let next = value.NextApp (id + 1) in
     let row = value.App (created call) in
@@ -89,8 +89,8 @@ opting_spares call id writes y completion.DeleteApplication spared = spared
 abbrev before_counts : CallData → ℕ → ItemMap
 before_counts call id = with_item (with_item [] item.NextApp (value.NextApp (id + 1))) (item.App id) (value.App (created call))
 
-counts_there : (call : CallData) (id : ℕ) (c : Completion) → value_in (opted call id (creation call id) c) (item.Counts id) ≡ Some (value.Counts no_entries)
-counts_there call id completion.OptIn = lookup-inserted_other item_total (item.Counts id) (sender_item call id) (value.Local []) (creation call id) refl ∙ is_there (before_counts call id) (item.Counts id) (value.Counts no_entries)
+counts_there : (call : CallData) (id : ℕ) (c : Completion) → value_in (opted call id (new_application call id) c) (item.Counts id) ≡ Some (value.Counts no_entries)
+counts_there call id completion.OptIn = lookup-inserted_other item_total (item.Counts id) (sender_item call id) (value.Local []) (new_application call id) refl ∙ is_there (before_counts call id) (item.Counts id) (value.Counts no_entries)
 counts_there call id completion.NoOp = is_there (before_counts call id) (item.Counts id) (value.Counts no_entries)
 counts_there call id completion.CloseOut = is_there (before_counts call id) (item.Counts id) (value.Counts no_entries)
 counts_there call id completion.ClearState = is_there (before_counts call id) (item.Counts id) (value.Counts no_entries)
@@ -98,7 +98,7 @@ counts_there call id completion.UpdateApplication = is_there (before_counts call
 counts_there call id completion.DeleteApplication = is_there (before_counts call id) (item.Counts id) (value.Counts no_entries)
 
 -- the keys and the counts of a new application are known
-app_spares : (call : CallData) (id : ℕ) (y : Item) → value_in (opted call id (creation call id) call.completion) y ≡ None → ((other : ℕ) (key : List ℕ) → y ≡ item.Key other key → eqb other id ≡ false) → Spares y (item.App id)
+app_spares : (call : CallData) (id : ℕ) (y : Item) → value_in (opted call id (new_application call id) call.completion) y ≡ None → ((other : ℕ) (key : List ℕ) → y ≡ item.Key other key → eqb other id ≡ false) → Spares y (item.App id)
 app_spares call id item.NextApp none keys = refl
 app_spares call id (item.App other) none keys = refl
 app_spares call id (item.Key other key) none keys = keys other key refl
@@ -108,7 +108,7 @@ app_spares call id (item.Counts other) none keys = by (eqb other id) refl
     by : (b : Bool) → eqb other id ≡ b → b ≡ false
     by false e = refl
     by true e =
-        let both : None ≡ Some (value.Counts no_entries) = sym none ∙ ap (λ n. value_in (opted call id (creation call id) call.completion) (item.Counts n)) (eqb-true other id e) ∙ counts_there call id call.completion in
+        let both : None ≡ Some (value.Counts no_entries) = sym none ∙ ap (λ n. value_in (opted call id (new_application call id) call.completion) (item.Counts n)) (eqb-true other id e) ∙ counts_there call id call.completion in
         absurd cc
 
 parts_none : (a b : Option ItemValue) → or_else a b ≡ None → (a ≡ None) × (b ≡ None)
@@ -119,11 +119,11 @@ key_apart : (b : Bool) → (if b then Some value.Absent else None) ≡ None → 
 key_apart true e = absurd cc
 key_apart false e = refl
 
-spared_by : (call : CallData) (id : ℕ) (y : Item) (new : Bool) → creates call ≡ new → value_in (opted call id (if new then creation call id else []) call.completion) y ≡ None → new_keys call id y ≡ None
-    → SparedBy (opted call id (if new then creation call id else []) call.completion) y
+spared_by : (call : CallData) (id : ℕ) (y : Item) (new : Bool) → creates call ≡ new → value_in (opted call id (if new then new_application call id else []) call.completion) y ≡ None → new_keys call id y ≡ None
+    → SparedBy (opted call id (if new then new_application call id else []) call.completion) y
 spared_by call id y false is none keys = opting_spares call id [] y call.completion (All-nil (Spares y))
 spared_by call id y true is none keys =
-    opting_spares call id (creation call id) y call.completion (creation_spares call id y (app_spares call id y none (λ other key same. apart other key (ap (new_keys call id) (sym same) ∙ keys))))
+    opting_spares call id (new_application call id) y call.completion (creation_spares call id y (app_spares call id y none (λ other key same. apart other key (ap (new_keys call id) (sym same) ∙ keys))))
   where
     apart : (other : ℕ) (key : List ℕ) → new_keys call id (item.Key other key) ≡ None → eqb other id ≡ false
     apart other key e = key_apart (eqb other id) (ap (λ b. if (b && eqb other id) then Some value.Absent else None) (sym is) ∙ e)

@@ -14,7 +14,7 @@ use Rattle.avm_run.specs.Advances.{AsksFor}
 use Rattle.avm_run.specs.Progress.{most_items}
 use Rattle.avm_run.specs.RunState.{Progress}
 use Rattle.avm_run.specs.Showing.{ShowsPath, Sight}
-use Rattle.avm_debug.proofs.OneMore.{agrees_after, one_longer, still_known}
+use Rattle.avm_items.proofs.OneMore.{agrees_after, one_longer, still_known}
 use Rattle.avm_debug.specs.declared.stepping.Went.{Went}
 use Rattle.avm_debug.specs.declared.stepping.Went.TheVariants as went
 use Rattle.avm_debug.specs.Stepping.{Goes, GoesOnOver, StandsBefore, reads_in, supplied}

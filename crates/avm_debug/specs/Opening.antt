@@ -12,7 +12,7 @@ use Rattle.avm_call.specs.declared.outcome.Why.{Why}
 use Rattle.avm_call.specs.Calls.{Target, admitted}
 use Rattle.avm_block.specs.declared.entry.Entry.{Entry}
 use Rattle.avm_block.specs.Blocks.{Block}
-use Rattle.avm_replay.specs.Past.{ledger_at}
+use Rattle.avm_replay.specs.Past.{ledger_until}
 use Rattle.avm_debug.specs.declared.faults.OpenFault.{OpenFault}
 use Rattle.avm_debug.specs.declared.faults.OpenFault.TheVariants as fault
 use Rattle.avm_debug.specs.Debugging.{Debugged}
@@ -23,7 +23,7 @@ entry_at entries number = if number == 0 then None else slice_get entries (numbe
 
 -- The ledger that an entry's call met: the entries before it have lower timestamps.
 abbrev pub ledger_before : Ledger → Block → Entry → Ledger
-ledger_before base b e = ledger_at base b (e.timestamp - 1)
+ledger_before base b e = ledger_until base b (e.timestamp - 1)
 
 -- the application whose program runs
 abbrev pub row_of : Result Target Why → Option Application

@@ -3,7 +3,7 @@ use Rattle.std.specs.Prelude.{◌≢◌, ℕ, ◌<◌, Option}
 use Rattle.teal_value.specs.declared.failure.Failure.{Failure}
 use Rattle.avm_ledger.specs.Ledgers.{Ledger}
 use Rattle.avm_ledger.specs.Spellings.{ledger_digest}
-use Rattle.avm_replay.specs.Past.{ledger_at}
+use Rattle.avm_replay.specs.Past.{ledger_until}
 use Rattle.avm_debug.specs.declared.faults.OpenFault.{OpenFault}
 use Rattle.avm_debug.specs.declared.source.Source.{Source}
 use Rattle.avm_debug.specs.declared.source.Source.TheVariants as source
@@ -13,7 +13,7 @@ use Rattle.avm_debug.specs.Opening.{IsOpenRefusal, IsOpened}
 
 -- the ledger after the calls with timestamps up to this one
 abbrev pub past_ledger : Source → ℕ → Ledger
-past_ledger (source.Block base block) timestamp = ledger_at base.now block.now timestamp
+past_ledger (source.Block base block) timestamp = ledger_until base.now block.now timestamp
 past_ledger (source.Live store) timestamp = ledger_of_store store.now timestamp
 
 -- the block stands over another ledger

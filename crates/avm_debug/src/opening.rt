@@ -4,7 +4,7 @@ ghost use Rattle.std.specs.Prelude.{◌≡◌, ◌-◌, IfErr, IfOk};
 ghost use Rattle.std.specs.Option.{option_copied};
 ghost use Rattle.avm_ops.specs.Objects.{IsFull};
 ghost use Rattle.avm_ledger.specs.Spellings.{ledger_digest};
-ghost use Rattle.avm_replay.specs.Past.{ledger_at};
+ghost use Rattle.avm_replay.specs.Past.{ledger_until};
 ghost use Rattle.avm_debug.specs.Opening.{IsBaseRefusal, entry_at};
 ghost use Rattle.avm_debug.specs.Starting.{Begins, BeginsOver, IsAtTests, StartsOver};
 
@@ -49,7 +49,7 @@ pub(crate) fn ledger_before(
     ops: &OpSet,
 ) -> Result<Ledger, OpenError>
     requires full { IsFull ⟦<BoxedOp as Op>⟧.opcode ops.now }
-    ensures ledger { IfOk result (λ ledger. ledger ≡ ledger_at base.now block.now (entry.now.timestamp - 1)) }
+    ensures ledger { IfOk result (λ ledger. ledger ≡ ledger_until base.now block.now (entry.now.timestamp - 1)) }
     ensures base { IfOk result (λ _. block.now.base ≡ ledger_digest base.now) }
     ensures refused { IfErr result (IsBaseRefusal base.now block.now) }
 {

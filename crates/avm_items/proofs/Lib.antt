@@ -12,3 +12,4 @@ pub mod InPlace
 pub mod MapOrders
 pub mod CallRead
 pub mod Appending
+pub mod OneMore

@@ -7,7 +7,7 @@ ghost use Rattle.avm_items.specs.Acts.{reads};
 ghost use Rattle.avm_items.specs.Asks.{answer_from};
 ghost use Rattle.avm_items.specs.CallFields.{creates};
 ghost use Rattle.avm_items.specs.Items.{application_in, next_id_in, value_in};
-ghost use Rattle.avm_call.specs.Calls.{admitted, call_result, called_target, creation, is_opted_in, new_target, opt_in_test, prepared, sender_item, target};
+ghost use Rattle.avm_call.specs.Calls.{admitted, call_result, called_target, new_application, is_opted_in, new_target, opt_in_test, prepared, sender_item, target};
 ghost use Rattle.avm_run.specs.Tests.{HasRoom, IsAdmitted, Tests};
 
 use avm_call::{Call, Why};
@@ -168,10 +168,10 @@ pub(crate) fn admit(call: &Call, items: &ItemMap) -> Result<Admitted, Halt>
 }
 
 /// What a creation writes before its program runs: the next id, the application, and that its global state is empty.
-fn creation(alloc: Global, call: &Call, id: u64) -> Result<ItemMap, AllocError>
+fn new_application(alloc: Global, call: &Call, id: u64) -> Result<ItemMap, AllocError>
     requires new { creates call.now ≡ true }
     requires room { id < 2 ^ 64 - 1 }
-    ensures { IfOk result (λ writes. writes ≡ creation call.now id) }
+    ensures { IfOk result (λ writes. writes ≡ new_application call.now id) }
 {
     let row = call.created()?;
     let mut writes = ItemMap::new(alloc);
@@ -188,7 +188,7 @@ pub(crate) fn prepared(alloc: Global, call: &Call, id: u64) -> Result<ItemMap, A
 {
     let fields = call.fields();
     let mut writes = if fields.application == 0 {
-        creation(alloc, call, id)?
+        new_application(alloc, call, id)?
     } else {
         ItemMap::new(alloc)
     };
