@@ -7,8 +7,12 @@ use crate::sets::full_ops;
 use sample_calls::random::Random;
 use sample_calls::rows::{calls_of, ledger_of};
 use sample_calls::samples::{BASE, ROWS};
+use std::alloc::Global;
 use std::ops::Range;
+use std::process::Abort;
+use std::sync::Wait;
 use std::test::Fail;
+use std::thread::Threads;
 
 /// So many random blocks has each test of them.
 const BLOCKS: u64 = 1000;
@@ -31,8 +35,11 @@ fn cases(rt: HostRuntime) -> Result<(), Fail> {
 }
 
 /// Makes and replays the block of each seed.
-fn run_blocks(rt: &HostRuntime, seeds: Range<u64>) -> Result<(), Fail> {
-    let alloc = rt.alloc();
+fn run_blocks<R: Threads + Wait + Sync + Abort>(
+    rt: &R,
+    alloc: Global,
+    seeds: Range<u64>,
+) -> Result<(), Fail> {
     let own = full_ops(alloc)?;
     let base = ledger_of(alloc, BASE)?;
     let all = calls_of(alloc, &ROWS)?;
@@ -53,10 +60,10 @@ fn run_blocks(rt: &HostRuntime, seeds: Range<u64>) -> Result<(), Fail> {
 
 #[test]
 fn random_blocks(rt: HostRuntime) -> Result<(), Fail> {
-    run_blocks(&rt, 0..BLOCKS)
+    run_blocks(&rt, rt.alloc(), 0..BLOCKS)
 }
 
 #[test]
 fn more_random_blocks(rt: HostRuntime) -> Result<(), Fail> {
-    run_blocks(&rt, BLOCKS..2 * BLOCKS)
+    run_blocks(&rt, rt.alloc(), BLOCKS..2 * BLOCKS)
 }
