@@ -6,11 +6,11 @@ use Rattle.avm_items.specs.declared.call_data.CallData.{CallData}
 use Rattle.avm_call.specs.CallRules.{call_fault, needed_profile}
 
 -- What needs profile 2 fits in both, what needs profile 3 in that alone.
-abbrev pub is_within : Profile → Profile → Bool
-is_within profile.Two in_profile = true
-is_within profile.Three profile.Two = false
-is_within profile.Three profile.Three = true
+abbrev pub fits_in : Profile → Profile → Bool
+fits_in profile.Two in_profile = true
+fits_in profile.Three profile.Two = false
+fits_in profile.Three profile.Three = true
 
 -- a call that breaks no rule of calls, and that brings no program of a version behind the profile
 abbrev pub is_accepted : Profile → CallData → Bool
-is_accepted in_profile call = is_none (call_fault call) && is_within (needed_profile call) in_profile
+is_accepted in_profile call = is_none (call_fault call) && fits_in (needed_profile call) in_profile

@@ -2,7 +2,7 @@
 
 ghost use Rattle.std.specs.Prelude.{◌≡◌};
 ghost use Rattle.avm_call.specs.CallRules.{needed_profile};
-ghost use Rattle.avm_block.specs.AcceptedCalls.{is_accepted, is_within};
+ghost use Rattle.avm_block.specs.AcceptedCalls.{is_accepted, fits_in};
 
 use avm_call::Call;
 use avm_ledger::Profile;
@@ -10,14 +10,14 @@ use avm_ledger::Profile;
 /// Whether a block of this profile may have the call.
 pub fn accepts(profile: Profile, call: &Call) -> bool
     ensures accepted { result ≡ is_accepted profile call.now }
-    ensures within { result ≡ is_within (needed_profile call.now) profile }
+    ensures within { result ≡ fits_in (needed_profile call.now) profile }
 {
     let _fields = call.fields();
-    is_within(call.needs(), profile)
+    fits_in(call.needs(), profile)
 }
 
-fn is_within(needed: Profile, profile: Profile) -> bool
-    ensures { result ≡ is_within needed profile }
+fn fits_in(needed: Profile, profile: Profile) -> bool
+    ensures { result ≡ fits_in needed profile }
 {
     match (needed, profile) {
         (Profile::Two, _) => true,

@@ -27,7 +27,7 @@ use Rattle.avm_ops.specs.Steps.{branch_target}
 use Rattle.avm_items.specs.Items.{ItemMap}
 use Rattle.avm_items.specs.Counting.{AsksAtMost, Any}
 use Rattle.avm_items.proofs.Counting.{at_most-more}
-use Rattle.avm_call.specs.Runs.{Execution, version_numbered, version_at, path, whole_path}
+use Rattle.avm_call.specs.Runs.{Execution, version_numbered, version_in_front, path, whole_path}
 use Rattle.avm_call.specs.Ends.{HasEnded, is_start, is_start_or_end, IsLaidOut}
 use Rattle.avm_call.proofs.Steps.{steps_are_instructions, whole_path_steps}
 
@@ -48,7 +48,7 @@ version_by : (bytes : List ℕ) (v : Version × ℕ) (r : Read ℕ) → (on_code
 version_by bytes v (Err f) e = absurd cc
 version_by bytes v (Ok (n, rest)) e = numbered_by n (length bytes - length rest) v (n == 2) (n == 3) refl refl e
 
-version_same : (bytes : List ℕ) (v : Version × ℕ) → check.version_at bytes ≡ Ok v → version_at bytes ≡ v
+version_same : (bytes : List ℕ) (v : Version × ℕ) → check.version_at bytes ≡ Ok v → version_in_front bytes ≡ v
 version_same bytes v e = version_by bytes v (varuint_at bytes) e
 
 -- ---- starts
@@ -145,7 +145,7 @@ ok_or_is : {A E : Type 0} (o : Option A) (f : E) (a : A) → ok_or o f ≡ Ok a 
 ok_or_is None f a e = absurd cc
 ok_or_is (Some b) f a e = let same : b ≡ a = cc in ap (λ z. Some z) same
 
-branch_is_start : (starts : List ℕ) (end place next offset : ℕ) (t : Option ℕ) → check.branch_target starts end place next offset ≡ Ok t → is_start_or_end starts end (next + offset) ≡ true
+branch_is_start : (starts : List ℕ) (end place next offset : ℕ) (t : Option ℕ) → check.resolved_target starts end place next offset ≡ Ok t → is_start_or_end starts end (next + offset) ≡ true
 branch_is_start starts end place next offset t e =
     elim (chosen (ltb 32767 offset) _ _ _ e) [
       | inl (far, bad) ↦ absurd cc

@@ -15,7 +15,7 @@ use Rattle.avm_ops.specs.Effect.{effect}
 use Rattle.avm_ops.specs.Steps.{branch_target, IsFlowTo}
 use Rattle.avm_call.specs.declared.outcome.Ended.{Ended}
 use Rattle.avm_call.specs.declared.outcome.Ended.TheVariants as ended
-use Rattle.avm_call.specs.Runs.{Execution, Position, version_at, instruction_at, context_at, place_after, known_itself, result_at_end, stepped, executed, start, run_from, path, whole_path}
+use Rattle.avm_call.specs.Runs.{Execution, Position, version_in_front, instruction_at, context_at, place_after, known_itself, result_at_end, stepped, executed, start, run_from, path, whole_path}
 use Rattle.avm_call.specs.Ends.{HasEnded, is_start, is_start_or_end, IsLaidOut}
 use Rattle.avm_call.proofs.Paths.{Goes, read_on, behind_by, executed_asks, goes_on}
 
@@ -100,7 +100,7 @@ flow_laid e starts laid p i next here is inside on flow.End h = (inside, the_end
 stepped_laid : (e : Execution) (starts : List ℕ) → IsLaidOut e.program starts → (p : Position) (i : Instr) (next : ℕ) → is_start starts p.place ≡ true → instruction_at e.program p.place ≡ Ok (i, next)
     → (r : Stepped) → Goes e p i r → LaidOn starts e p (stepped e p next r)
 stepped_laid e starts laid p i next here is (Ok after) h =
-    let on = read_on (version_at e.program).0 e.program p.place i next is in
+    let on = read_on (version_in_front e.program).0 e.program p.place i next is in
     flow_laid e starts laid p i next here is on.0 on.1 after.flow h.0
 stepped_laid e starts laid p i next here is (Err f) h = refl
 

@@ -87,8 +87,8 @@ admitted call = do
 -- ---- what is prepared for the program
 
 -- a creation makes the application, with an empty global state; the next id rises
-abbrev pub creation : CallData → ℕ → ItemMap
-creation call id =
+abbrev pub new_application : CallData → ℕ → ItemMap
+new_application call id =
     with_item
     (with_item (with_item [] item.NextApp (value.NextApp (id + 1))) (item.App id) (value.App (created call)))
     (item.Counts id) (value.Counts no_entries)
@@ -100,7 +100,7 @@ opting_in call id writes = elim call.completion [
 ]
 
 abbrev pub prepared : CallData → ℕ → ItemMap
-prepared call id = opting_in call id (if creates call then creation call id else [])
+prepared call id = opting_in call id (if creates call then new_application call id else [])
 
 -- ---- the program
 

@@ -5,7 +5,7 @@ use Rattle.avm_ledger.proofs.Maps.{sorted-inserted}
 use Rattle.sorted_entries.specs.Places.{StandsAt}
 use Rattle.avm_items.specs.declared.item.Item.{Item}
 use Rattle.avm_items.specs.declared.item_value.ItemValue.{ItemValue}
-use Rattle.avm_items.specs.Items.{ItemMap, IsInItemOrder, item_cmp, value_in, with_item, with_state, with_state_changed}
+use Rattle.avm_items.specs.Items.{ItemMap, IsInItemOrder, item_cmp, value_in, with_item, local_changed, with_state_changed}
 use Rattle.avm_items.proofs.Puts.{item_total}
 
 module _ (items : ItemMap) (x : Item) (place : ℕ) (stands : StandsAt item_cmp x items place) (e : Item × ItemValue) (read : e ≡ get_or items place e) where
@@ -15,6 +15,6 @@ module _ (items : ItemMap) (x : Item) (place : ℕ) (stands : StandsAt item_cmp 
   pub set_in_order : (w : ItemValue) → IsInItemOrder items → IsInItemOrder (set items place (e.0, w))
   set_in_order w o = subst IsInItemOrder (sym (set_is w)) (sorted-inserted item_total x w items o)
 
-  pub changed_state : (w : ItemValue) (change : Entries → Entries) → w ≡ with_state change e.1 → set items place (e.0, w) ≡ with_state_changed change items x (value_in items x)
+  pub changed_state : (w : ItemValue) (change : Entries → Entries) → w ≡ local_changed change e.1 → set items place (e.0, w) ≡ with_state_changed change items x (value_in items x)
   changed_state w change is =
       set_is w ∙ ap (with_item items x) is ∙ ap (with_state_changed change items x) (ap (λ (f : Item × ItemValue). Some f.1) read ∙ sym (stands.value e))

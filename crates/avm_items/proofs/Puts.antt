@@ -23,9 +23,10 @@ use Rattle.avm_items.specs.declared.item_value.ItemValue.{ItemValue}
 use Rattle.avm_items.specs.declared.item_value.ItemValue.TheVariants as value
 use Rattle.avm_items.specs.Items.{item_cmp, sort_key, key_value}
 use Rattle.avm_items.specs.LedgerItems.{at, put_one, row_value, counts_value, entry_value, local_value}
-use Rattle.std.specs.Prelude.{◌||◌, length, unwrap_or}
+use Rattle.std.specs.Prelude.{length, unwrap_or}
 use Rattle.std.specs.List.{AllByRecursion}
 use Rattle.std.proofs.Common.{arith, length-append}
+use Rattle.std.proofs.lemmas.Bool.{or_parts}
 use Rattle.avm_items.specs.Items.{ItemMap, value_in}
 use Rattle.avm_items.specs.LedgerItems.{put}
 use Rattle.avm_items.specs.PutLaws.{MaySet, changes_with, is_counts, deletes, is_deleted_by, MayPut, MayPutAll}
@@ -228,7 +229,7 @@ keeps_others l x y v n c = refl
 
 -- ---- many puts
 
-heads : {x y : ℕ} {xs ys : List ℕ} → x ∷ xs ≡ y ∷ ys → (x ≡ y) × (xs ≡ ys)
+pub heads : {x y : ℕ} {xs ys : List ℕ} → x ∷ xs ≡ y ∷ ys → (x ≡ y) × (xs ≡ ys)
 heads e = (cc, cc)
 
 snoc_inj : (xs ys : List ℕ) (a b : ℕ) → xs ++ a ∷ [] ≡ ys ++ b ∷ [] → (xs ≡ ys) × (a ≡ b)
@@ -302,10 +303,6 @@ was_put l (item.App id) v o c m = has_what_was_put l (item.App id) v o m
 was_put l (item.Key id key) v o c m = has_what_was_put l (item.Key id key) v o m
 was_put l (item.Local who id) v o c m = has_what_was_put l (item.Local who id) v o m
 
-either_false : (a b : Bool) → (a || b) ≡ false → (a ≡ false) × (b ≡ false)
-either_false true b e = absurd cc
-either_false false b e = (refl, e)
-
 entry_by : (l : Ledger) (e : Item × ItemValue) (es : ItemMap) (x : Item) → IsInOrder l → AllByRecursion (λ y. item_cmp e.0 y ≡ Less) (keys_of es) → MayPut l e.0 e.1
     → is_counts x ≡ false → deletes e.0 e.1 x ≡ false → (b : Bool) → is_eq (item_cmp x e.0) ≡ b
     → unwrap_or (value_in es x) (at (put_one l e.0 e.1) x) ≡ unwrap_or (cond b (Some e.1) (value_in es x)) (at l x)
@@ -321,6 +318,6 @@ pub has_what_was_put_last : (l : Ledger) (items : ItemMap) (x : Item) → IsInOr
 unfolding IsStrictlySortedBy
 has_what_was_put_last l [] x o s m c d = refl
 has_what_was_put_last l (e ∷ es) x o s m c d =
-    let none = either_false (deletes e.0 e.1 x) (is_deleted_by es x) d in
+    let none = or_parts (deletes e.0 e.1 x) (is_deleted_by es x) d in
     has_what_was_put_last (put_one l e.0 e.1) es x (stays_in_order l e.0 e.1 o) s.1 m.1 c none.1
     ∙ entry_by l e es x o s.0 m.0 c none.0 (is_eq (item_cmp x e.0)) refl

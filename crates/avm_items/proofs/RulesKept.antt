@@ -100,7 +100,7 @@ fewer None n = (omega arith, omega arith)
 fewer (Some (Uint m)) n = (omega arith, omega arith)
 fewer (Some (Bytes s)) n = (omega arith, omega arith)
 
-state_deleted : (limit : Schema) (state : Entries) (key : List ℕ) → IsStateIn (room_of_schema limit) state → IsStateIn (room_of_schema limit) (without_entry state key)
+pub state_deleted : (limit : Schema) (state : Entries) (key : List ℕ) → IsStateIn (room_of_schema limit) state → IsStateIn (room_of_schema limit) (without_entry state key)
 state_deleted limit state key is =
     let counts : counts_in (without_entry state key) ≡ uncounted (value_of_key state key) (counts_in state) = follow_deletes state key in
     let less = fewer (value_of_key state key) (counts_in state) in

@@ -70,13 +70,13 @@ is_global_of id (item.Key app key) = app == id
 is_global_of id _ = false
 
 -- a value whose local state is changed; any other stays
-abbrev pub with_state : (Entries → Entries) → ItemValue → ItemValue
-with_state change (value.Local state) = value.Local (change state)
-with_state change v = v
+abbrev pub local_changed : (Entries → Entries) → ItemValue → ItemValue
+local_changed change (value.Local state) = value.Local (change state)
+local_changed change v = v
 
 -- items where the local state that an item has is changed
 abbrev pub with_state_changed : (Entries → Entries) → ItemMap → Item → Option ItemValue → ItemMap
-with_state_changed change items x (Some v) = with_item items x (with_state change v)
+with_state_changed change items x (Some v) = with_item items x (local_changed change v)
 with_state_changed change items x None = items
 
 -- ---- what a value says of an item of its kind; any other says nothing

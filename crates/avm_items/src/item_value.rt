@@ -2,7 +2,7 @@
 
 ghost use Rattle.std.specs.Prelude.{◌≡◌, ◌↔◌, IfErr, IfOk, IsTrue};
 ghost use Rattle.avm_ledger.specs.Entries.{with_entry, without_entry};
-ghost use Rattle.avm_items.specs.Items.{with_state};
+ghost use Rattle.avm_items.specs.Items.{local_changed};
 ghost use Rattle.avm_items.specs.SameValues.{is_same_application, is_same_schema, is_same_value};
 
 use avm_ledger::{Application, EntryCounts, Schema, State};
@@ -82,7 +82,7 @@ impl ItemValue {
     /// Puts an entry into a local state, in place. Any other value stays. Only a new key can be refused, as by
     /// [`State::insert`].
     pub(crate) fn put_entry(&mut self, key: StateKey, value: Value) -> Result<(), AllocError>
-        ensures ok { IfOk result (λ _. self.new ≡ with_state (λ state. with_entry state key value) self.old) }
+        ensures ok { IfOk result (λ _. self.new ≡ local_changed (λ state. with_entry state key value) self.old) }
         ensures memory { IfErr result (λ _. self.new ≡ self.old) }
     {
         if let ItemValue::Local(state) = self {
@@ -93,7 +93,7 @@ impl ItemValue {
 
     /// Takes a key out of a local state, in place. Any other value stays.
     pub(crate) fn remove_entry(&mut self, key: &StateKey)
-        ensures { self.new ≡ with_state (λ state. without_entry state key.now) self.old }
+        ensures { self.new ≡ local_changed (λ state. without_entry state key.now) self.old }
     {
         if let ItemValue::Local(state) = self {
             let _ = state.remove(key);

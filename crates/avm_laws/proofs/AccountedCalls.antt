@@ -26,7 +26,7 @@ use Rattle.avm_call.specs.declared.outcome.Cause.TheVariants as cause
 use Rattle.avm_call.specs.declared.outcome.Outcome.{Outcome}
 use Rattle.avm_call.specs.declared.outcome.Outcome.TheVariants as outcome
 use Rattle.avm_call.specs.Runs.{program_result}
-use Rattle.avm_call.specs.Calls.{CallResult, Target, created, new_target, called_target, target, sender_item, is_opted_in, opt_in_test, admitted, creation, prepared, execution, deleted, updated, cleared, ending, runs_on, goes_on, call_result}
+use Rattle.avm_call.specs.Calls.{CallResult, Target, created, new_target, called_target, target, sender_item, is_opted_in, opt_in_test, admitted, new_application, prepared, execution, deleted, updated, cleared, ending, runs_on, goes_on, call_result}
 use Rattle.avm_laws.proofs.FollowedCalls.{OnTarget, kept_value, kept_only, old_fresh, new_fresh}
 use Rattle.avm_laws.proofs.Accounted.{If, if-then, Accounted, accounted_with, none_accounted, result_accounted}
 
@@ -110,7 +110,7 @@ opting_accounted R call id w all completion.ClearState h = all
 opting_accounted R call id w all completion.UpdateApplication h = all
 opting_accounted R call id w all completion.DeleteApplication h = all
 
-creation_by : (l : Ledger) (R : Item → Type 0) → Absents R l → application_at l l.next_id ≡ None → (call : CallData) (t : Target) → Named R l call t → (b : Bool) → creates call ≡ b → Accounted R (cond b (creation call t.id) [])
+creation_by : (l : Ledger) (R : Item → Type 0) → Absents R l → application_at l l.next_id ≡ None → (call : CallData) (t : Target) → Named R l call t → (b : Bool) → creates call ≡ b → Accounted R (cond b (new_application call t.id) [])
 creation_by l R absent none call t n true new =
     let counts : at l (item.Counts t.id) ≡ value.Absent = ap (λ id. counts_value (application_at l id)) (n.id new) ∙ ap counts_value none in
     let one = with_item [] item.NextApp (value.NextApp (t.id + 1)) in
@@ -186,7 +186,7 @@ runs_on_accounted l R absent none call header t h None is =
 runs_on_accounted l R absent none call header t h (Some row) is =
     if-then (at l) R (λ end. Accounted R end.0) (λ r. Accounted R r.1) (program_result (execution call header t.id row) (prepared call t.id)) (λ end. Gives (ending call t.id row end))
     (result_accounted (at l) R (execution call header t.id row) (fresh_by l R absent none call t h.0 (creates call) refl) (prepared call t.id)
-    (opting_accounted R call t.id (cond (creates call) (creation call t.id) []) (creation_by l R absent none call t h.0 (creates call) refl) call.completion h.1))
+    (opting_accounted R call t.id (cond (creates call) (new_application call t.id) []) (creation_by l R absent none call t h.0 (creates call) refl) call.completion h.1))
     (ending_accounted R call t.id row h.0.row h.1)
 
 goes_on_accounted : (l : Ledger) (R : Item → Type 0) → Absents R l → application_at l l.next_id ≡ None → (call : CallData) (header : Header) (r : Result Target Why) → OnTarget (Touched R l call) r → If (at l) R (λ r. Accounted R r.1) (goes_on call header r)

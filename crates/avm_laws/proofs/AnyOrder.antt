@@ -5,7 +5,7 @@ use Rattle.std.specs.Ordering.{is_eq}
 use Rattle.std.specs.List.{AllByRecursion}
 use Rattle.std.specs.Map.{keys_of}
 use Rattle.std.specs.Cmp.{tied_itself}
-use Rattle.std.proofs.lemmas.Bool.{eqb-true}
+use Rattle.std.proofs.lemmas.Bool.{eqb-true, or_parts}
 use Rattle.avm_ledger.specs.Ledgers.{Ledger, application_at, IsInOrder}
 use Rattle.avm_items.specs.declared.item.Item.{Item}
 use Rattle.avm_items.specs.declared.item.Item.TheVariants as item
@@ -17,7 +17,6 @@ use Rattle.avm_items.specs.PutLaws.{is_counts, deletes, is_deleted_by, MayPutAll
 use Rattle.avm_items.proofs.Puts.{stays_in_order}
 use Rattle.avm_laws.specs.Ledgers.{AreDistinct}
 use Rattle.avm_laws.proofs.Given.{gone_row, has_all, item_same, item_total, one_put}
-use Rattle.avm_laws.proofs.Tests.{either_false}
 
 -- ---- an item that stands once
 
@@ -40,7 +39,7 @@ put_value : (l : Ledger) (items : List (Item × ItemValue)) (x : Item) → IsInO
     → at (put l items) x ≡ unwrap_or (value_in items x) (at l x)
 put_value l [] x o d m c n = refl
 put_value l (e ∷ es) x o d m c n =
-    let none = either_false (deletes e.0 e.1 x) (is_deleted_by es x) n in
+    let none = or_parts (deletes e.0 e.1 x) (is_deleted_by es x) n in
     put_value (put_one l e.0 e.1) es x (stays_in_order l e.0 e.1 o) d.1 m.1 c none.1
     ∙ ap (unwrap_or (value_in es x)) (one_put l e x o m.0 c none.0)
     ∙ rest_by e es x (at l x) d (is_eq (item_cmp x e.0)) refl

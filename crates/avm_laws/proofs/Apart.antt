@@ -23,8 +23,8 @@ use Rattle.avm_call.specs.declared.outcome.Outcome.{Outcome}
 use Rattle.avm_call.specs.declared.outcome.Outcome.TheVariants as outcome
 use Rattle.avm_call.specs.OutcomeSpelling.{why_number, outcome_bytes}
 use Rattle.avm_laws.specs.Rules.{HasWords}
-use Rattle.avm_laws.specs.Spellings.{HasPlace, HasSmallNumbers}
-use Rattle.avm_laws.proofs.Given.{heads}
+use Rattle.avm_laws.specs.Spellings.{HasShortPlace, HasSmallNumbers}
+use Rattle.avm_items.proofs.Puts.{heads}
 
 -- ---- parts of one length
 
@@ -73,7 +73,7 @@ fault_place f g a b x y p q e =
     let rest = fronts (u16_bytes a) (u16_bytes b) x y refl first.1 in
     (same_fault f g first.0, same_place a b p q rest.0, rest.1)
 
-pub outcomes_apart : (o p : Outcome) (x y : List ℕ) → HasPlace o → HasPlace p → outcome_bytes o ++ x ≡ outcome_bytes p ++ y → (o ≡ p) × (x ≡ y)
+pub outcomes_apart : (o p : Outcome) (x y : List ℕ) → HasShortPlace o → HasShortPlace p → outcome_bytes o ++ x ≡ outcome_bytes p ++ y → (o ≡ p) × (x ≡ y)
 outcomes_apart outcome.Approved outcome.Approved x y h n e = (refl, (heads e).1)
 outcomes_apart outcome.Approved outcome.Rejected x y h n e = absurd (omega (arith, (heads e).0))
 outcomes_apart outcome.Approved (outcome.Faulted g b) x y h n e = absurd (omega (arith, (heads e).0))

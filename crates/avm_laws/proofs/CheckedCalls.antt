@@ -1,7 +1,7 @@
 -- That a call which breaks no rule of calls brings what it has to.
 use Rattle.std.proofs.Common.{◌≡◌, ℕ, ◌≤◌, Bool, true, false, ◌&&◌, nat_le, nat_lt, if◌then◌else◌, List, [], ◌∷◌, length, Option, None, Some, Result, Ok, Err, refl, sym, ap, ◌∙◌, arith}
 use Rattle.std.specs.Prelude.{◌==◌, ◌||◌, All, is_ok, not}
-use Rattle.std.proofs.lemmas.Bool.{leb-true, ltb-false, eqb-true}
+use Rattle.std.proofs.lemmas.Bool.{leb-true, ltb-false, eqb-true, and_parts, or_right}
 use Rattle.std.proofs.lemmas.List.Elements.{All-nil, All-cons, All-head, All-tail}
 use Rattle.teal_value.specs.declared.address.Address.{Address}
 use Rattle.teal_check.specs.declared.fault.CheckFault.{CheckFault}
@@ -15,7 +15,6 @@ use Rattle.avm_call.specs.Ends.{is_program}
 use Rattle.avm_call.proofs.Placed.{program_is_short}
 use Rattle.avm_laws.specs.Rules.{IsCallOfBytes, BringsPrograms}
 use Rattle.avm_laws.proofs.BoundedRows.{IsShort, IsShortCall}
-use Rattle.avm_laws.proofs.Tests.{both}
 
 none_of_both : (o p : Option CallFault) → or_fault o p ≡ None → (o ≡ None) × (p ≡ None)
 none_of_both (Some f) p e = absurd cc
@@ -37,10 +36,6 @@ both_pass c e true is brings =
     let programs = or_fault (program_fault (checked c.approval)) (program_fault (checked c.clear)) in
     let parts = none_of_both (program_fault (checked c.approval)) (program_fault (checked c.clear)) (sym (ap (λ b. if b then programs else None) is) ∙ e) in
     (program_passes (checked c.approval) parts.0, program_passes (checked c.clear) parts.1)
-
-or_true : (b : Bool) → (b || true) ≡ true
-or_true true = refl
-or_true false = refl
 
 -- ---- the fields
 
@@ -76,7 +71,7 @@ within_limits : (c : CallData) → field_fault c ≡ None → creates c ≡ true
 within_limits c e new =
     let creation = nat_le (entries_in c.global_schema) 64 && nat_le (entries_in c.local_schema) 16 in
     let other = (entries_in c.global_schema == 0) && (entries_in c.local_schema == 0) in
-    let parts = both (nat_le (entries_in c.global_schema) 64) (nat_le (entries_in c.local_schema) 16) (sym (ap (λ b. if b then creation else other) new) ∙ (field_rules c e).schemas) in
+    let parts = and_parts (nat_le (entries_in c.global_schema) 64) (nat_le (entries_in c.local_schema) 16) (sym (ap (λ b. if b then creation else other) new) ∙ (field_rules c e).schemas) in
     (leb-true (entries_in c.global_schema) 64 parts.0, leb-true (entries_in c.local_schema) 16 parts.1)
 
 pub checked_calls_bring_programs : (c : CallData) → call_fault c ≡ None → BringsPrograms c
@@ -88,8 +83,8 @@ checked_calls_bring_programs c e =
       clear = λ new. (pass (ap (λ b. b || updates c.completion) new)).1;
       global_schema = λ new. (within_limits c parts.0 new).0;
       local_schema = λ new. (within_limits c parts.0 new).1;
-      new_approval = λ is. (pass (ap (λ k. creates c || updates k) is ∙ or_true (creates c))).0;
-      new_clear = λ is. (pass (ap (λ k. creates c || updates k) is ∙ or_true (creates c))).1;
+      new_approval = λ is. (pass (ap (λ k. creates c || updates k) is ∙ or_right (creates c) true refl)).0;
+      new_clear = λ is. (pass (ap (λ k. creates c || updates k) is ∙ or_right (creates c) true refl)).1;
     }
 
 -- ---- lengths

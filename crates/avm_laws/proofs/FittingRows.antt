@@ -2,7 +2,7 @@
 use Rattle.std.proofs.Common.{◌≡◌, ℕ, ◌+◌, ◌-◌, ◌*◌, ◌^◌, ◌<◌, Bool, true, false, nat_lt, if◌then◌else◌, List, [], ◌∷◌, length, Option, None, Some, Result, Ok, Err, refl, subst, arith}
 use Rattle.std.specs.Prelude.{◌==◌, All, IfSome, is_none, slice_get}
 use Rattle.std.specs.Option.{option_map}
-use Rattle.std.proofs.lemmas.Bool.{ltb-true}
+use Rattle.std.proofs.lemmas.Bool.{ltb-true, and_parts}
 use Rattle.std.proofs.lemmas.List.Elements.{All-nil, All-cons}
 use Rattle.std.proofs.lemmas.Map.Entries.{All-lookup}
 use Rattle.std.specs.Ordering.{nat_cmp}
@@ -43,7 +43,6 @@ use Rattle.avm_ops.proofs.RowFacts.{OnOk}
 use Rattle.avm_laws.proofs.MachineValues.{OkOf, IsWord, get_fits, zeros_fit, flag_fits}
 use Rattle.avm_laws.proofs.Digests.{sha256_fits, sha512_256_fits}
 use Rattle.avm_ledger.proofs.KeptOrder.{application_rules}
-use Rattle.avm_laws.proofs.Tests.{both}
 use Rattle.avm_items.specs.Asks.{result_over}
 use Rattle.avm_laws.proofs.MachineValues as values
 use Rattle.avm_laws.proofs.Along.{along-each}
@@ -188,10 +187,10 @@ machine_closed = record {
   joined = values.joined_fits;
   range = values.range_fits;
   byte = λ s k h. let small = values.byte_at_fits s k h.1 in omega (arith, small);
-  with_byte = λ s k b inside h. values.with_byte_fits s k b (ltb-true b 256 (both (nat_lt k (length s)) (nat_lt b 256) inside).1) h;
+  with_byte = λ s k b inside h. values.with_byte_fits s k b (ltb-true b 256 (and_parts (nat_lt k (length s)) (nat_lt b 256) inside).1) h;
   bit = λ v k h. values.bit_value_fits v k;
   with_bit = λ v k b inside h.
-      let parts = both (nat_lt k (bit_count v)) (nat_lt b 2) inside in
+      let parts = and_parts (nat_lt k (bit_count v)) (nat_lt b 2) inside in
       values.with_bit_value_fits v k b (ltb-true k (bit_count v) parts.0) (ltb-true b 2 parts.1) h;
 }
 

@@ -7,7 +7,7 @@ use Rattle.std.specs.List.Sorted.{IsStrictlySortedBy}
 use Rattle.std.specs.Map.{keys_of}
 use Rattle.std.specs.declared.cmp.Ordering.TheVariants.{Less}
 use Rattle.std.specs.BTreeMap.{is_at}
-use Rattle.std.proofs.lemmas.Bool.{eqb-true}
+use Rattle.std.proofs.lemmas.Bool.{eqb-true, not-true}
 use Rattle.std.proofs.lemmas.Map.Entries.{lookup-filter-keys}
 use Rattle.avm_ledger.specs.declared.application.Application.{Application}
 use Rattle.avm_ledger.specs.declared.application.StoredApplication.{StoredApplication}
@@ -37,13 +37,12 @@ use Rattle.avm_call.specs.declared.outcome.Cause.TheVariants as cause
 use Rattle.avm_call.specs.declared.outcome.Outcome.{Outcome}
 use Rattle.avm_call.specs.declared.outcome.Outcome.TheVariants as outcome
 use Rattle.avm_call.specs.Runs.{Position, start, program_result}
-use Rattle.avm_call.specs.Calls.{CallResult, Target, created, new_target, called_target, target, sender_item, is_opted_in, opt_in_test, admitted, creation, opting_in, prepared, execution, deleted, updated, cleared, ending, runs, runs_on, goes_on, call_result}
+use Rattle.avm_call.specs.Calls.{CallResult, Target, created, new_target, called_target, target, sender_item, is_opted_in, opt_in_test, admitted, new_application, opting_in, prepared, execution, deleted, updated, cleared, ending, runs, runs_on, goes_on, call_result}
 use Rattle.avm_laws.proofs.Given.{item_same, item_total}
 use Rattle.avm_laws.proofs.Along.{Along, along-then}
 use Rattle.avm_laws.proofs.WrittenItems.{IsThere}
 use Rattle.avm_laws.proofs.Following.{Has, Follows, same_counts, value_with, has_put, counts_put, follows_local, follows_next, follows_create, follows_row}
 use Rattle.avm_laws.proofs.FollowedRuns.{Over, StepsKeep, result_stands, row_stands}
-use Rattle.avm_laws.proofs.Tests.{not_true}
 
 -- ---- what a call leaves
 
@@ -133,7 +132,7 @@ opting_over call header id row l K Kp kept w o completion.UpdateApplication = o
 opting_over call header id row l K Kp kept w o completion.DeleteApplication = o
 
 creation_over : (call : CallData) (header : Header) (l : Ledger) (K : Ledger → Type 0) (Kp : Position → Ledger → Type 0) → IsKept call header K Kp → IsInOrder l → K l → creates call ≡ true → application_at l l.next_id ≡ None
-    → (l.next_id == 2 ^ 64 - 1) ≡ false → Over (execution call header l.next_id (created call)) (created call) l K (creation call l.next_id)
+    → (l.next_id == 2 ^ 64 - 1) ≡ false → Over (execution call header l.next_id (created call)) (created call) l K (new_application call l.next_id)
 creation_over call header l K Kp kept o keeps new none few =
     let id = l.next_id in
     let m = put_one l item.NextApp (value.NextApp (id + 1)) in
@@ -286,7 +285,7 @@ then_test l P false w f h g = g
 
 target_by : (l : Ledger) (call : CallData) (b : Bool) → Along (at l) (IsThere l) (OnTarget (IsTarget l call b)) (elim b [ true ↦ new_target call | false ↦ called_target call ])
 target_by l call true =
-    (refl, then_test l (OnTarget (IsTarget l call true)) (not (l.next_id == 2 ^ 64 - 1)) why.IdsEnd (λ _. done (record { id = l.next_id; row = Some (created call) })) (λ few. (refl, refl, not_true (l.next_id == 2 ^ 64 - 1) few)) tt)
+    (refl, then_test l (OnTarget (IsTarget l call true)) (not (l.next_id == 2 ^ 64 - 1)) why.IdsEnd (λ _. done (record { id = l.next_id; row = Some (created call) })) (λ few. (refl, refl, not-true (l.next_id == 2 ^ 64 - 1) few)) tt)
 target_by l call false = (
   refl,
   then_test l (OnTarget (IsTarget l call false)) (is_some (application_in (at l (item.App call.application))) || clears call.completion) why.NoApp
@@ -328,7 +327,7 @@ prepared_new : (call : CallData) (header : Header) (l : Ledger) (K : Ledger → 
 prepared_new call header l K Kp kept o keeps none t row is new (id, own, few) =
     let same : row ≡ created call = some_same (sym is ∙ own) in
     let made = creation_over call header l K Kp kept o keeps new none few in
-    let w = creation call l.next_id in
+    let w = new_application call l.next_id in
     let opted = opting_over call header l.next_id (created call) l K Kp kept w made call.completion in
     let there : Over (execution call header l.next_id (created call)) (created call) l K (prepared call l.next_id) =
     subst (λ b. Over (execution call header l.next_id (created call)) (created call) l K (opting_in call l.next_id (cond b w []))) (sym new) opted in
@@ -350,7 +349,7 @@ prepared_old call header l K Kp kept o keeps t row is old found =
       current = row_there (application_at l t.id) row (sym is ∙ found);
       keeps = keeps;
     } in
-    subst (λ b. Over (execution call header t.id row) row l K (opting_in call t.id (cond b (creation call t.id) []))) (sym old)
+    subst (λ b. Over (execution call header t.id row) row l K (opting_in call t.id (cond b (new_application call t.id) []))) (sym old)
     (opting_over call header t.id row l K Kp kept [] here call.completion)
 
 pub prepared_over : (call : CallData) (header : Header) (l : Ledger) (K : Ledger → Type 0) (Kp : Position → Ledger → Type 0) → IsKept call header K Kp → IsInOrder l → K l → application_at l l.next_id ≡ None → (t : Target) (row : Application) → t.row ≡ Some row

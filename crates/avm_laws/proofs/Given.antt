@@ -1,7 +1,7 @@
 -- That putting what a ledger has into another gives this ledger.
-use Rattle.std.proofs.Common.{◌≡◌, ℕ, Bool, true, false, List, [], ◌∷◌, ◌++◌, length, Option, None, Some, refl, sym, ap, ◌∙◌, subst, cond, arith, length-append}
-use Rattle.std.specs.Prelude.{◌==◌, ◌||◌, is_none, unwrap_or}
-use Rattle.std.proofs.lemmas.Bool.{eqb-true}
+use Rattle.std.proofs.Common.{◌≡◌, ℕ, Bool, true, false, List, [], ◌∷◌, Option, None, Some, refl, sym, ap, ◌∙◌, subst, cond}
+use Rattle.std.specs.Prelude.{◌==◌, is_none, unwrap_or}
+use Rattle.std.proofs.lemmas.Bool.{eqb-true, or_from}
 use Rattle.std.specs.Ordering.{is_eq}
 use Rattle.std.specs.declared.cmp.Ordering.TheVariants.{Less}
 use Rattle.std.specs.Cmp.{IsTotalOrder, on_total, tied_itself}
@@ -14,7 +14,7 @@ use Rattle.teal_value.specs.declared.value.Value.{Value}
 use Rattle.avm_ledger.specs.Entries.{Entries, value_of_key}
 use Rattle.avm_ledger.specs.declared.application.StoredApplication.{StoredApplication}
 use Rattle.avm_ledger.specs.Ledgers.{Ledger, application_at, local_state_at, IsInOrder}
-use Rattle.avm_ledger.proofs.Changes.{account_total, account_same, address_is, byte_total, byte_same}
+use Rattle.avm_ledger.proofs.Changes.{account_total, account_same, byte_total, byte_same}
 use Rattle.avm_ledger.proofs.Maps.{is_Equal, above_tied, all_below, below_none, same_map}
 use Rattle.avm_items.specs.declared.item.Item.{Item}
 use Rattle.avm_items.specs.declared.item.Item.TheVariants as item
@@ -23,38 +23,15 @@ use Rattle.avm_items.specs.declared.item_value.ItemValue.TheVariants as value
 use Rattle.avm_items.specs.Items.{ItemMap, IsInItemOrder, item_cmp, sort_key, value_in, key_value}
 use Rattle.avm_items.specs.LedgerItems.{at, put_one, put, row_value, entry_value, local_value, is_of_gone, AreChanges}
 use Rattle.avm_items.specs.PutLaws.{MaySet, is_counts, deletes, MayPut}
-use Rattle.avm_items.proofs.Puts.{has_what_was_put_last, stays_in_order}
+use Rattle.avm_items.proofs.Puts.{has_what_was_put_last, stays_in_order, item_same as same_if_equal}
 
 pub item_total : IsTotalOrder item_cmp
 item_total = on_total sort_key nat_list_cmp_total
 
 -- ---- items that tie are the same
 
-pub heads : {x y : ℕ} {xs ys : List ℕ} → x ∷ xs ≡ y ∷ ys → (x ≡ y) × (xs ≡ ys)
-heads e = (cc, cc)
-
-last_too : (xs ys : List ℕ) (a b : ℕ) → xs ++ a ∷ [] ≡ ys ++ b ∷ [] → (xs ≡ ys) × (a ≡ b)
-last_too [] [] a b e = (refl, (heads e).0)
-last_too [] (y ∷ ys) a b e = let n : length (a ∷ []) ≡ length ((y ∷ ys) ++ b ∷ []) = ap length e in absurd (omega (arith, length-append ys (b ∷ [])))
-last_too (x ∷ xs) [] a b e = let n : length ((x ∷ xs) ++ a ∷ []) ≡ length (b ∷ []) = ap length e in absurd (omega (arith, length-append xs (a ∷ [])))
-last_too (x ∷ xs) (y ∷ ys) a b e =
-    let parts = heads e in
-    let rest = last_too xs ys a b parts.1 in
-    ((λ i. parts.0 i ∷ rest.0 i), rest.1)
-
-keys_same : (x y : Item) → sort_key x ≡ sort_key y → x ≡ y
-keys_same item.NextApp item.NextApp e = refl
-keys_same (item.App a) (item.App b) e = ap item.App (heads (heads e).1).0
-keys_same (item.Counts a) (item.Counts b) e = ap item.Counts (heads (heads e).1).0
-keys_same (item.Key a k) (item.Key b l) e = let both = heads (heads e).1 in λ i. item.Key (both.0 i) (both.1 i)
-keys_same (item.Local who a) (item.Local other b) e =
-    let both = last_too who.0 other.0 a b (heads e).1 in
-    let account = address_is who other both.0 in
-    λ i. item.Local (account i) (both.1 i)
-keys_same x y e = absurd (omega (arith, (heads e).0))
-
 pub item_same : (x y : Item) → is_eq (item_cmp x y) ≡ true → x ≡ y
-item_same x y e = keys_same x y (byte_same (sort_key x) (sort_key y) (is_Equal (item_cmp x y) e))
+item_same x y e = same_if_equal x y (is_Equal (item_cmp x y) e)
 
 -- ---- two ledgers that agree on all items but counts, and the keys of applications that are gone
 
@@ -99,15 +76,11 @@ has_all l m o p same =
 
 -- ---- one put
 
-or_false : (b : Bool) → b ≡ false → (b || false) ≡ false
-or_false true e = e
-or_false false e = refl
-
 -- an item's value after a put, if the put takes no key of it away
 pub one_put : (l : Ledger) (e : Item × ItemValue) (x : Item) → IsInOrder l → MayPut l e.0 e.1 → is_counts x ≡ false → deletes e.0 e.1 x ≡ false
     → at (put_one l e.0 e.1) x ≡ unwrap_or (value_in (e ∷ []) x) (at l x)
 unfolding IsStrictlySortedBy
-one_put l e x o m c d = has_what_was_put_last l (e ∷ []) x o (tt, tt) (m, tt) c (or_false (deletes e.0 e.1 x) d)
+one_put l e x o m c d = has_what_was_put_last l (e ∷ []) x o (tt, tt) (m, tt) c (or_from (deletes e.0 e.1 x) false d refl)
 
 -- the value of an item in the rest of a list
 rest_by : (e : Item × ItemValue) (es : ItemMap) (x : Item) (v : ItemValue) → AllByRecursion (λ y. item_cmp e.0 y ≡ Less) (keys_of es) → (b : Bool) → is_eq (item_cmp x e.0) ≡ b
@@ -121,13 +94,13 @@ found_itself e es = ap (λ r. cond (is_eq r) (Some e.1) (value_in es e.0)) (tied
 
 -- ---- what remains to be put into a ledger, so that it becomes another
 
-pub record Gives (l : Ledger) (items : ItemMap) (m : Ledger) : Type 0 where
+pub record PutGives (l : Ledger) (items : ItemMap) (m : Ledger) : Type 0 where
   pub order : IsInOrder l
   pub sorted : IsInItemOrder items
   pub has : HasItems m (λ x. unwrap_or (value_in items x) (at l x))
   pub stands : (x : Item) (v : ItemValue) → value_in items x ≡ Some v → is_of_gone m x ≡ false
 
-put_value : (l m : Ledger) (e : Item × ItemValue) (es : ItemMap) → Gives l (e ∷ es) m → is_counts e.0 ≡ false → at m e.0 ≡ e.1
+put_value : (l m : Ledger) (e : Item × ItemValue) (es : ItemMap) → PutGives l (e ∷ es) m → is_counts e.0 ≡ false → at m e.0 ≡ e.1
 put_value l m e es g c =
     sym (g.has e.0 c (g.stands e.0 e.1 (found_itself e es))) ∙ ap (λ found. unwrap_or found (at l e.0)) (found_itself e es)
 
@@ -149,7 +122,7 @@ may_key l id key (Some app) h = by_value (value_of_key app.state key)
     by_value (Some v) = h
 
 -- the application of the first key stands already
-key_stands : (l m : Ledger) (id : ℕ) (key : List ℕ) (v : ItemValue) (es : ItemMap) → Gives l ((item.Key id key, v) ∷ es) m → is_none (application_at l id) ≡ false
+key_stands : (l m : Ledger) (id : ℕ) (key : List ℕ) (v : ItemValue) (es : ItemMap) → PutGives l ((item.Key id key, v) ∷ es) m → is_none (application_at l id) ≡ false
 unfolding IsStrictlySortedBy
 key_stands l m id key v es g =
     let none : value_in ((item.Key id key, v) ∷ es) (item.App id) ≡ None =
@@ -157,7 +130,7 @@ key_stands l m id key v es g =
     let row : at l (item.App id) ≡ at m (item.App id) = ap (λ found. unwrap_or found (at l (item.App id))) (sym none) ∙ g.has (item.App id) refl refl in
     stands_too (application_at l id) (application_at m id) row (g.stands (item.Key id key) v (found_itself (item.Key id key, v) es))
 
-may_first : (l m : Ledger) (x : Item) (v : ItemValue) (es : ItemMap) → Gives l ((x, v) ∷ es) m → MayPut l x v
+may_first : (l m : Ledger) (x : Item) (v : ItemValue) (es : ItemMap) → PutGives l ((x, v) ∷ es) m → MayPut l x v
 may_first l m item.NextApp v es g = subst (MaySet l item.NextApp) (put_value l m (item.NextApp, v) es g refl) tt
 may_first l m (item.App id) v es g = subst (MaySet l (item.App id)) (put_value l m (item.App id, v) es g refl) (may_row l id (application_at m id))
 may_first l m (item.Counts id) v es g = tt
@@ -183,11 +156,11 @@ no_key m id other key gone stands true same =
 no_key m id other key gone stands false differs = refl
 
 -- no key of an application that stands in the end is taken away
-none_gone : (l m : Ledger) (x : Item) (v : ItemValue) (es : ItemMap) → Gives l ((x, v) ∷ es) m → (y : Item) → is_of_gone m y ≡ false → deletes x v y ≡ false
+none_gone : (l m : Ledger) (x : Item) (v : ItemValue) (es : ItemMap) → PutGives l ((x, v) ∷ es) m → (y : Item) → is_of_gone m y ≡ false → deletes x v y ≡ false
 none_gone l m (item.App id) value.Absent es g (item.Key other key) stands = no_key m id other key (put_value l m (item.App id, value.Absent) es g refl) stands (other == id) refl
 none_gone l m x v es g y stands = refl
 
-step : (l m : Ledger) (e : Item × ItemValue) (es : ItemMap) → Gives l (e ∷ es) m → Gives (put_one l e.0 e.1) es m
+step : (l m : Ledger) (e : Item × ItemValue) (es : ItemMap) → PutGives l (e ∷ es) m → PutGives (put_one l e.0 e.1) es m
 unfolding IsStrictlySortedBy
 step l m e es g = record {
   order = stays_in_order l e.0 e.1 g.order;
@@ -203,7 +176,7 @@ step l m e es g = record {
     later x v there true p = g.stands x e.1 (ap (λ b. cond b (Some e.1) (value_in es x)) p)
     later x v there false p = g.stands x v (ap (λ b. cond b (Some e.1) (value_in es x)) p ∙ there)
 
-pub put_gives : (l m : Ledger) (items : ItemMap) → IsInOrder m → Gives l items m → put l items ≡ m
+pub put_gives : (l m : Ledger) (items : ItemMap) → IsInOrder m → PutGives l items m → put l items ≡ m
 put_gives l m [] o g = has_all l m g.order o g.has
 put_gives l m (e ∷ es) o g = put_gives (put_one l e.0 e.1) m es o (step l m e es g)
 

@@ -1,4 +1,3 @@
-pub mod Tests
 pub mod Given
 pub mod Along
 pub mod WrittenItems

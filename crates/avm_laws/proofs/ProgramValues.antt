@@ -16,7 +16,7 @@ use Rattle.teal_code.specs.Grammar.{IsString, Each, AreImmediates, Spells}
 use Rattle.teal_code.specs.Reader.{Read, instr_at}
 use Rattle.teal_code.specs.Varuint.{IsVaruint}
 use Rattle.teal_code.proofs.Reading.{instr_sound}
-use Rattle.avm_call.specs.Runs.{version_at, instruction_at, uint_constants_at, byte_constants_at}
+use Rattle.avm_call.specs.Runs.{version_in_front, instruction_at, uint_constants_at, byte_constants_at}
 use Rattle.avm_laws.specs.Rules.{AreBytes, IsMachineValue}
 use Rattle.avm_laws.proofs.MachineValues.{IsWord}
 use Rattle.avm_laws.proofs.FittingRows.{FitsImmediates}
@@ -68,14 +68,14 @@ first_fits version bytes i rest all e =
 instruction_is : {i j : Instr} {n m : ℕ} → ◌≡◌ {A = Result (Instr × ℕ) CodeFault} (Ok (i, n)) (Ok (j, m)) → i ≡ j
 instruction_is {i} {j} {n} {m} e = let both : (i, n) ≡ (j, m) = cc in ap (λ (p : Instr × ℕ). p.0) both
 
-read_by : (program : List ℕ) (place : ℕ) (i : Instr) (next : ℕ) → AreBytes program → (r : Read Instr) → instr_at (version_at program).0 (drop place program) ≡ r
+read_by : (program : List ℕ) (place : ℕ) (i : Instr) (next : ℕ) → AreBytes program → (r : Read Instr) → instr_at (version_in_front program).0 (drop place program) ≡ r
     → ◌≡◌ {A = Result (Instr × ℕ) CodeFault} (r >>= λ x. Ok (x.0, length program - length x.1)) (Ok (i, next)) → FitsImmediates i.immediates
 read_by program place i next all (Err f) is e = absurd cc
 read_by program place i next all (Ok (j, rest)) is e =
-    subst (λ k. FitsImmediates k.immediates) (instruction_is e) (first_fits (version_at program).0 (drop place program) j rest (All-drop (λ b. b < 256) place program all) is)
+    subst (λ k. FitsImmediates k.immediates) (instruction_is e) (first_fits (version_in_front program).0 (drop place program) j rest (All-drop (λ b. b < 256) place program all) is)
 
 pub read_fits : (program : List ℕ) (place : ℕ) (i : Instr) (next : ℕ) → AreBytes program → instruction_at program place ≡ Ok (i, next) → FitsImmediates i.immediates
-read_fits program place i next all e = read_by program place i next all (instr_at (version_at program).0 (drop place program)) refl e
+read_fits program place i next all e = read_by program place i next all (instr_at (version_in_front program).0 (drop place program)) refl e
 
 -- ---- byte strings in a short program
 
@@ -104,14 +104,14 @@ first_short version bytes i rest few e =
     let t = instr_sound version bytes i rest e in
     spelled_short version t.front i (omega (arith, few, ap length t.parts ∙ length-append t.front rest)) t.spelled
 
-short_by : (program : List ℕ) (place : ℕ) (i : Instr) (next : ℕ) → IsShort program → (r : Read Instr) → instr_at (version_at program).0 (drop place program) ≡ r
+short_by : (program : List ℕ) (place : ℕ) (i : Instr) (next : ℕ) → IsShort program → (r : Read Instr) → instr_at (version_in_front program).0 (drop place program) ≡ r
     → ◌≡◌ {A = Result (Instr × ℕ) CodeFault} (r >>= λ x. Ok (x.0, length program - length x.1)) (Ok (i, next)) → AreShortImmediates i.immediates
 short_by program place i next few (Err f) is e = absurd cc
 short_by program place i next few (Ok (j, rest)) is e =
-    subst (λ k. AreShortImmediates k.immediates) (instruction_is e) (first_short (version_at program).0 (drop place program) j rest (omega (arith, few, length-drop place program)) is)
+    subst (λ k. AreShortImmediates k.immediates) (instruction_is e) (first_short (version_in_front program).0 (drop place program) j rest (omega (arith, few, length-drop place program)) is)
 
 pub read_short : (program : List ℕ) (place : ℕ) (i : Instr) (next : ℕ) → IsShort program → instruction_at program place ≡ Ok (i, next) → AreShortImmediates i.immediates
-read_short program place i next few e = short_by program place i next few (instr_at (version_at program).0 (drop place program)) refl e
+read_short program place i next few e = short_by program place i next few (instr_at (version_in_front program).0 (drop place program)) refl e
 
 -- ---- constants in force
 

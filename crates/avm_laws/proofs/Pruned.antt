@@ -7,7 +7,7 @@ use Rattle.std.specs.List.Sorted.{IsStrictlySortedBy}
 use Rattle.std.specs.Map.{keys_of}
 use Rattle.std.specs.declared.cmp.Ordering.TheVariants.{Less}
 use Rattle.std.specs.Cmp.Lexicographic.{pointwise}
-use Rattle.std.proofs.lemmas.Bool.{eqb-true}
+use Rattle.std.proofs.lemmas.Bool.{eqb-true, and_parts}
 use Rattle.std.proofs.lemmas.Slice.Eq.{bytes_eq-Decides}
 use Rattle.teal_value.specs.SameValues.{are_same_bytes}
 use Rattle.teal_value.specs.SameValueLaws.{is_same-Decides}
@@ -26,13 +26,12 @@ use Rattle.avm_items.specs.SameValues.{is_same_schema, is_same_application, is_s
 use Rattle.avm_items.specs.LedgerItems.{at, put, AreChanges, pruned}
 use Rattle.avm_laws.proofs.Given.{item_same, item_total, put_gives, puts_changes}
 use Rattle.avm_laws.proofs.FollowedCalls.{Leaves, sorted_filter}
-use Rattle.avm_laws.proofs.Tests.{both}
 
 -- ---- the test of two values answers true exactly where they are equal
 
 same_schema : (s t : Schema) → is_same_schema s t ≡ true → s ≡ t
 same_schema s t e =
-    let parts = both (s.uints == t.uints) (s.bytes == t.bytes) e in
+    let parts = and_parts (s.uints == t.uints) (s.bytes == t.bytes) e in
     let uints = eqb-true s.uints t.uints parts.0 in
     let bytes = eqb-true s.bytes t.bytes parts.1 in
     λ i. record { uints = uints i; bytes = bytes i }
@@ -42,10 +41,10 @@ schema_itself s = λ i. eq-eqb s.uints s.uints refl i && eq-eqb s.bytes s.bytes 
 
 same_application : (a b : Application) → is_same_application a b ≡ true → a ≡ b
 same_application a b e =
-    let local = both _ (is_same_schema a.local_schema b.local_schema) e in
-    let global = both _ (is_same_schema a.global_schema b.global_schema) local.0 in
-    let clear = both _ (are_same_bytes a.clear b.clear) global.0 in
-    let approval = both (are_same_bytes a.creator.0 b.creator.0) (are_same_bytes a.approval b.approval) clear.0 in
+    let local = and_parts _ (is_same_schema a.local_schema b.local_schema) e in
+    let global = and_parts _ (is_same_schema a.global_schema b.global_schema) local.0 in
+    let clear = and_parts _ (are_same_bytes a.clear b.clear) global.0 in
+    let approval = and_parts (are_same_bytes a.creator.0 b.creator.0) (are_same_bytes a.approval b.approval) clear.0 in
     let creator = address_is a.creator b.creator ((bytes_eq-Decides a.creator.0 b.creator.0).0 approval.0) in
     let p = (bytes_eq-Decides a.approval b.approval).0 approval.1 in
     let q = (bytes_eq-Decides a.clear b.clear).0 clear.1 in

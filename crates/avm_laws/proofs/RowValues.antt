@@ -38,8 +38,8 @@ use Rattle.avm_ops.specs.Frame.{Context, After, Stepped, pushes, pushes_pair, mu
 use Rattle.avm_ops.specs.Immediates.{index_of, offset_of, field_of, group_index_of, start_of, end_of, uint_of, bytes_of}
 use Rattle.avm_ops.specs.Numbers.{of_two_uints, is_less, is_greater, is_at_most, is_at_least, are_both_nonzero, is_either_nonzero, is_nonzero, if_equal, is_zero, inverted, sum_of, difference_of, product_of, quotient_of, remainder_of, bits_or, bits_and, bits_xor, compares, are_equal, equality, wide, wide_product, wide_sum, of_one_uint}
 use Rattle.avm_ops.specs.ByteStrings.{of_bytes, length_of, number_of_bytes, bytes_of_number, digest_by, range_of, bit_count, bit_of_value, value_with_bit}
-use Rattle.avm_ops.specs.Stack.{target_of}
-use Rattle.avm_ops.specs.Fields.{zero_address, scalar_field, array_field, is_in_group, global_value, global_at}
+use Rattle.avm_ops.specs.Stack.{jump_by}
+use Rattle.avm_ops.specs.Fields.{zero_address_bytes, scalar_field, array_field, is_in_group, global_value, global_at}
 use Rattle.avm_ops.specs.States.{value_length, application, application_named, foreign_of, global_entry, may_put, or_zero, the_local_state, global_put_over, global_delete_of, leaves}
 use Rattle.avm_ops.specs.Effect.{effect}
 use Rattle.avm_ops.proofs.RowFacts.{OnOk}
@@ -159,7 +159,7 @@ pushed_pair {V} {m} {c} g v top h k = by (nat_le (length c.machine.stack + 2) 10
     }
     by false is = tt
 
-branched : {V : Value → Type 0} {m : Ledger} {c : Context} {i : Immediates} → IsGiven V m c i → (offset : ℕ) (b : Bool) → Leaves V c (if b then record (next_with_stack c (drop 1 c.machine.stack)) { flow = target_of c offset } else next_with_stack c (drop 1 c.machine.stack))
+branched : {V : Value → Type 0} {m : Ledger} {c : Context} {i : Immediates} → IsGiven V m c i → (offset : ℕ) (b : Bool) → Leaves V c (if b then record (next_with_stack c (drop 1 c.machine.stack)) { flow = jump_by c offset } else next_with_stack c (drop 1 c.machine.stack))
 branched {V} {m} {c} g offset true = let d = dropped g 1 in record { height = d.height; stack = d.stack; scratch = d.scratch }
 branched g offset false = dropped g 1
 
@@ -246,9 +246,9 @@ global_row g (Some global.CurrentApplicationId) = pushed g _ (g.global global.Cu
 
 abbrev pub creator_of : Option Application → Value
 creator_of (Some row) = Bytes row.creator.0
-creator_of None = Bytes zero_address
+creator_of None = Bytes zero_address_bytes
 
-pub creator_holds : (V : Value → Type 0) → V (Bytes zero_address) → (v : ItemValue) → Holds V v → V (creator_of (application_in v))
+pub creator_holds : (V : Value → Type 0) → V (Bytes zero_address_bytes) → (v : ItemValue) → Holds V v → V (creator_of (application_in v))
 creator_holds V zero (value.App row) h = h
 creator_holds V zero _ h = zero
 

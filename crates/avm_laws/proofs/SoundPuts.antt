@@ -7,7 +7,7 @@ use Rattle.std.specs.declared.cmp.Ordering.TheVariants.{Less, Equal, Greater}
 use Rattle.std.specs.Map.{keys_of, remove_entry}
 use Rattle.std.specs.BTreeMap.{insert_entry, is_at}
 use Rattle.std.specs.List.Sorted.{IsStrictlySortedBy}
-use Rattle.std.proofs.lemmas.Bool.{le-leb, leb-true}
+use Rattle.std.proofs.lemmas.Bool.{le-leb, leb-true, and_parts}
 use Rattle.std.proofs.lemmas.Cmp.{nat_list_cmp_total}
 use Rattle.std.proofs.lemmas.List.Elements.{All-nil, All-cons, All-head, All-tail, All-contains}
 use Rattle.std.proofs.lemmas.Map.Views.{Contains-from_lookup}
@@ -18,13 +18,13 @@ use Rattle.avm_ledger.specs.declared.application.Application.{Application}
 use Rattle.avm_ledger.specs.declared.application.StoredApplication.{StoredApplication}
 use Rattle.avm_ledger.specs.declared.schema.Schema.{Schema}
 use Rattle.avm_ledger.specs.Entries.{Entries, byte_cmp, value_of_key, with_entry, without_entry}
-use Rattle.avm_ledger.specs.Schemas.{counts_in, uncounted, counts_after, is_within, keeps_kind}
+use Rattle.avm_ledger.specs.Schemas.{counts_in, counts_after, is_within, keeps_kind}
 use Rattle.avm_ledger.specs.Ledgers.{Ledger, account_cmp, application_at, local_state_at, with_application, with_row, with_state}
 use Rattle.avm_ledger.specs.LedgerReader.{local_room, room_of_schema}
 use Rattle.avm_ledger.specs.LedgerRules.{IsStateValue, IsStateEntry, IsStateIn, IsLocalStateBelow, KeepsRules}
 use Rattle.avm_ledger.proofs.Changes.{account_same}
-use Rattle.avm_ledger.proofs.Counts.{follow_puts, follow_deletes, stay_with_kind}
-use Rattle.avm_ledger.proofs.Maps.{is_Equal, sorted-inserted, sorted-removed}
+use Rattle.avm_ledger.proofs.Counts.{follow_puts, stay_with_kind}
+use Rattle.avm_ledger.proofs.Maps.{is_Equal, sorted-inserted}
 use Rattle.avm_items.specs.declared.item.Item.{Item}
 use Rattle.avm_items.specs.declared.item.Item.TheVariants as item
 use Rattle.avm_items.specs.declared.item_value.ItemValue.{ItemValue}
@@ -32,7 +32,7 @@ use Rattle.avm_items.specs.declared.item_value.ItemValue.TheVariants as value
 use Rattle.avm_items.specs.Items.{ItemMap, application_in, local_state_in}
 use Rattle.avm_items.specs.LedgerItems.{at, put_one, row_value, local_value}
 use Rattle.avm_items.specs.RuleLaws.{IsEntryFor, MayKeep}
-use Rattle.avm_items.proofs.RulesKept.{rules_stay}
+use Rattle.avm_items.proofs.RulesKept.{rules_stay, state_deleted}
 use Rattle.avm_ops.specs.Frame.{Context}
 use Rattle.avm_ops.specs.States.{value_length, schema_in}
 use Rattle.avm_laws.specs.Rules.{IsMachineValue, AreMachineValues, IsRowOfBytes, IsStoredOfBytes, IsLedgerOfBytes, IsSound}
@@ -41,7 +41,6 @@ use Rattle.avm_laws.proofs.Following.{the_application, entry_there, counts_there
 use Rattle.avm_laws.proofs.FollowedRuns.{led}
 use Rattle.avm_laws.proofs.FittingRows.{Fits, stored_fits, local_fits}
 use Rattle.avm_ledger.proofs.KeptOrder.{application_rules}
-use Rattle.avm_laws.proofs.Tests.{both}
 
 -- ---- all entries, after an insertion and a removal
 
@@ -113,7 +112,7 @@ length_counts ((k, Bytes s) ∷ es) = omega (arith, length_counts es)
 
 state_within : (limit : Schema) (state : Entries) → IsStrictlySortedBy byte_cmp (keys_of state) → All IsStateEntry state → is_within (counts_in state) limit ≡ true → IsStateIn (room_of_schema limit) state
 state_within limit state rising entries room =
-    let parts = both (nat_le (counts_in state).uints limit.uints) (nat_le (counts_in state).bytes limit.bytes) room in
+    let parts = and_parts (nat_le (counts_in state).uints limit.uints) (nat_le (counts_in state).bytes limit.bytes) room in
     let uints = leb-true (counts_in state).uints limit.uints parts.0 in
     let strings = leb-true (counts_in state).bytes limit.bytes parts.1 in
     record { rising = rising; entries = entries; few = omega (arith, length_counts state, uints, strings); uints = uints; strings = strings }
@@ -186,25 +185,6 @@ local_with limit state key v short h room is =
     state_within limit (with_entry state key v) (sorted-inserted nat_list_cmp_total key v state is.rising) (entries_with state key v short h is.entries)
     (put_room limit state key v is (keeps_kind (value_of_key state key) (Some v)) refl room)
 
-fewer : (old : Option Value) (n : Schema) → ((uncounted old n).uints ≤ n.uints) × ((uncounted old n).bytes ≤ n.bytes)
-fewer None n = (omega arith, omega arith)
-fewer (Some (Uint m)) n = (omega arith, omega arith)
-fewer (Some (Bytes s)) n = (omega arith, omega arith)
-
-local_without : (limit : Schema) (state : Entries) (key : List ℕ) → IsStateIn (room_of_schema limit) state → IsStateIn (room_of_schema limit) (without_entry state key)
-local_without limit state key is =
-    let counts : counts_in (without_entry state key) ≡ uncounted (value_of_key state key) (counts_in state) = follow_deletes state key in
-    let less = fewer (value_of_key state key) (counts_in state) in
-    let uints : (counts_in (without_entry state key)).uints ≤ limit.uints = subst (λ n. n.uints ≤ limit.uints) (sym counts) (omega (arith, less.0, is.uints)) in
-    let strings : (counts_in (without_entry state key)).bytes ≤ limit.bytes = subst (λ n. n.bytes ≤ limit.bytes) (sym counts) (omega (arith, less.1, is.strings)) in
-    record {
-      rising = sorted-removed nat_list_cmp_total key state is.rising;
-      entries = all_without (is_at (byte_cmp key)) IsStateEntry state is.entries;
-      few = omega (arith, length_counts (without_entry state key), uints, strings);
-      uints = uints;
-      strings = strings;
-    }
-
 -- ---- what an instruction writes
 
 pub led_sound : (m : Ledger) (c : Context) (w : ItemMap) → Fits m c → (h : Writes m c w) → IsSound (led m c w h)
@@ -227,5 +207,5 @@ led_sound m c w f (LocalPut who state key v there put room is) =
     (values_with state key v (operand_fits m c f key v put) (local_fits m f.ledger who c.current state there))
 led_sound m c w f (LocalDeleted who state key there is) =
     sound_put m (item.Local who c.current) (value.Local (without_entry state key)) f.ledger
-    (local_may m c f who state (without_entry state key) there (λ app here. local_without app.row.local_schema state key))
+    (local_may m c f who state (without_entry state key) there (λ app here. state_deleted app.row.local_schema state key))
     (values_without state key (local_fits m f.ledger who c.current state there))

@@ -13,13 +13,13 @@ use Rattle.avm_call.specs.OutcomeSpelling.{outcome_bytes}
 use Rattle.avm_laws.specs.Rules.{HasWords}
 
 -- a fault at a place of two bytes
-abbrev pub HasPlace : Outcome → Type 0
-HasPlace (outcome.Faulted f place) = place < 2 ^ 16
-HasPlace (outcome.ClearedAnyway (cause.Faulted f place)) = place < 2 ^ 16
-HasPlace _ = Unit {0}
+abbrev pub HasShortPlace : Outcome → Type 0
+HasShortPlace (outcome.Faulted f place) = place < 2 ^ 16
+HasShortPlace (outcome.ClearedAnyway (cause.Faulted f place)) = place < 2 ^ 16
+HasShortPlace _ = Unit {0}
 
 abbrev pub OutcomesApart : Type 0
-OutcomesApart = (o p : Outcome) (x y : List ℕ) → HasPlace o → HasPlace p → outcome_bytes o ++ x ≡ outcome_bytes p ++ y → (o ≡ p) × (x ≡ y)
+OutcomesApart = (o p : Outcome) (x y : List ℕ) → HasShortPlace o → HasShortPlace p → outcome_bytes o ++ x ≡ outcome_bytes p ++ y → (o ≡ p) × (x ≡ y)
 
 -- The profile stands elsewhere.
 abbrev pub HeadersApart : Type 0

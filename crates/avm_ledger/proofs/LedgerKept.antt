@@ -48,9 +48,9 @@ less Less e = refl
 less Equal e = absurd cc
 less Greater e = absurd cc
 
-is_within : {A F : Type 0} (rule : Bool) (r : Result A F) (d : F) (x : A) → cond rule r (Err d) ≡ Ok x → rule ≡ true
-is_within true r d x e = refl
-is_within false r d x e = absurd cc
+passed_rule : {A F : Type 0} (rule : Bool) (r : Result A F) (d : F) (x : A) → cond rule r (Err d) ≡ Ok x → rule ≡ true
+passed_rule true r d x e = refl
+passed_rule false r d x e = absurd cc
 
 -- ---- states
 
@@ -71,7 +71,7 @@ value_kept left bytes x all e =
     bytes_value : (n : ℕ × List ℕ) → ltb 0 left.bytes ≡ true → bytes_value_at n.1 ≡ Ok x → IsStateValue x.0 × HasRoom x.0 left
     bytes_value n room e =
         from (short_string_at Truncated n.1) _ x e (λ m em e1.
-        let short : leb (length m.0) 64 ≡ true = is_within (leb (length m.0) 64) (Ok (Bytes m.0, m.1)) Malformed x e1 in
+        let short : leb (length m.0) 64 ≡ true = passed_rule (leb (length m.0) 64) (Ok (Bytes m.0, m.1)) Malformed x e1 in
         let is : ◌≡◌ {A = Value × List ℕ} (Bytes m.0, m.1) x = same_value _ _ (if_kept (leb (length m.0) 64) (Ok (Bytes m.0, m.1)) Malformed x e1) in
         subst (λ p. IsStateValue p.0 × HasRoom p.0 left) is (leb-true (length m.0) 64 short, ltb-true 0 left.bytes room))
 
@@ -135,7 +135,7 @@ entries_kept (suc n) before left bytes x all e =
 state_kept : (room : Room) (bytes : List ℕ) (x : Entries × List ℕ) → AllBytes bytes → state_at room bytes ≡ Ok x → IsStateIn room x.0
 state_kept room bytes x all e =
     from (number_at Truncated w8 bytes) (state_of_count room) x e (λ n en e1.
-    let few : leb n.0 room.entries ≡ true = is_within (leb n.0 room.entries) (entries_at n.0 None room.kinds n.1) Malformed x e1 in
+    let few : leb n.0 room.entries ≡ true = passed_rule (leb n.0 room.entries) (entries_at n.0 None room.kinds n.1) Malformed x e1 in
     let read : entries_at n.0 None room.kinds n.1 ≡ Ok x = if_kept (leb n.0 room.entries) _ Malformed x e1 in
     let rest = (byte_spelled Truncated bytes n all en).rest_are_bytes in
     let are = entries_kept n.0 None room.kinds n.1 x rest read in

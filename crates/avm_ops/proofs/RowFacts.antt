@@ -28,11 +28,11 @@ use Rattle.avm_cpu.specs.Operands.{one_uint, one_bytes, one_value, bytes_and_two
 use Rattle.avm_ops.specs.Frame.{Context, After, Stepped, pushes, pushes_pair, next_with_stack, flag}
 use Rattle.avm_ops.specs.Immediates.{index_of, field_of, start_of, end_of, uint_of, bytes_of}
 use Rattle.avm_ops.specs.ByteStrings.{big_endian, number_of_bytes, range_of}
-use Rattle.avm_ops.specs.Stack.{target_of}
+use Rattle.avm_ops.specs.Stack.{jump_by}
 use Rattle.avm_ops.specs.Fields.{global_at}
 use Rattle.avm_ops.specs.States.{value_length, foreign_of, foreign_application, global_entry, may_put, global_put_over, global_delete_of, leaves}
 use Rattle.avm_ops.specs.Effect.{effect}
-use Rattle.avm_ops.specs.Steps.{branch_target, uints_after, strings_after, IsFlowTo, GoesOn, AsksLittle}
+use Rattle.avm_ops.specs.Steps.{branch_target, uints_after, strings_after, IsFlowTo, RunsOn, AsksLittle}
 use Rattle.avm_ops.specs.TakenOperands.{Underflows, TestsTypes, is_kind}
 use Rattle.avm_ops.specs.LeftValues.{Leaves, LeavesItsRow}
 use Rattle.avm_ops.proofs.TakenOperands as takes
@@ -134,7 +134,7 @@ doubled_pair c target a b =
     either (Plain c target false (kind.Any ∷ kind.Any ∷ []) (kind.Any ∷ kind.Any ∷ kind.Any ∷ kind.Any ∷ [])) (nat_le (length c.machine.stack + 2) 1000) _ _
     (restacked c target (kind.Any ∷ kind.Any ∷ []) (kind.Any ∷ kind.Any ∷ kind.Any ∷ kind.Any ∷ []) (b ∷ a ∷ c.machine.stack) (two_above c.machine.stack a b)) tt
 
-branched : (c : Context) (offset : ℕ) (b : Bool) → Plain c (Some (c.machine.place + 3 + offset)) false (kind.Uint ∷ []) [] (if b then record (next_with_stack c (drop 1 c.machine.stack)) { flow = target_of c offset } else next_with_stack c (drop 1 c.machine.stack))
+branched : (c : Context) (offset : ℕ) (b : Bool) → Plain c (Some (c.machine.place + 3 + offset)) false (kind.Uint ∷ []) [] (if b then record (next_with_stack c (drop 1 c.machine.stack)) { flow = jump_by c offset } else next_with_stack c (drop 1 c.machine.stack))
 branched c offset true = record { goes = refl; uints = refl; strings = refl; space = refl; same = λ quiet. refl; left = λ h on. without (kind.Uint ∷ []) c.machine.stack h }
 branched c offset false = dropped c (Some (c.machine.place + 3 + offset)) (kind.Uint ∷ [])
 
@@ -342,7 +342,7 @@ at_most-result n P look (Asks x k) h = at_most-result (n - 1) P look (k (look x)
 pub effect_asks : AsksLittle
 effect_asks c o i = at_most-each (questions o) 3 (OnOk (FactsOf c o i)) _ (effect c o i) (questions_few o) goes (row_facts c o i).leaves
   where
-    goes : (r : Stepped) → OnOk (FactsOf c o i) r → GoesOn (branch_target c.machine.place o i) (uints_after o i c.machine.uint_constants) (strings_after o i c.machine.byte_constants) r
+    goes : (r : Stepped) → OnOk (FactsOf c o i) r → RunsOn (branch_target c.machine.place o i) (uints_after o i c.machine.uint_constants) (strings_after o i c.machine.byte_constants) r
     goes (Ok after) h = (h.goes, h.uints, h.strings)
     goes (Err f) h = tt
 

@@ -11,7 +11,7 @@ use Rattle.avm_call.specs.CallRules.{needed_profile}
 use Rattle.avm_call.specs.Places.{HasPlace}
 use Rattle.avm_call.specs.Replay.{ledger_after, outcome_on}
 use Rattle.avm_block.specs.declared.entry.Entry.{Entry}
-use Rattle.avm_block.specs.AcceptedCalls.{is_within}
+use Rattle.avm_block.specs.AcceptedCalls.{fits_in}
 use Rattle.avm_block.specs.Blocks.{RisesAbove, calls_in}
 use Rattle.avm_replay.specs.Plain.{AreMade, first_beyond, timestamps_from}
 use Rattle.avm_replay.proofs.Entries.{heads, outcomes-append, replayed-append, tails}
@@ -60,13 +60,13 @@ rising (c ∷ cs) before (x ∷ xs) e =
 
 -- ---- the first call that needs a newer profile
 
-pub beyond_here : (p : Profile) (number i : ℕ) (cs : List CallData) (c : CallData) → i < length cs → c ≡ slice_index_or cs i c → is_within (needed_profile c) p ≡ false
+pub beyond_here : (p : Profile) (number i : ℕ) (cs : List CallData) (c : CallData) → i < length cs → c ≡ slice_index_or cs i c → fits_in (needed_profile c) p ≡ false
     → first_beyond p number (drop i cs) ≡ Some number
 beyond_here p number i cs c lt is beyond =
     let more : drop i cs ≡ c ∷ drop (i + 1) cs = drop_more cs i c lt ∙ ap (λ x. x ∷ drop (i + 1) cs) (sym is) in
     ap (first_beyond p number) more ∙ rw beyond refl
 
-pub within_here : (p : Profile) (number i : ℕ) (cs : List CallData) (c : CallData) → i < length cs → c ≡ slice_index_or cs i c → is_within (needed_profile c) p ≡ true
+pub within_here : (p : Profile) (number i : ℕ) (cs : List CallData) (c : CallData) → i < length cs → c ≡ slice_index_or cs i c → fits_in (needed_profile c) p ≡ true
     → first_beyond p number (drop i cs) ≡ first_beyond p (number + 1) (drop (i + 1) cs)
 within_here p number i cs c lt is within =
     let more : drop i cs ≡ c ∷ drop (i + 1) cs = drop_more cs i c lt ∙ ap (λ x. x ∷ drop (i + 1) cs) (sym is) in

@@ -10,9 +10,9 @@ use Rattle.avm_call.specs.WorkedPrograms.{zero_header}
 use Rattle.avm_call.specs.Replay.{outcome_on}
 use Rattle.avm_replay.specs.declared.verdict.Verdict.TheVariants as verdict
 use Rattle.avm_replay.specs.Verdicts.{Judges}
-use Rattle.avm_replay.specs.WorkedVerdicts.{block_of_creation, created, creation, entry_of_creation}
+use Rattle.avm_replay.specs.WorkedVerdicts.{block_of_creation, created, creating_call, entry_of_creation}
 
-approved : outcome_on empty_ledger creation (zero_header profile.Two) ≡ outcome.Approved
+approved : outcome_on empty_ledger creating_call (zero_header profile.Two) ≡ outcome.Approved
 unfolding row_of opcodes opcode_at txn_field_at global_field_at effect
 approved = refl
 

@@ -15,8 +15,8 @@ abbrev pub entries_until : ℕ → List Entry → List Entry
 entries_until timestamp = filter (λ (e : Entry). nat_le e.timestamp timestamp)
 
 -- the ledger after the calls with timestamps up to this one
-abbrev pub ledger_at : Ledger → Block → ℕ → Ledger
-ledger_at l b timestamp = replayed l b.header (calls_in (entries_until timestamp b.entries))
+abbrev pub ledger_until : Ledger → Block → ℕ → Ledger
+ledger_until l b timestamp = replayed l b.header (calls_in (entries_until timestamp b.entries))
 
 -- It is refused for another ledger before the block, or for want of memory.
 abbrev pub IsRefused : Ledger → Block → Failure StateFault → Type 0

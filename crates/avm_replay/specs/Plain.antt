@@ -10,7 +10,7 @@ use Rattle.avm_call.specs.CallRules.{needed_profile}
 use Rattle.avm_call.specs.Places.{HasPlace}
 use Rattle.avm_call.specs.Replay.{outcomes, replayed}
 use Rattle.avm_block.specs.declared.entry.Entry.{Entry}
-use Rattle.avm_block.specs.AcceptedCalls.{is_within}
+use Rattle.avm_block.specs.AcceptedCalls.{fits_in}
 use Rattle.avm_block.specs.Blocks.{Block, Replays, calls_in, calls_of, outcomes_in}
 use Rattle.avm_replay.specs.declared.plain.PlainBlockFault.{PlainBlockFault}
 use Rattle.avm_replay.specs.declared.plain.PlainBlockFault.TheVariants as fault
@@ -19,7 +19,7 @@ use Rattle.avm_replay.specs.declared.plain.PlainBlockFault.TheVariants as fault
 abbrev pub first_beyond : Profile → ℕ → List CallData → Option ℕ
 first_beyond profile number [] = None
 first_beyond profile number (call ∷ calls) =
-    if is_within (needed_profile call) profile then first_beyond profile (number + 1) calls else Some number
+    if fits_in (needed_profile call) profile then first_beyond profile (number + 1) calls else Some number
 
 -- why these calls make no block under a header
 abbrev pub plain_fault : Header → List CallData → Option PlainBlockFault

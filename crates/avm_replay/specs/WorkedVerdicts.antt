@@ -12,15 +12,15 @@ use Rattle.avm_block.specs.declared.entry.Entry.{Entry}
 use Rattle.avm_block.specs.Blocks.{Block}
 
 -- a creation whose programs approve
-abbrev pub creation : CallData
-creation = plain_creation approving approving no_entries no_entries
+abbrev pub creating_call : CallData
+creating_call = plain_creation approving approving no_entries no_entries
 
 -- the ledger after it, over the one without applications
 abbrev pub created : Ledger
-created = ledger_of (creation ∷ [])
+created = ledger_of (creating_call ∷ [])
 
 abbrev pub entry_of_creation : Outcome → Entry
-entry_of_creation outcome = record { timestamp = 1; call = creation; outcome = outcome }
+entry_of_creation outcome = record { timestamp = 1; call = creating_call; outcome = outcome }
 
 -- a block that says how the creation ends
 abbrev pub block_of_creation : Outcome → Block

@@ -5,7 +5,7 @@ ghost use Rattle.teal_value.specs.declared.value.Value.TheVariants.{Bytes};
 ghost use Rattle.teal_value.specs.Answer.{Gives};
 ghost use Rattle.teal_value.specs.declared.fault.Fault.TheVariants.{NoAccount};
 ghost use Rattle.avm_items.specs.CallFields.{account};
-ghost use Rattle.avm_ops.specs.Fields.{array_field, scalar_field, txn_array_value, txn_value, zero_address};
+ghost use Rattle.avm_ops.specs.Fields.{array_field, scalar_field, txn_array_value, txn_value, zero_address_bytes};
 ghost use Rattle.avm_ops.specs.Frame.{there};
 
 use avm_items::CallData;

@@ -2,13 +2,11 @@
 use Rattle.std.proofs.Common.{◌≡◌, ◌≢◌, ℕ, ◌+◌, ◌-◌, ◌<◌, ◌≤◌, ◌==◌, Bool, true, false, cond, not, if◌then◌else◌, List, [], ◌∷◌, ◌++◌, length, Option, None, Some, get_or, set, refl, sym, ap, ◌∙◌, subst, arith}
 use Rattle.std.specs.List.{AllByRecursion, insert}
 use Rattle.std.proofs.lemmas.List.{get_or-set_same, get_or-set_other, length-set}
+use Rattle.std.proofs.lemmas.Option.{same_Some}
 use Rattle.mv_history.specs.World.{Attempt, attempt_at, attempts_with_read, attempts_without, fresh_attempt, live_count}
 use Rattle.mv_history.proofs.Attempts.{attempt_at-last, attempt_at-push, attempt_at-without, found_timestamp, live_count-ended, live_count-push, live_count-without}
 use Rattle.mv_history.proofs.Lists.{Equals, equal, unequal, equals}
 use Rattle.mv_core.specs.Places.{ArePlacesOf, IsLive, IsPlaceOf, Slots, live_in, reads_in, reads_or}
-
-some_is : {X : Type 0} {a b : X} → Some a ≡ Some b → a ≡ b
-some_is e = cc
 
 module _ {Item Value : Type 0} where
   -- ---- what the attempts of other calls have read
@@ -68,7 +66,7 @@ module _ {Item Value : Type 0} where
     where
       by : (o : Option (Attempt Item Value)) → attempt_at t live ≡ o → with_reads slots o ≡ Some k.attempt → IsLive live n t
       by None found is = absurd cc
-      by (Some b) found is = record { attempt = b; live = found; number = ap (λ (c : Attempt Item Value). c.number) (some_is is) ∙ k.number }
+      by (Some b) found is = record { attempt = b; live = found; number = ap (λ (c : Attempt Item Value). c.number) (same_Some _ _ is) ∙ k.number }
 
   -- a call that is live counts
   live_counts : (n t : ℕ) (live : List (Attempt Item Value)) → IsLive live n t → 0 < live_count n live
@@ -195,7 +193,7 @@ module _ {Item Value : Type 0} where
   ended_others live n t l m (Some b) other k = (k.0, record { attempt = k.1.attempt; live = attempt_at-without b.timestamp t live apart ∙ k.1.live; number = k.1.number })
     where
       apart : b.timestamp ≢ t
-      apart same = other (sym k.1.number ∙ ap (λ (c : Attempt Item Value). c.number) (some_is (sym k.1.live ∙ ap (λ u. attempt_at u live) same ∙ l.live)) ∙ l.number)
+      apart same = other (sym k.1.number ∙ ap (λ (c : Attempt Item Value). c.number) (same_Some _ _ (sym k.1.live ∙ ap (λ u. attempt_at u live) same ∙ l.live)) ∙ l.number)
 
   pub places_ended : (slots : Slots Item Value) (live : List (Attempt Item Value)) (n t : ℕ) → 0 < n → n - 1 < length slots → IsLive live n t → live_count n live ≤ 1 → ArePlacesOf live slots → ArePlacesOf (attempts_without t live) (set slots (n - 1) None)
   places_ended slots live n t above within l once k = placed slots live (attempts_without t live) n None above within (ended n t live l once) (ended_others live n t l) k
@@ -238,7 +236,7 @@ module _ {Item Value : Type 0} where
           → record a { reads = reads_in (set slots (n - 1) (Some after)) a.number } ∷ live_in (set slots (n - 1) (Some after)) as'
           ≡ (if b then record a { reads = insert (reads_in slots a.number) place read } ∷ live_in slots as' else record a { reads = reads_in slots a.number } ∷ attempts_with_read t place read (live_in slots as'))
       by true is again =
-          let number : a.number ≡ n = ap (λ (c : Attempt Item Value). c.number) (some_is is) ∙ k.number in
+          let number : a.number ≡ n = ap (λ (c : Attempt Item Value). c.number) (same_Some _ _ is) ∙ k.number in
           let rest = live_others slots (Some after) n as' above (here number (a.number == n) (equals a.number n) once) in
           let reads = subst (λ m. reads_in (set slots (n - 1) (Some after)) m ≡ insert (reads_in slots m) place read) (sym number) (read_more slots before after n place read above within found more) in
           λ i. record a { reads = reads i } ∷ rest i

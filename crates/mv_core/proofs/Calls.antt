@@ -1,6 +1,7 @@
 -- What the calls of a store make of what it keeps, by the contracts of the journal and of the shards that are held.
 use Rattle.std.proofs.Common.{◌≡◌, ℕ, ◌+◌, ◌-◌, ◌<◌, ◌≤◌, ◌==◌, Bool, nat_lt, if◌then◌else◌, [], length, Option, None, Some, get_or, set, refl, sym, ap, ◌∙◌, subst, arith, inl, inr}
 use Rattle.std.specs.Prelude.{◌⊎◌, ◌||◌, ◌^◌, IsSome}
+use Rattle.std.proofs.lemmas.Option.{same_Some}
 use Rattle.teal_value.specs.declared.failure.Failure.{Failure}
 use Rattle.teal_value.specs.declared.failure.Failure.TheVariants as failure
 use Rattle.avm_items.specs.declared.item.Item.{Item}
@@ -33,9 +34,6 @@ use Rattle.mv_core.proofs.Attempts.{attempt_here, count_in, live_here, live_ther
 use Rattle.mv_core.proofs.Events.{kept_abandoned, kept_again, kept_begun, kept_pruned, kept_read, marks_left, never_pruned, once, still_above}
 use Rattle.mv_core.proofs.MarksBelow.{below_read}
 use Rattle.mv_core.proofs.Tickets.{at_none}
-
-some_is : {X : Type 0} {a b : X} → Some a ≡ Some b → a ≡ b
-some_is e = cc
 
 -- ---- begin
 
@@ -101,14 +99,14 @@ module _ (j : Journal) (places : Places) (slots : CallSlots) where
 
     -- its attempt is live in the journal
     pub live_in_journal : (a : CallAttempt) → get_or slots place None ≡ Some a → journal.IsLive j.world a
-    live_in_journal a found = subst (λ (b : CallAttempt). journal.IsLive j.world b) (some_is (sym p.found ∙ found))
+    live_in_journal a found = subst (λ (b : CallAttempt). journal.IsLive j.world b) (same_Some _ _ (sym p.found ∙ found))
         (subst (λ o. IsOfNumber p.attempt.number o) (sym is_here.0.live) (is_here.0.number ∙ sym is_here.1))
 
     pub store_abandoned : (new : Journal) (a : CallAttempt) → get_or slots place None ≡ Some a → new ≡ record j { world = after_abandon j.world a.timestamp }
         → IsKeptBy new places (set slots place None) × (shown_by new places (set slots place None) ≡ record (shown_by j places slots) { world = after_abandon (shown_by j places slots).world t })
     store_abandoned new a found is =
         subst (λ i. IsKeptBy i places (set slots place None) × (shown_by i places (set slots place None) ≡ record (shown_by j places slots) { world = after_abandon (shown_by j places slots).world t }))
-        (sym (is ∙ ap (λ (b : CallAttempt). record j { world = after_abandon j.world b.timestamp }) (some_is (sym found ∙ p.found)) ∙ ap (λ u. record j { world = after_abandon j.world u }) p.time))
+        (sym (is ∙ ap (λ (b : CallAttempt). record j { world = after_abandon j.world b.timestamp }) (same_Some _ _ (sym found ∙ p.found)) ∙ ap (λ u. record j { world = after_abandon j.world u }) p.time))
         (subst (λ i. IsKeptBy (record j { world = after_abandon j.world t }) places (set slots i None) × (shown_by (record j { world = after_abandon j.world t }) places (set slots i None) ≡ record (shown_by j places slots) { world = after_abandon (shown_by j places slots).world t })) (sym p.is)
         (let h = kept_abandoned j.base j.header j.calls j.world places slots k.kept n t p.above p.within is_live in (record { kept = h.0; marks = k.marks }, h.1)))
 
@@ -152,11 +150,11 @@ module _ (j : Journal) (places : Places) (slots : CallSlots) where
 
         from : j.world.low ≤ r.before.timestamp
         from =
-            subst (λ (b : CallAttempt). j.world.low ≤ b.timestamp) (some_is (sym p.found ∙ r.found))
+            subst (λ (b : CallAttempt). j.world.low ≤ b.timestamp) (same_Some _ _ (sym p.found ∙ r.found))
             (found_attempt (λ (b : CallAttempt). j.world.low ≤ b.timestamp) p.attempt.timestamp p.attempt (live_in slots j.world.live) is_here.2 k.kept.store.consistent.schedule.low_live)
 
         time : r.before.timestamp ≡ t
-        time = ap (λ (b : CallAttempt). b.timestamp) (some_is (sym r.found ∙ p.found)) ∙ p.time
+        time = ap (λ (b : CallAttempt). b.timestamp) (same_Some _ _ (sym r.found ∙ p.found)) ∙ p.time
 
         by : (shard.IsFirstRead r.read.shard r.read.read_shard r.before r.after x v ⊎ shard.IsReadAgain r.read.shard r.read.read_shard r.before r.after x v)
             → Goal (set places (shard_of x) (Some r.read.read_shard)) (set slots (n - 1) (Some r.after))

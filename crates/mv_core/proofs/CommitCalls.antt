@@ -1,6 +1,7 @@
 -- A store's commit, by the contracts of the journal and of the place that its ticket names.
 use Rattle.std.proofs.Common.{◌≡◌, ℕ, zero, suc, ◌-◌, true, false, List, [], ◌∷◌, Option, None, Some, get_or, set, slice_set, refl, sym, ap, ◌∙◌, subst}
 use Rattle.std.specs.Prelude.{IsSome}
+use Rattle.std.proofs.lemmas.Option.{same_Some}
 use Rattle.teal_value.specs.declared.failure.Failure.{Failure}
 use Rattle.teal_value.specs.declared.failure.Failure.TheVariants as failure
 use Rattle.avm_items.specs.declared.item.Item.{Item}
@@ -28,9 +29,6 @@ use Rattle.mv_core.proofs.Attempts.{attempt_here}
 use Rattle.mv_core.proofs.Calls.{live_in_journal, store_placed}
 use Rattle.mv_core.proofs.Commits.{fresh, from, in_time_here, kept_committed, late_shown, none_foreign, positive, unmoved, versions_new}
 use Rattle.mv_core.proofs.MarksBelow.{below_commit}
-
-some_is : {X : Type 0} {a b : X} → Some a ≡ Some b → a ≡ b
-some_is e = cc
 
 -- what was taken from a place is there again
 pub put_back : {A : Type 0} (xs : List (Option A)) (i : ℕ) (o left d : Option A) (a b : A) → o ≡ d → d ≡ get_or xs i d → o ≡ Some a → b ≡ a → slice_set (slice_set xs i left) i (Some b) ≡ xs
@@ -67,7 +65,7 @@ module _ (j : Journal) (places : Places) (slots : CallSlots) (n t place : ℕ) (
   own_shown own = record { attempt = a; live = is_here.2; number = is_here.1; own = own }
 
   own_here : IsOwn s n t f → IsOwnCall j.calls j.header a f
-  own_here own = subst (λ (b : CallAttempt). IsOwnCall j.calls j.header b f) (some_is (sym own.live ∙ subst (λ u. attempt_at u (live_in slots j.world.live) ≡ Some a) p.time is_here.2)) own.own
+  own_here own = subst (λ (b : CallAttempt). IsOwnCall j.calls j.header b f) (same_Some _ _ (sym own.live ∙ subst (λ u. attempt_at u (live_in slots j.world.live) ≡ Some a) p.time is_here.2)) own.own
 
   may_shown : parts.MayCommit j places a f → MayCommit s n a.timestamp f
   may_shown may = record {
@@ -95,13 +93,13 @@ module _ (j : Journal) (places : Places) (slots : CallSlots) (n t place : ℕ) (
   error_known error refused = known_by error (subst (λ o. IsRefusedFor j places o f error) p.found refused)
 
   refused_by : (error : Failure PartsFault) → parts.IsCommitRefusal j places a f error → (r : Failure CommitFault) → Some r ≡ store_error error → IsCommitRefusal s n t f r
-  refused_by failure.Memory may r is = subst (IsCommitRefusal s n t f) (some_is (sym is)) (subst (λ u. MayCommit s n u f) p.time (may_shown may))
+  refused_by failure.Memory may r is = subst (IsCommitRefusal s n t f) (same_Some _ _ (sym is)) (subst (λ u. MayCommit s n u f) p.time (may_shown may))
   refused_by (failure.Fault parts_fault.Unknown) h r is = absurd cc
-  refused_by (failure.Fault parts_fault.Stranger) (live, other) r is = subst (IsCommitRefusal s n t f) (some_is (sym is)) (store_placed j places slots n t place p k, λ own. other (own_here own))
+  refused_by (failure.Fault parts_fault.Stranger) (live, other) r is = subst (IsCommitRefusal s n t f) (same_Some _ _ (sym is)) (store_placed j places slots n t place p k, λ own. other (own_here own))
   refused_by (failure.Fault (parts_fault.Moved x)) h r is = absurd cc
   refused_by (failure.Fault (parts_fault.Foreign i)) h r is = absurd cc
   refused_by (failure.Fault (parts_fault.Late x version mark)) (live, own, rest) r is =
-      subst (IsCommitRefusal s n t f) (some_is (sym is))
+      subst (IsCommitRefusal s n t f) (same_Some _ _ (sym is))
       (subst (λ u. IsCommitRefusal s n u f (failure.Fault (fault.Late x version mark))) p.time
       (own_shown own, late_shown j.base j.header j.calls j.world places slots k.kept n a p.above p.within own_place j.index indexed.holds k.marks f.writes x version mark rest.2))
 
@@ -118,7 +116,7 @@ module _ (j : Journal) (places : Places) (slots : CallSlots) (n t place : ℕ) (
       (record { may = may_shown may; kept = record { kept = h.0; marks = marks }; committed = h.1 })))
     where
       same : r.attempt ≡ a
-      same = some_is (sym r.found ∙ p.found)
+      same = same_Some _ _ (sym r.found ∙ p.found)
 
       may : parts.MayCommit j places a f
       may = subst (λ (b : CallAttempt). parts.MayCommit j places b f) same r.may

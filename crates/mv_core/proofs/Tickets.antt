@@ -1,10 +1,8 @@
 -- The attempt that a ticket names.
 use Rattle.std.proofs.Common.{◌≡◌, ◌≢◌, ℕ, zero, suc, ◌-◌, ◌<◌, ◌≤◌, List, [], ◌∷◌, length, Option, None, Some, get_or, refl, sym, ap, ◌∙◌, subst, arith}
+use Rattle.std.proofs.lemmas.Option.{same_Some}
 use Rattle.mv_history.specs.World.{Attempt}
 use Rattle.mv_core.specs.Places.{IsNowhere, Slots}
-
-some_is : {X : Type 0} {a b : X} → Some a ≡ Some b → a ≡ b
-some_is e = cc
 
 beyond : {A : Type 0} (xs : List (Option A)) (i : ℕ) → length xs ≤ i → get_or xs i None ≡ None
 beyond [] i h = refl
@@ -33,4 +31,4 @@ module _ {Item Value : Type 0} (slots : Slots Item Value) (n t : ℕ) where
       never e = cc
 
   pub nowhere_other : (place : ℕ) (b : Attempt Item Value) → place ≡ n - 1 → get_or slots place None ≡ Some b → b.timestamp ≢ t → IsNowhere slots n t
-  nowhere_other place b is there other a above found = subst (λ (c : Attempt Item Value). c.timestamp ≢ t) (some_is (sym there ∙ ap (λ i. get_or slots i None) is ∙ found)) other
+  nowhere_other place b is there other a above found = subst (λ (c : Attempt Item Value). c.timestamp ≢ t) (same_Some _ _ (sym there ∙ ap (λ i. get_or slots i None) is ∙ found)) other

@@ -2,6 +2,7 @@
 use Rattle.std.proofs.Common.{◌≡◌, ℕ, zero, suc, ◌+◌, ◌-◌, ◌<◌, ◌≤◌, ◌==◌, ◌&&◌, not, Bool, true, false, nat_lt, nat_le, if◌then◌else◌, List, [], ◌∷◌, length, map, Option, None, Some, Ok, Err, get_or, set, slice_set, refl, sym, ap, ◌∙◌, subst, arith, inl, inr}
 use Rattle.std.specs.Prelude.{◌⊎◌, ◌^◌, is_none, is_some, option_map}
 use Rattle.std.proofs.lemmas.List.{map-set, length-map}
+use Rattle.std.proofs.lemmas.Option.{same_Some}
 use Rattle.avm_items.specs.declared.item.Item.{Item}
 use Rattle.avm_items.specs.declared.item_value.ItemValue.{ItemValue}
 use Rattle.avm_items.specs.Asks.{Answer, answer_from}
@@ -32,9 +33,6 @@ use Rattle.mv_core.specs.Places.{IsLive}
 use Rattle.mv_core.specs.Stores.{IsFirstRead, IsPrune, IsReadAgain, Store}
 use Rattle.mv_core.specs.Worlds.{AreSound, AsksFor, HasEnded, IsAbandonBy, IsAdvanced, IsBegunBy, IsCommitBy, IsLiveIfAny, IsLiveWith, IsRead, IsReadBy, IsSound, IsStep, IsWork, attempt_by, attempt_of, input_of, may_begin_call, reads_or_none, running_of, ticket_of, worker_in}
 
-some_is : {X : Type 0} {a b : X} → Some a ≡ Some b → a ≡ b
-some_is e = cc
-
 -- ---- a worker reads
 
 pub record ReadsOn (old new : Store) (ticket : Ticket) (run : Option Progress) (x : Item) (after : Worker) : Type 0 where
@@ -46,7 +44,7 @@ module _ (old new : Store) (ticket : Ticket) (x : Item) (v : ItemValue) (p : Pro
   supplied = record { call = p.call; header = p.header; reads = with_item p.reads x v; asked = None; steps = p.steps }
 
   same_progress : p ≡ asks.progress
-  same_progress = some_is asks.goes_on
+  same_progress = same_Some _ _ asks.goes_on
 
   own_call : call_of old.calls ticket.number ≡ Some p.call
   own_call = asks.call ∙ ap (λ (q : Progress). Some q.call) (sym same_progress)
@@ -63,7 +61,7 @@ module _ (old new : Store) (ticket : Ticket) (x : Item) (v : ItemValue) (p : Pro
   went_on after None is h value = absurd cc
   went_on worker.Idle (Some q) is h value = absurd h
   went_on (worker.Running own run' y) (Some q) is (same, next) value =
-      let q_is : q ≡ record p { reads = with_item p.reads x v; asked = None } = some_is is in
+      let q_is : q ≡ record p { reads = with_item p.reads x v; asked = None } = same_Some _ _ is in
       let reads : next.after.reads ≡ with_item p.reads x v = next.same_reads ∙ ap (λ (r : Progress). r.reads) q_is in (
         (λ i. Some (attempt_by (same i) (ap reads_or_none next.goes_on i))) ∙ ap (λ rs. Some (attempt_by ticket rs)) reads ∙ ap (λ u. Some (attempt_by ticket (with_item p.reads x u))) value,
         record {
@@ -77,7 +75,7 @@ module _ (old new : Store) (ticket : Ticket) (x : Item) (v : ItemValue) (p : Pro
         },
       )
   went_on (worker.Finished own f) (Some q) is (same, ends) value =
-      let q_is : q ≡ record p { reads = with_item p.reads x v; asked = None } = some_is is in
+      let q_is : q ≡ record p { reads = with_item p.reads x v; asked = None } = same_Some _ _ is in
       let reads : f.reads ≡ with_item p.reads x v = ends.same_reads ∙ ap (λ (r : Progress). r.reads) q_is in (
         (λ i. Some (attempt_by (same i) (reads i))) ∙ ap (λ u. Some (attempt_by ticket (with_item p.reads x u))) value,
         record {
@@ -89,7 +87,7 @@ module _ (old new : Store) (ticket : Ticket) (x : Item) (v : ItemValue) (p : Pro
 
   first_read : IsFirstRead old new ticket.number ticket.timestamp x v → (after : Worker) (run : Option Progress) → run ≡ Some (record p { reads = with_item p.reads x v; asked = None }) → IsAdvanced ticket run after → ReadsOn old new ticket (Some p) x after
   first_read read after run is h =
-      let own : read.attempt ≡ attempt_by ticket p.reads = some_is (sym read.live ∙ live) in
+      let own : read.attempt ≡ attempt_by ticket p.reads = same_Some _ _ (sym read.live ∙ live) in
       let on = went_on after run is h read.value in
       record {
         read = record {
@@ -102,7 +100,7 @@ module _ (old new : Store) (ticket : Ticket) (x : Item) (v : ItemValue) (p : Pro
 
   never_again : IsReadAgain old new ticket.number ticket.timestamp x v → ⊥
   never_again read =
-      let own : read.attempt ≡ attempt_by ticket p.reads = some_is (sym read.live ∙ live) in
+      let own : read.attempt ≡ attempt_by ticket p.reads = same_Some _ _ (sym read.live ∙ live) in
       let known : value_in p.reads x ≡ Some v = ap (λ (a : CallAttempt). value_in a.reads x) (sym own) ∙ read.known in
       never (sym not_supplied ∙ known)
     where
@@ -121,7 +119,7 @@ reads_on old new ticket (Some p) x y v supplied asks live same (inr again) suppl
 
 pub ticket_live : (s : Store) (o : Option CallAttempt) (t : Ticket) → option_map ticket_of o ≡ Some t → IsLiveIfAny s o → IsLive s.world.live t.number t.timestamp
 ticket_live s None t is live = absurd cc
-ticket_live s (Some a) t is live = subst (λ (u : Ticket). IsLive s.world.live u.number u.timestamp) (some_is is) (record { attempt = a; live = live; number = refl })
+ticket_live s (Some a) t is live = subst (λ (u : Ticket). IsLive s.world.live u.number u.timestamp) (same_Some _ _ is) (record { attempt = a; live = live; number = refl })
 
 -- ---- at a worker's place
 
@@ -354,10 +352,10 @@ module _ (old new : Store) (ws : List Worker) (i : ℕ) (w after : Worker) (insi
   -- ---- any event of the worker
 
   worked : (e : Event) → worker_in e ≡ Some i → IsSound (input_of old) w → IsWork e old new w (attempt_of after) → Worked e
-  worked (event.Begin k n) own sound h = subst (λ j. Worked (event.Begin j n)) (sym (some_is own)) (begun n (attempt_of w) refl (attempt_of after) refl h)
-  worked (event.Read k) own sound h = subst (λ j. Worked (event.Read j)) (sym (some_is own)) (read_by_worker w refl sound h)
-  worked (event.Commit k) own sound h = subst (λ j. Worked (event.Commit j)) (sym (some_is own)) (commit_by_worker w refl sound (attempt_of after) refl h)
-  worked (event.Abandon k) own sound h = subst (λ j. Worked (event.Abandon j)) (sym (some_is own)) (abandoned (attempt_of w) refl h)
+  worked (event.Begin k n) own sound h = subst (λ j. Worked (event.Begin j n)) (sym (same_Some _ _ own)) (begun n (attempt_of w) refl (attempt_of after) refl h)
+  worked (event.Read k) own sound h = subst (λ j. Worked (event.Read j)) (sym (same_Some _ _ own)) (read_by_worker w refl sound h)
+  worked (event.Commit k) own sound h = subst (λ j. Worked (event.Commit j)) (sym (same_Some _ _ own)) (commit_by_worker w refl sound (attempt_of after) refl h)
+  worked (event.Abandon k) own sound h = subst (λ j. Worked (event.Abandon j)) (sym (same_Some _ _ own)) (abandoned (attempt_of w) refl h)
   worked (event.Prune t) own sound h = absurd h
 
 -- what was at its place comes back changed
@@ -384,12 +382,12 @@ none_beyond (w ∷ ws) (suc i) h = none_beyond ws i (omega (arith, h))
 beyond_last : (s : Store) (ws : List Worker) (i : ℕ) (e : Event) → worker_in e ≡ Some i → length ws ≤ i → running_after (input_of s) (running_of s ws) e ≡ running_of s ws
 beyond_last s ws i (event.Begin k n) own past =
     let few : length (map attempt_of ws) ≡ length ws = length-map ws attempt_of in
-    let k_is : k ≡ i = some_is own in
+    let k_is : k ≡ i = same_Some _ _ own in
     let never : nat_lt k (length (map attempt_of ws)) ≡ false = grind (arith, few, k_is, past) in
     ap (λ b. if b && is_none (worker_at (running_of s ws) k) && is_some (call_of s.calls n) && (commit_count n s.world.entries == 0) && (live_count n s.world.live == 0) && nat_lt s.world.clock (2 ^ 64 - 1) then with_worker (running_of s ws) (after_begin s.world n) k (Some (fresh_attempt n (s.world.clock + 1))) else running_of s ws) never
-beyond_last s ws i (event.Read k) own past = ap (by_worker (running_of s ws) (λ a. read_by (input_of s) (running_of s ws) k a (answer_of s.header a.reads (call_of s.calls a.number)))) (ap (λ j. get_or (map attempt_of ws) j None) (some_is own) ∙ none_beyond ws i past)
-beyond_last s ws i (event.Commit k) own past = ap (by_worker (running_of s ws) (λ a. commit_by (input_of s) (running_of s ws) k a (answer_of s.header a.reads (call_of s.calls a.number)))) (ap (λ j. get_or (map attempt_of ws) j None) (some_is own) ∙ none_beyond ws i past)
-beyond_last s ws i (event.Abandon k) own past = ap (by_worker (running_of s ws) (λ a. with_worker (running_of s ws) (after_abandon s.world a.timestamp) k None)) (ap (λ j. get_or (map attempt_of ws) j None) (some_is own) ∙ none_beyond ws i past)
+beyond_last s ws i (event.Read k) own past = ap (by_worker (running_of s ws) (λ a. read_by (input_of s) (running_of s ws) k a (answer_of s.header a.reads (call_of s.calls a.number)))) (ap (λ j. get_or (map attempt_of ws) j None) (same_Some _ _ own) ∙ none_beyond ws i past)
+beyond_last s ws i (event.Commit k) own past = ap (by_worker (running_of s ws) (λ a. commit_by (input_of s) (running_of s ws) k a (answer_of s.header a.reads (call_of s.calls a.number)))) (ap (λ j. get_or (map attempt_of ws) j None) (same_Some _ _ own) ∙ none_beyond ws i past)
+beyond_last s ws i (event.Abandon k) own past = ap (by_worker (running_of s ws) (λ a. with_worker (running_of s ws) (after_abandon s.world a.timestamp) k None)) (ap (λ j. get_or (map attempt_of ws) j None) (same_Some _ _ own) ∙ none_beyond ws i past)
 beyond_last s ws i (event.Prune t) own past = absurd cc
 
 pub nothing_done : (s : Store) (ws : List Worker) (i : ℕ) (e : Event) → worker_in e ≡ Some i → length ws ≤ i → AreSound (input_of s) ws → IsStep e s s ws ws

@@ -1,6 +1,7 @@
 -- Lists of live attempts, and how many are of a call.
 use Rattle.std.proofs.Common.{◌≡◌, ℕ, ◌+◌, ◌≤◌, ◌≢◌, Bool, true, false, if◌then◌else◌, cond, not, nat_lt, ◌==◌, max, None, Some, List, [], ◌∷◌, ◌++◌, refl, sym, ap, ◌∙◌, subst, arith}
 use Rattle.std.specs.List.{AllByRecursion, insert}
+use Rattle.std.proofs.lemmas.Option.{same_Some}
 use Rattle.mv_history.specs.History.{Entry, entries_with, commit_count}
 use Rattle.mv_history.specs.World.{Attempt, attempt_at, attempts_without, attempts_with_read, live_count, lowest_live, IsLowerBound}
 use Rattle.mv_history.proofs.Lists.{Equals, equal, unequal, equals, all_map}
@@ -37,10 +38,7 @@ module _ {Item Value : Type 0} where
   found_attempt P t a (b ∷ bs) h k = at_test (b.timestamp == t) h (λ e. found_attempt P t a bs e k.1)
     where
       at_test : (c : Bool) → (if c then Some b else attempt_at t bs) ≡ Some a → (attempt_at t bs ≡ Some a → P a) → P a
-      at_test true e rest = subst P (some_is e) k.0
-        where
-          some_is : Some b ≡ Some a → b ≡ a
-          some_is e = cc
+      at_test true e rest = subst P (same_Some _ _ e) k.0
       at_test false e rest = rest e
 
   pub found_timestamp : (t : ℕ) (a : Attempt Item Value) (live : List (Attempt Item Value)) → attempt_at t live ≡ Some a → a.timestamp ≡ t
@@ -48,10 +46,7 @@ module _ {Item Value : Type 0} where
   found_timestamp t a (b ∷ bs) h = at_test (b.timestamp == t) (equals b.timestamp t) h (λ e. found_timestamp t a bs e)
     where
       at_test : (c : Bool) → Equals b.timestamp t c → (if c then Some b else attempt_at t bs) ≡ Some a → (attempt_at t bs ≡ Some a → a.timestamp ≡ t) → a.timestamp ≡ t
-      at_test c (equal k) e rest = subst (λ x. x.timestamp ≡ t) (some_is e) k
-        where
-          some_is : Some b ≡ Some a → b ≡ a
-          some_is e = cc
+      at_test c (equal k) e rest = subst (λ x. x.timestamp ≡ t) (same_Some _ _ e) k
       at_test c (unequal k) e rest = rest e
 
   pub attempt_at-push : (t : ℕ) (a b : Attempt Item Value) (live : List (Attempt Item Value)) → attempt_at t live ≡ Some a → attempt_at t (live ++ b ∷ []) ≡ Some a
@@ -79,14 +74,11 @@ module _ {Item Value : Type 0} where
   attempt_at-with_read t place read a [] h = absurd cc
   attempt_at-with_read t place read a (b ∷ bs) h = at_test (b.timestamp == t) refl h (attempt_at-with_read t place read a bs)
     where
-      some_is : Some b ≡ Some a → b ≡ a
-      some_is e = cc
-
       at_test : (c : Bool) → (b.timestamp == t) ≡ c → (if c then Some b else attempt_at t bs) ≡ Some a
           → (attempt_at t bs ≡ Some a → attempt_at t (attempts_with_read t place read bs) ≡ Some (record a { reads = insert a.reads place read }))
           → attempt_at t (if c then record b { reads = insert b.reads place read } ∷ bs else b ∷ attempts_with_read t place read bs) ≡ Some (record a { reads = insert a.reads place read })
       at_test true same is rest =
-          ap (λ c. if c then Some (record b { reads = insert b.reads place read }) else attempt_at t bs) same ∙ ap (λ (x : Attempt Item Value). Some (record x { reads = insert x.reads place read })) (some_is is)
+          ap (λ c. if c then Some (record b { reads = insert b.reads place read }) else attempt_at t bs) same ∙ ap (λ (x : Attempt Item Value). Some (record x { reads = insert x.reads place read })) (same_Some _ _ is)
       at_test false other is rest = ap (λ c. if c then Some b else attempt_at t (attempts_with_read t place read bs)) other ∙ rest is
 
   pub attempt_at-other_read : (s t place : ℕ) (read : Item × Value) (live : List (Attempt Item Value)) → s ≢ t → attempt_at s (attempts_with_read t place read live) ≡ attempt_at s live
@@ -145,10 +137,7 @@ module _ {Item Value : Type 0} where
           → (attempt_at t bs ≡ Some a → live_count n (attempts_without t bs) + (if a.number == n then 1 else 0) ≤ live_count n bs)
           → live_count n (attempts_without t bs) ≤ live_count n bs
           → live_count n (cond (not c) (b ∷ attempts_without t bs) (attempts_without t bs)) + (if a.number == n then 1 else 0) ≤ live_count n (b ∷ bs)
-      at_test true e rest fewer = subst (λ x. live_count n (attempts_without t bs) + (if x.number == n then 1 else 0) ≤ live_count n (b ∷ bs)) (some_is e) (omega arith)
-        where
-          some_is : Some b ≡ Some a → b ≡ a
-          some_is e = cc
+      at_test true e rest fewer = subst (λ x. live_count n (attempts_without t bs) + (if x.number == n then 1 else 0) ≤ live_count n (b ∷ bs)) (same_Some _ _ e) (omega arith)
       at_test false e rest fewer = let more : live_count n (attempts_without t bs) + (if a.number == n then 1 else 0) ≤ live_count n bs = rest e in omega arith
 
 pub commit_count-entries_with : {Item Value Outcome : Type 0} (n : ℕ) (e : Entry Item Value Outcome) (es : List (Entry Item Value Outcome)) → commit_count n (entries_with e es) ≡ commit_count n es + (if e.number == n then 1 else 0)

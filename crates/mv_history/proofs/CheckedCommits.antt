@@ -1,6 +1,7 @@
 -- A commit whose reads are checked anew against the entries: no reads of live attempts are kept beside it.
 use Rattle.std.proofs.Common.{◌≡◌, ℕ, suc, ◌+◌, ◌<◌, ◌≤◌, max, Bool, true, false, if◌then◌else◌, cond, not, ◌==◌, Some, List, [], ◌∷◌, refl, sym, ap, ◌∙◌, subst, arith}
 use Rattle.std.specs.List.{AllByRecursion}
+use Rattle.std.proofs.lemmas.Option.{same_Some}
 use Rattle.mv_history.specs.History.{Entry, Meaning, Agrees, IsFinished, entries_with, version_below, state_below}
 use Rattle.mv_history.specs.World.{Attempt, attempt_at, attempts_without, live_count, IsInTime}
 use Rattle.mv_history.specs.Schedule.{AreMarked, IsSchedule, IsConsistent}
@@ -29,12 +30,9 @@ module _ {Item Value : Type 0} (t : ℕ) (reads : List (Item × Value)) where
   found_with_reads a [] e = absurd cc
   found_with_reads a (b ∷ bs) e = at_test (b.timestamp == t) refl e (found_with_reads a bs)
     where
-      some_is : {x y : Attempt Item Value} → Some x ≡ Some y → x ≡ y
-      some_is e = cc
-
       at_test : (c : Bool) → (b.timestamp == t) ≡ c → (if c then Some b else attempt_at t bs) ≡ Some a → (attempt_at t bs ≡ Some a → attempt_at t (with_reads bs) ≡ Some (record a { reads = reads }))
           → attempt_at t (if c then record b { reads = reads } ∷ bs else b ∷ with_reads bs) ≡ Some (record a { reads = reads })
-      at_test true same is rest = ap (λ c. if c then Some (record b { reads = reads }) else attempt_at t bs) same ∙ ap (λ (x : Attempt Item Value). Some (record x { reads = reads })) (some_is is)
+      at_test true same is rest = ap (λ c. if c then Some (record b { reads = reads }) else attempt_at t bs) same ∙ ap (λ (x : Attempt Item Value). Some (record x { reads = reads })) (same_Some _ _ is)
       at_test false other is rest = ap (λ c. if c then Some b else attempt_at t (with_reads bs)) other ∙ rest is
 
   pub without_with_reads : (live : List (Attempt Item Value)) → attempts_without t (with_reads live) ≡ attempts_without t live

@@ -2,6 +2,7 @@
 use Rattle.std.proofs.Common.{◌≡◌, ℕ, ◌+◌, ◌<◌, ◌≤◌, Bool, true, false, if◌then◌else◌, nat_lt, ◌==◌, Some, None, List, [], ◌∷◌, ◌++◌, map, refl, sym, ap, ◌∙◌, subst, arith, append_assoc}
 use Rattle.std.proofs.lemmas.List.{append-nil}
 use Rattle.std.specs.List.{AllByRecursion, insert}
+use Rattle.std.proofs.lemmas.Option.{same_Some}
 use Rattle.mv_history.specs.History.{Entry, Meaning, entries_with}
 use Rattle.mv_history.specs.World.{World, Attempt, attempt_at, attempts_without, attempts_with_read, fresh_attempt, Event, Begin, Read, Commit, Abandon, Prune, after_event, first_world, AllApply, after_events}
 use Rattle.mv_history.specs.Laws.{Worker, Idle, Busy, RunsEachCall, numbers_begun, call_numbers, OneWorkerCommitsInOrder}
@@ -48,10 +49,7 @@ module _ {Item Value : Type 0} where
   commits_alone clock t found (a ∷ []) h is = at_test (a.timestamp == t) (equals a.timestamp t) refl is
     where
       at_test : (c : Bool) → Equals a.timestamp t c → (a.timestamp == t) ≡ c → (if c then Some a else None) ≡ Some found → CommitsAlone clock t found.number (a ∷ [])
-      at_test c (equal e) tested is_found = record { at_clock = sym e ∙ h; none_left = rw tested refl; numbers = ap (λ b. b.number ∷ []) (some_is is_found) }
-        where
-          some_is : Some a ≡ Some found → a ≡ found
-          some_is e = cc
+      at_test c (equal e) tested is_found = record { at_clock = sym e ∙ h; none_left = rw tested refl; numbers = ap (λ b. b.number ∷ []) (same_Some _ _ is_found) }
       at_test c (unequal e) tested is_found = absurd cc
 
 module _ {Item Value Outcome : Type 0} where

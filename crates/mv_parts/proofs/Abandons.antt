@@ -10,6 +10,7 @@ use Rattle.std.specs.List.{AllByRecursion}
 use Rattle.std.specs.List.Sorted.{IsStrictlySortedBy}
 use Rattle.std.specs.Option.{option_map}
 use Rattle.std.proofs.lemmas.List.{get_or-set_same, get_or-set_other, length-set}
+use Rattle.std.proofs.lemmas.Option.{same_Some}
 use Rattle.avm_ledger.specs.declared.header.Header.{Header}
 use Rattle.avm_ledger.specs.Ledgers.{Ledger}
 use Rattle.avm_items.specs.declared.call_data.CallData.{CallData}
@@ -98,16 +99,13 @@ pub other_state : (t number n : ℕ) (live : List (ℕ × ℕ)) → lookup (is_a
 other_state t number n [] found other = absurd cc
 other_state t number n (e ∷ es) found other = by (is_eq (nat_cmp t e.0)) found (λ f. other_state t number n es f other)
   where
-    some_is : Some e.1 ≡ Some number → e.1 ≡ number
-    some_is e = cc
-
     apart : e.1 ≡ number → (b : Bool) → Equals e.1 n b → live_state n (live_of es) ≡ (if b then Live e.0 else live_state n (live_of es))
     apart is b (equal k) = absurd (other (sym k ∙ is))
     apart is b (unequal k) = refl
 
     by : (b : Bool) → cond b (Some e.1) (lookup (is_at (nat_cmp t)) es) ≡ Some number → (lookup (is_at (nat_cmp t)) es ≡ Some number → live_state n (live_of (remove_entry (is_at (nat_cmp t)) es)) ≡ live_state n (live_of es))
         → live_state n (live_of (cond b es (e ∷ remove_entry (is_at (nat_cmp t)) es))) ≡ (if e.1 == n then Live e.0 else live_state n (live_of es))
-    by true is rest = apart (some_is is) (e.1 == n) (equals e.1 n)
+    by true is rest = apart (same_Some _ _ is) (e.1 == n) (equals e.1 n)
     by false is rest = ap (λ s. if e.1 == n then Live e.0 else s) (rest is)
 
 -- ---- what is kept

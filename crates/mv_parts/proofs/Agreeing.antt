@@ -41,6 +41,7 @@ use Rattle.mv_shards.proofs.Touched.{found_inserted}
 use Rattle.avm_items.specs.Items.{item_cmp}
 use Rattle.std.specs.BTreeMap.{is_at}
 use Rattle.std.proofs.Common.{cond}
+use Rattle.std.proofs.lemmas.Option.{same_Some}
 use Rattle.mv_parts.specs.Journals.{IsIndexedStore, IsOfNumber, Journal, first_journal, versions_indexed}
 use Rattle.mv_parts.specs.Opening.{first_places, first_shard}
 use Rattle.mv_parts.specs.Commits.{AreCovered, IsCommitted, MayCommit, no_version}
@@ -49,9 +50,6 @@ use Rattle.mv_parts.proofs.Commits.{none_late}
 use Rattle.mv_parts.proofs.Opens.{first_over, place_first}
 
 -- ---- an opening, a beginning, an abandoned attempt
-
-some_is : {X : Type 0} {a b : X} → Some a ≡ Some b → a ≡ b
-some_is e = cc
 
 first_agrees : (base : Ledger) (header : Header) (calls : List CallData) (i : ℕ) → Agrees (first_journal base header calls) (first_shard base i)
 first_agrees base header calls i = record {
@@ -65,7 +63,7 @@ pub every_first_shard_agrees : EveryFirstShardAgrees
 every_first_shard_agrees base header calls i s here = by (nat_lt i shard_count) (compared i shard_count)
   where
     by : (b : Bool) → Compared i shard_count b → Agrees (first_journal base header calls) s
-    by b (less inside) = subst (Agrees (first_journal base header calls)) (some_is (sym (place_first base i inside) ∙ here)) (first_agrees base header calls i)
+    by b (less inside) = subst (Agrees (first_journal base header calls)) (same_Some _ _ (sym (place_first base i inside) ∙ here)) (first_agrees base header calls i)
     by b (not_less above) = let none : get_or (first_places base) i None ≡ None = (first_over base).beyond i (omega (arith, above)) in absurd cc
 
 pub every_begin_keeps_agreement : EveryBeginKeepsAgreement

@@ -14,7 +14,7 @@ use Rattle.avm_items.specs.LedgerItems.{put}
 use Rattle.avm_call.specs.CallRules.{needed_profile}
 use Rattle.avm_call.specs.Places.{HasPlace}
 use Rattle.avm_call.specs.Replay.{ledger_after, outcome_on, outcomes, replayed}
-use Rattle.avm_block.specs.AcceptedCalls.{is_accepted, is_within}
+use Rattle.avm_block.specs.AcceptedCalls.{is_accepted, fits_in}
 use Rattle.avm_block.specs.declared.entry.Entry as block
 use Rattle.avm_block.specs.Blocks.{Block, RisesAbove, calls_in, outcomes_in}
 use Rattle.avm_replay.specs.Plain.{first_beyond}
@@ -155,16 +155,16 @@ have_places cs (e ∷ es) (m ∷ ms) are places =
     All-cons (λ (x : block.Entry). HasPlace x.outcome) m ms (subst HasPlace (sym are.0.outcome) places.0) (have_places cs es ms are.1 places.1)
 
 -- none needs a newer profile
-within_at : (p : Profile) (n i : ℕ) (cs : List CallData) (c : CallData) → first_beyond p n cs ≡ None → slice_get cs i ≡ Some c → is_within (needed_profile c) p ≡ true
+within_at : (p : Profile) (n i : ℕ) (cs : List CallData) (c : CallData) → first_beyond p n cs ≡ None → slice_get cs i ≡ Some c → fits_in (needed_profile c) p ≡ true
 within_at p n i [] c none is = absurd cc
-within_at p n zero (x ∷ xs) c none is = by (is_within (needed_profile x) p) refl none
+within_at p n zero (x ∷ xs) c none is = by (fits_in (needed_profile x) p) refl none
   where
-    by : (b : Bool) → is_within (needed_profile x) p ≡ b → (if b then first_beyond p (n + 1) xs else Some n) ≡ None → is_within (needed_profile c) p ≡ true
-    by true e rest = ap (λ d. is_within (needed_profile d) p) (some_call (sym is)) ∙ e
+    by : (b : Bool) → fits_in (needed_profile x) p ≡ b → (if b then first_beyond p (n + 1) xs else Some n) ≡ None → fits_in (needed_profile c) p ≡ true
+    by true e rest = ap (λ d. fits_in (needed_profile d) p) (some_call (sym is)) ∙ e
     by false e rest = absurd cc
-within_at p n (suc i) (x ∷ xs) c none is = by (is_within (needed_profile x) p) none (λ rest. within_at p (n + 1) i xs c rest is)
+within_at p n (suc i) (x ∷ xs) c none is = by (fits_in (needed_profile x) p) none (λ rest. within_at p (n + 1) i xs c rest is)
   where
-    by : (b : Bool) → (if b then first_beyond p (n + 1) xs else Some n) ≡ None → (first_beyond p (n + 1) xs ≡ None → is_within (needed_profile c) p ≡ true) → is_within (needed_profile c) p ≡ true
+    by : (b : Bool) → (if b then first_beyond p (n + 1) xs else Some n) ≡ None → (first_beyond p (n + 1) xs ≡ None → fits_in (needed_profile c) p ≡ true) → fits_in (needed_profile c) p ≡ true
     by true rest later = later rest
     by false rest later = absurd cc
 

@@ -4,6 +4,7 @@ use Rattle.std.specs.Prelude.{◌&&◌, is_some, IsSome}
 use Rattle.mv_history.specs.History as history
 use Rattle.mv_history.specs.History.{commit_count}
 use Rattle.std.specs.List.{AllByRecursion}
+use Rattle.std.proofs.lemmas.Option.{same_Some}
 use Rattle.avm_items.specs.declared.call_data.CallData.{CallData}
 use Rattle.avm_items.specs.declared.item.Item.{Item}
 use Rattle.avm_items.specs.declared.item_value.ItemValue.{ItemValue}
@@ -28,7 +29,7 @@ use Rattle.mv_calls.proofs.Histories.{finished_calls_are_entries}
 use Rattle.mv_calls.proofs.SerialCalls.{calls_lead_on, items_have_an_equality}
 use Rattle.mv_running.specs.declared.Event.{Event}
 use Rattle.mv_running.specs.declared.Event.TheVariants as event
-use Rattle.mv_running.specs.Running.{RunInput, Running, answer_of, by_worker, commit_by, entry_by, first_running, may_begin, place_of, read_by, running_after, running_from, version_at, with_worker, worker_at, writes_in_time}
+use Rattle.mv_running.specs.Running.{RunInput, Running, answer_of, by_worker, commit_by, entry_by, first_running, may_begin, place_of, read_by, running_after, running_from, version_before, with_worker, worker_at, writes_in_time}
 use Rattle.mv_running.specs.Laws.{AreAtWork, EveryReadIsUsed, EveryRunIsSerial, EveryRunLeadsOn, EveryWorkerIsLive, IsAtWork}
 use Rattle.mv_running.proofs.Workers.{itself, other, after_set, with_item-new}
 
@@ -42,9 +43,6 @@ le_true a b e = grind (arith, e)
 
 is_zero : (n : ℕ) → (n == 0) ≡ true → n ≡ 0
 is_zero n e = grind (arith, e)
-
-some_is : {X : Type 0} {a b : X} → Some a ≡ Some b → a ≡ b
-some_is e = cc
 
 -- idle workers alone
 abbrev idle_workers : ℕ → List (Option CallAttempt)
@@ -99,9 +97,9 @@ module _ (input : RunInput) where
   kept_begin r w number k a_call uncommitted idle =
       kept_with r (after_begin r.world number) w (Some (fresh_attempt number (r.world.clock + 1)))
       ((calls_lead_on input.base input.header input.calls).1 r.world (Begin number) k.leads a_call (uncommitted, idle))
-      (λ a is. subst (λ b. IsAtWork input (with_worker r (after_begin r.world number) w (Some (fresh_attempt number (r.world.clock + 1)))) b) (some_is is) (fresh (call_of input.calls number) refl a_call))
+      (λ a is. subst (λ b. IsAtWork input (with_worker r (after_begin r.world number) w (Some (fresh_attempt number (r.world.clock + 1)))) b) (same_Some _ _ is) (fresh (call_of input.calls number) refl a_call))
       (λ v b differs was live. attempt_at-push b.timestamp b (fresh_attempt number (r.world.clock + 1)) r.world.live live)
-      (λ a v b is differs was. subst (λ (c : CallAttempt). c.timestamp ≢ b.timestamp) (some_is is) (above b (k.at_work.each v b was).live))
+      (λ a v b is differs was. subst (λ (c : CallAttempt). c.timestamp ≢ b.timestamp) (same_Some _ _ is) (above b (k.at_work.each v b was).live))
       k
     where
       live_past : AllByRecursion (λ (a : CallAttempt). (0 < a.timestamp) × (a.timestamp ≤ r.world.clock)) r.world.live
@@ -126,36 +124,36 @@ module _ (input : RunInput) where
   kept_read r w a call x k here is_call asks =
       kept_with r world w (Some after)
       ((calls_lead_on input.base input.header input.calls).1 r.world (Read a.timestamp place x) k.leads tt (a, (k.at_work.each w a here).live, unknown))
-      (λ b is. subst (λ c. IsAtWork input (with_worker r world w (Some after)) c) (some_is is) at_work)
+      (λ b is. subst (λ c. IsAtWork input (with_worker r world w (Some after)) c) (same_Some _ _ is) at_work)
       (λ v b differs was live. attempt_at-other_read b.timestamp a.timestamp place read r.world.live (λ same. differs (k.at_work.own v w b a was here same)) ∙ live)
-      (λ b v c is differs was. subst (λ (d : CallAttempt). d.timestamp ≢ c.timestamp) (some_is is) (λ same. differs (k.at_work.own v w c a was here (sym same))))
+      (λ b v c is differs was. subst (λ (d : CallAttempt). d.timestamp ≢ c.timestamp) (same_Some _ _ is) (λ same. differs (k.at_work.own v w c a was here (sym same))))
       k
     where
       place : ℕ
       place = place_of a.reads x
 
       read : Item × ItemValue
-      read = (x, (version_at input r a.timestamp x).1)
+      read = (x, (version_before input r a.timestamp x).1)
 
       world : CallWorld
       world = after_read same_item (at input.base) r.world a.timestamp place x
 
       after : CallAttempt
-      after = record a { reads = with_item a.reads x (version_at input r a.timestamp x).1 }
+      after = record a { reads = with_item a.reads x (version_before input r a.timestamp x).1 }
 
       unknown : value_in a.reads x ≡ None
       unknown = (question_with_more (value_in a.reads) (value_in a.reads) (record { same = λ y u h. h }) (call_result call input.header) x asks).0
 
       asked : AreAskedFor a.reads call input.header
-      asked = let before = k.at_work.each w a here in subst (λ c. AreAskedFor a.reads c input.header) (some_is (sym before.is_call ∙ is_call)) before.asked
+      asked = let before = k.at_work.each w a here in subst (λ c. AreAskedFor a.reads c input.header) (same_Some _ _ (sym before.is_call ∙ is_call)) before.asked
 
       at_work : IsAtWork input (with_worker r world w (Some after)) after
       at_work = record {
         live = attempt_at-with_read a.timestamp place read a r.world.live (k.at_work.each w a here).live
-            ∙ ap (λ reads. Some (record a { reads = reads })) (sym (with_item-new a.reads x (version_at input r a.timestamp x).1 unknown));
+            ∙ ap (λ reads. Some (record a { reads = reads })) (sym (with_item-new a.reads x (version_before input r a.timestamp x).1 unknown));
         call = call;
         is_call = is_call;
-        asked = asked_with_answer a.reads call input.header x (version_at input r a.timestamp x).1 asked asks;
+        asked = asked_with_answer a.reads call input.header x (version_before input r a.timestamp x).1 asked asks;
       }
 
   -- the worker has ended its attempt
@@ -168,11 +166,11 @@ module _ (input : RunInput) where
       k
 
   pub in_time : (r : Running) (t : ℕ) (writes : ItemMap) → writes_in_time input r t writes ≡ true
-      → AllByRecursion (λ write. greatest_mark same_item r.world.marks write.0 (version_at input r t write.0).0 ≤ t) writes
+      → AllByRecursion (λ write. greatest_mark same_item r.world.marks write.0 (version_before input r t write.0).0 ≤ t) writes
   in_time r t [] e = tt
   in_time r t (write ∷ writes) e =
-      let parts = both_true (nat_le (greatest_mark same_item r.world.marks write.0 (version_at input r t write.0).0) t) (writes_in_time input r t writes) e in
-      (le_true (greatest_mark same_item r.world.marks write.0 (version_at input r t write.0).0) t parts.0, in_time r t writes parts.1)
+      let parts = both_true (nat_le (greatest_mark same_item r.world.marks write.0 (version_before input r t write.0).0) t) (writes_in_time input r t writes) e in
+      (le_true (greatest_mark same_item r.world.marks write.0 (version_before input r t write.0).0) t parts.0, in_time r t writes parts.1)
 
   kept_commit : (r : Running) (w : ℕ) (a : CallAttempt) (call : CallData) (result : CallResult) → IsKept r → worker_at r w ≡ Some a → call_of input.calls a.number ≡ Some call
       → answer_from (value_in a.reads) (call_result call input.header) ≡ Ok result → writes_in_time input r a.timestamp (entry_by a result).writes ≡ true
@@ -187,7 +185,7 @@ module _ (input : RunInput) where
       made = record { call = call; header = input.header; reads = a.reads; writes = (entry_by a result).writes; outcome = result.0 }
 
       asked : AreAskedFor a.reads call input.header
-      asked = let before = k.at_work.each w a here in subst (λ c. AreAskedFor a.reads c input.header) (some_is (sym before.is_call ∙ is_call)) before.asked
+      asked = let before = k.at_work.each w a here in subst (λ c. AreAskedFor a.reads c input.header) (same_Some _ _ (sym before.is_call ∙ is_call)) before.asked
 
       finished : history.IsFinished same_item IsOfLedger (meaning_of input.header input.calls) (entry_by a result)
       finished = finished_calls_are_entries input.calls made a.timestamp a.number

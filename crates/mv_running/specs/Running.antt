@@ -53,19 +53,19 @@ place_of [] x = 0
 place_of (e ∷ es) x = match_ordering (item_cmp x e.0) 0 0 (suc (place_of es x))
 
 -- the version that an attempt at a timestamp finds, as (timestamp, value)
-abbrev pub version_at : RunInput → Running → ℕ → Item → ℕ × ItemValue
-version_at input r t x = version_below same_item (at input.base) r.world.entries (suc t) x
+abbrev pub version_before : RunInput → Running → ℕ → Item → ℕ × ItemValue
+version_before input r t x = version_below same_item (at input.base) r.world.entries (suc t) x
 
 -- Read: where the call asks for an item, the version found joins the reads, and is marked
 abbrev pub read_by : RunInput → Running → ℕ → CallAttempt → Option (Answer CallResult) → Running
 read_by input r w a (Some (Err x)) =
-    with_worker r (after_read same_item (at input.base) r.world a.timestamp (place_of a.reads x) x) w (Some (record a { reads = with_item a.reads x (version_at input r a.timestamp x).1 }))
+    with_worker r (after_read same_item (at input.base) r.world a.timestamp (place_of a.reads x) x) w (Some (record a { reads = with_item a.reads x (version_before input r a.timestamp x).1 }))
 read_by input r w a answer = r
 
 -- no version that one of the writes follows was read above the timestamp
 abbrev pub writes_in_time : RunInput → Running → ℕ → ItemMap → Bool
 writes_in_time input r t [] = true
-writes_in_time input r t (e ∷ es) = nat_le (greatest_mark same_item r.world.marks e.0 (version_at input r t e.0).0) t && writes_in_time input r t es
+writes_in_time input r t (e ∷ es) = nat_le (greatest_mark same_item r.world.marks e.0 (version_before input r t e.0).0) t && writes_in_time input r t es
 
 -- Commit: where the call asks for nothing more and is in time, its entry joins the others; its writes are those that change
 -- something

@@ -7,7 +7,7 @@ use Rattle.avm_items.specs.declared.item_value.ItemValue.{ItemValue}
 use Rattle.avm_items.specs.Items.{ItemMap}
 use Rattle.mv_chain.specs.Versions.{Versions, oldest_timestamp}
 use Rattle.mv_shards.specs.Indexes.{shard_of}
-use Rattle.mv_shards.specs.Chains.{AreChains, ChainMap, HasPlace, HasRoom, IsGrown, chain_in, list_or, versions_of}
+use Rattle.mv_shards.specs.Chains.{AreChains, ChainMap, TakesVersion, HasRoom, IsGrown, chain_in, list_or, versions_of}
 use Rattle.mv_shards.specs.Writing.{AreGrown, AreMarkedAt, HasPlaceIn, IsReadableIn, Parts, chains_at, chains_for, first_at}
 use Rattle.mv_shards.proofs.FirstReads.{readable_of}
 
@@ -19,7 +19,7 @@ all_readable t old new k g [] h = tt
 all_readable t old new k g (e ∷ es) h =
     (readable_of (first_at old (shard_of e.0)) t (chains_for new e.0) e.0 (((g.maps (shard_of e.0)).kept t (k (shard_of e.0))).old_enough e.0) h.0, all_readable t old new k g es h.1)
 
-one_placed : (first : Item → ItemValue) (t : ℕ) (old new : ChainMap ItemValue) (x : Item) → AreChains first t old → IsGrown first old new → HasRoom new x → AllByRecursion (λ v. v.timestamp ≢ t) (versions_of first old x) → HasPlace t new x
+one_placed : (first : Item → ItemValue) (t : ℕ) (old new : ChainMap ItemValue) (x : Item) → AreChains first t old → IsGrown first old new → HasRoom new x → AllByRecursion (λ v. v.timestamp ≢ t) (versions_of first old x) → TakesVersion t new x
 one_placed first t old new x k g r absent =
     let is = here first new x r.chain r.found in
     record {

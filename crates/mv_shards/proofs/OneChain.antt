@@ -8,12 +8,13 @@ use Rattle.std.specs.Map.{keys_of, set_value}
 use Rattle.std.specs.BTreeMap.{insert_entry, is_at}
 use Rattle.avm_ledger.proofs.Maps.{is_Equal, set_value-there, sorted-inserted}
 use Rattle.std.specs.Cmp.{tied_itself}
+use Rattle.std.proofs.lemmas.Option.{same_Some}
 use Rattle.avm_items.specs.declared.item.Item.{Item}
 use Rattle.avm_items.specs.Items.{item_cmp}
 use Rattle.avm_items.proofs.Puts.{item_same, item_total}
 use Rattle.mv_chain.specs.declared.Version.{Version}
 use Rattle.mv_chain.specs.Versions.{Versions, IsChain, count_not_above, marked_at_index, oldest_timestamp, versions_read_at, versions_with}
-use Rattle.mv_shards.specs.Chains.{AreChains, ChainMap, HasPlace, HasRoom, IsGrown, IsInstalled, IsMarked, IsReadable, IsRoomier, chain_in, is_untouched, list_or, one_installed, one_marked, touched, versions_of}
+use Rattle.mv_shards.specs.Chains.{AreChains, ChainMap, TakesVersion, HasRoom, IsGrown, IsInstalled, IsMarked, IsReadable, IsRoomier, chain_in, is_untouched, list_or, one_installed, one_marked, touched, versions_of}
 use Rattle.mv_shards.proofs.Touched.{found_inserted, marked_oldest, marked_touched, touched_alike}
 
 alike_kept : {V : Type 0} (first : Item → V) (map new : ChainMap V) → IsStrictlySortedBy item_cmp (keys_of new) → ((y : Item) → versions_of first new y ≡ versions_of first map y) → (low : ℕ) → AreChains first low map → AreChains first low new
@@ -98,9 +99,6 @@ lent_changed map new x c w order found is =
       finds = λ y. ap (λ m. chain_in m y) put ∙ found_inserted y x w map;
     }
 
-some_is : {V : Type 0} {a b : Versions V} → Some a ≡ Some b → a ≡ b
-some_is e = cc
-
 -- a property of every item's chain that the changed one has too
 carried : {V : Type 0} (map new : ChainMap V) (x : Item) (c w : Versions V) → IsChanged map new x c w → (P : Versions V → Type 0) → (P c → P w)
     → (y : Item) (d : Versions V) → chain_in map y ≡ Some d → P d → (e : Versions V) × (chain_in new y ≡ Some e) × P e
@@ -110,7 +108,7 @@ carried {V} map new x c w h P step y d found p = by (is_eq (item_cmp y x)) refl
     by true tied =
         let same : y ≡ x = item_same y x (is_Equal (item_cmp y x) tied) in
         let one : Some d ≡ Some c = sym found ∙ ap (chain_in map) same ∙ h.was in
-        (w, h.finds y ∙ ap (λ b. cond b (Some w) (chain_in map y)) tied, step (subst P (some_is one) p))
+        (w, h.finds y ∙ ap (λ b. cond b (Some w) (chain_in map y)) tied, step (subst P (same_Some _ _ one) p))
     by false apart = (d, h.finds y ∙ ap (λ b. cond b (Some w) (chain_in map y)) apart ∙ found, p)
 
 pub others_same : {V : Type 0} (map new : ChainMap V) (x : Item) (c w : Versions V) → IsChanged map new x c w → (y : Item) → is_eq (item_cmp y x) ≡ false → chain_in new y ≡ chain_in map y
@@ -221,11 +219,11 @@ ok_gives (Ok a) P is h = h
 ok_gives (Err e) P is h = absurd cc
 
 -- the item's place is that of the chain that was lent
-pub place_here : {V : Type 0} (t : ℕ) (map : ChainMap V) (x : Item) (c : Versions V) → Some c ≡ chain_in map x → HasPlace t map x → (0 < c.room) × (oldest_timestamp c.list ≤ t) × AllByRecursion (λ v. v.timestamp ≢ t) c.list
-place_here {V} t map x c found p = subst (λ (u : Versions V). (0 < u.room) × (oldest_timestamp u.list ≤ t) × AllByRecursion (λ v. v.timestamp ≢ t) u.list) (sym (some_is (found ∙ p.found))) (p.room, p.old_enough, p.absent)
+pub place_here : {V : Type 0} (t : ℕ) (map : ChainMap V) (x : Item) (c : Versions V) → Some c ≡ chain_in map x → TakesVersion t map x → (0 < c.room) × (oldest_timestamp c.list ≤ t) × AllByRecursion (λ v. v.timestamp ≢ t) c.list
+place_here {V} t map x c found p = subst (λ (u : Versions V). (0 < u.room) × (oldest_timestamp u.list ≤ t) × AllByRecursion (λ v. v.timestamp ≢ t) u.list) (sym (same_Some _ _ (found ∙ p.found))) (p.room, p.old_enough, p.absent)
 
 pub readable_here : {V : Type 0} (t : ℕ) (map : ChainMap V) (x : Item) (c : Versions V) → Some c ≡ chain_in map x → IsReadable t map x → oldest_timestamp c.list ≤ t
-readable_here {V} t map x c found p = subst (λ (u : Versions V). oldest_timestamp u.list ≤ t) (sym (some_is (found ∙ p.found))) p.old_enough
+readable_here {V} t map x c found p = subst (λ (u : Versions V). oldest_timestamp u.list ≤ t) (sym (same_Some _ _ (found ∙ p.found))) p.old_enough
 
 pub installed_is : {V : Type 0} (t : ℕ) (map new : ChainMap V) (x : Item) (v : V) (c w : Versions V) → IsChanged map new x c w → w.list ≡ versions_with t v c.list → IsChain w.list → IsInstalled t x v map new
 installed_is {V} t map new x v c w h is chain = record {

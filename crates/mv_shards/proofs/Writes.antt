@@ -16,7 +16,7 @@ use Rattle.avm_items.proofs.Puts.{item_same, item_total}
 use Rattle.mv_history.proofs.Lists.{Equals, equal, unequal, equals}
 use Rattle.mv_shards.specs.declared.part.Part.{Part}
 use Rattle.mv_shards.specs.Indexes.{shard_of}
-use Rattle.mv_shards.specs.Chains.{AreChains, ChainMap, HasPlace, IsInstalled, IsMarked, chain_in, one_marked, one_installed, versions_of}
+use Rattle.mv_shards.specs.Chains.{AreChains, ChainMap, TakesVersion, IsInstalled, IsMarked, chain_in, one_marked, one_installed, versions_of}
 use Rattle.mv_shards.specs.Writing.{AreGrown, AreInstalledAt, AreMarkedAt, AreReady, AreWrittenParts, HasPlaceIn, IsInstalledItem, IsInstalledMap, IsMarkedItem, IsMarkedMap, IsReadableIn, Parts, chains_at, first_at, frame_at, frame_or, versions_installed, versions_marked}
 use Rattle.mv_shards.proofs.ByLookup.{written_by_lookup}
 use Rattle.mv_shards.proofs.Steps.{alike_at, related_at}
@@ -78,7 +78,7 @@ pub record MarksOn (t : ℕ) (reads : ItemMap) (start : Parts) (left : ItemMap) 
   pub frames : (i : ℕ) → frame_at parts i ≡ frame_at start i
   pub versions : (i : ℕ) (first : Item → ItemValue) (x : Item) → versions_marked i t left (versions_of first (chains_at parts i)) x ≡ versions_marked i t reads (versions_of first (chains_at start i)) x
   pub kept : (i : ℕ) (first : Item → ItemValue) (low : ℕ) → AreChains first low (chains_at start i) → AreChains first low (chains_at parts i)
-  pub places : (i : ℕ) (x : Item) → HasPlace t (chains_at start i) x → HasPlace t (chains_at parts i) x
+  pub places : (i : ℕ) (x : Item) → TakesVersion t (chains_at start i) x → TakesVersion t (chains_at parts i) x
 
 pub marks_first : (t : ℕ) (reads : ItemMap) (start : Parts) → AllByRecursion (λ e. IsReadableIn t start e.0) reads → MarksOn t reads start reads start
 marks_first t reads start h = record { readable = h; count = refl; frames = λ i. refl; versions = λ i first x. refl; kept = λ i first low k. k; places = λ i x p. p }
@@ -129,7 +129,7 @@ installs_first t writes start h = record { ready = h; count = refl; frames = λ 
 pub installs_next : (t : ℕ) (writes : ItemMap) (start : Parts) (left rest : ItemMap) (e : Item × ItemValue) (parts : Parts) → left ≡ e ∷ rest → InstallsOn t writes start left parts → InstallsOn t writes start (e ∷ rest) parts
 installs_next t writes start left rest e parts is m = subst (λ l. InstallsOn t writes start l parts) is m
 
-place_still : (t : ℕ) (map new : ChainMap ItemValue) (x : Item) → chain_in new x ≡ chain_in map x → HasPlace t map x → HasPlace t new x
+place_still : (t : ℕ) (map new : ChainMap ItemValue) (x : Item) → chain_in new x ≡ chain_in map x → TakesVersion t map x → TakesVersion t new x
 place_still t map new x same p = record { chain = p.chain; found = same ∙ p.found; room = p.room; old_enough = p.old_enough; absent = p.absent }
 
 still_ready : (t : ℕ) (item : Item) (v : ItemValue) (old new : Parts) → IsInstalledItem t item v old new → (left : ItemMap) → AllByRecursion (λ f. is_eq (item_cmp f.0 item) ≡ false) left → AreReady t old left → AreReady t new left

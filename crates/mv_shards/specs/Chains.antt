@@ -95,7 +95,7 @@ pub record IsReadable {V : Type 0} (t : ℕ) (map : ChainMap V) (x : Item) : Typ
   pub old_enough : oldest_timestamp chain.list ≤ t
 
 -- the item has a chain that takes a version at a timestamp
-pub record HasPlace {V : Type 0} (t : ℕ) (map : ChainMap V) (x : Item) : Type 0 where
+pub record TakesVersion {V : Type 0} (t : ℕ) (map : ChainMap V) (x : Item) : Type 0 where
   pub chain : Versions V
   pub found : chain_in map x ≡ Some chain
   pub room : 0 < chain.room
@@ -114,7 +114,7 @@ pub record IsMarked {V : Type 0} (t : ℕ) (item : Item) (old new : ChainMap V) 
   pub versions : (first : Item → V) (x : Item) → versions_of first new x ≡ one_marked t item (versions_of first old) x
   pub kept : (first : Item → V) (low : ℕ) → AreChains first low old → AreChains first low new
   pub readable : (x : Item) → IsReadable t old x → IsReadable t new x
-  pub places : (x : Item) → HasPlace t old x → HasPlace t new x
+  pub places : (x : Item) → TakesVersion t old x → TakesVersion t new x
 
 pub record IsInstalled {V : Type 0} (t : ℕ) (item : Item) (value : V) (old new : ChainMap V) : Type 0 where
   pub versions : (first : Item → V) (x : Item) → versions_of first new x ≡ one_installed t item value (versions_of first old) x

@@ -14,7 +14,7 @@ use Rattle.mv_chain.specs.declared.Version.{Version}
 use Rattle.mv_agreement.specs.Stores.{marked_where, written_where}
 use Rattle.mv_shards.specs.declared.part.Part.{Part}
 use Rattle.mv_shards.specs.Indexes.{shard_of}
-use Rattle.mv_shards.specs.Chains.{AllVersions, AreChains, ChainMap, HasPlace, IsGrown, IsReadable, IsRoomier, chain_in, one_installed, one_marked, versions_of}
+use Rattle.mv_shards.specs.Chains.{AllVersions, AreChains, ChainMap, TakesVersion, IsGrown, IsReadable, IsRoomier, chain_in, one_installed, one_marked, versions_of}
 use Rattle.mv_shards.specs.Shards.{Shard, versions_held}
 use Rattle.mv_shards.specs.Helds.{AreHeld, Places, shard_for}
 
@@ -147,7 +147,7 @@ pub record IsMarkedMap (own : Bool) (t : ℕ) (item : Item) (old new : ChainMap 
   pub versions : (first : Item → ItemValue) (x : Item) → versions_of first new x ≡ (if own then one_marked t item (versions_of first old) else versions_of first old) x
   pub kept : (first : Item → ItemValue) (low : ℕ) → AreChains first low old → AreChains first low new
   pub readable : (x : Item) → IsReadable t old x → IsReadable t new x
-  pub places : (x : Item) → HasPlace t old x → HasPlace t new x
+  pub places : (x : Item) → TakesVersion t old x → TakesVersion t new x
 
 pub record IsMarkedItem (t : ℕ) (item : Item) (old new : Parts) : Type 0 where
   pub count : length new ≡ length old
@@ -171,7 +171,7 @@ IsReadableIn t parts x = IsReadable t (chains_for parts x) x
 
 -- the item's chain takes a version at a timestamp
 abbrev pub HasPlaceIn : ℕ → Parts → Item → Type 0
-HasPlaceIn t parts x = HasPlace t (chains_for parts x) x
+HasPlaceIn t parts x = TakesVersion t (chains_for parts x) x
 
 -- each item, once, has a place
 abbrev pub AreReady : ℕ → Parts → ItemMap → Type 0
@@ -196,7 +196,7 @@ pub record AreMarkedAt (t : ℕ) (reads : ItemMap) (old new : Parts) : Type 0 wh
   pub frames : (i : ℕ) → frame_at new i ≡ frame_at old i
   pub versions : (i : ℕ) (first : Item → ItemValue) (x : Item) → versions_of first (chains_at new i) x ≡ versions_marked i t reads (versions_of first (chains_at old i)) x
   pub kept : (i : ℕ) (first : Item → ItemValue) (low : ℕ) → AreChains first low (chains_at old i) → AreChains first low (chains_at new i)
-  pub places : (i : ℕ) (x : Item) → HasPlace t (chains_at old i) x → HasPlace t (chains_at new i) x
+  pub places : (i : ℕ) (x : Item) → TakesVersion t (chains_at old i) x → TakesVersion t (chains_at new i) x
 
 pub record AreInstalledAt (t : ℕ) (writes : ItemMap) (old new : Parts) : Type 0 where
   pub count : length new ≡ length old

@@ -1,7 +1,7 @@
 //! Maps from items to chains, of any values.
 
 ghost use Rattle.std.specs.Prelude.{◌≡◌, ◌≤◌, ◌<◌, IfOk, IsSome, None, OnOk};
-ghost use Rattle.mv_shards.specs.Chains.{HasPlace, IsGrown, IsInstalled, IsMarked, IsReadable, IsRoomier, HasRoom, chain_in};
+ghost use Rattle.mv_shards.specs.Chains.{TakesVersion, IsGrown, IsInstalled, IsMarked, IsReadable, IsRoomier, HasRoom, chain_in};
 
 use avm_items::Item;
 use mv_chain::Chain;
@@ -59,7 +59,7 @@ pub fn install<V: Drop>(
     value: V,
     timestamp: u64,
 )
-    requires place { HasPlace timestamp chains.old.entries item.now }
+    requires place { TakesVersion timestamp chains.old.entries item.now }
     requires positive { 0 < timestamp }
     ensures { IsInstalled timestamp item.now value chains.old.entries chains.new.entries }
 {

@@ -6,7 +6,7 @@ use Rattle.std.specs.Map.{lookup}
 use Rattle.std.specs.Prelude.{is_some}
 use Rattle.std.specs.Option.{option_map_or, ForSome}
 use Rattle.std.proofs.lemmas.List.{append-nil}
-use Rattle.std.proofs.lemmas.Bool.{ltb-false}
+use Rattle.std.proofs.lemmas.Bool.{ltb-false, or_parts}
 use Rattle.teal_source.specs.declared.statement.Statement.{Statement}
 use Rattle.teal_source.specs.declared.command.Command.{Command}
 use Rattle.teal_source.specs.declared.fault.AsmFaultKind.TheVariants as kind
@@ -104,16 +104,8 @@ is_behind ss now s uints strings ub bb b e f pushed =
     let more : gathers_too_many (ss ++ s ∷ []) ≡ false = sym (many ss s uints strings ub bb b) ∙ f in
     rw (test, more) (ap (λ ts. Ok ts) (sym pushed))
 
-pub or_first : (a b : Bool) → (a || b) ≡ false → a ≡ false
-or_first true b e = absurd cc
-or_first false b e = refl
-
-pub or_second : (a b : Bool) → (a || b) ≡ false → b ≡ false
-or_second true b e = absurd cc
-or_second false b e = e
-
 pub few : (a b : ℕ) → (ltb 256 a || ltb 256 b) ≡ false → (a ≤ 256) × (b ≤ 256)
-few a b e = (ltb-false 256 a (or_first _ _ e), ltb-false 256 b (or_second _ _ e))
+few a b e = let parts = or_parts _ _ e in (ltb-false 256 a parts.0, ltb-false 256 b parts.1)
 
 -- the kept facts of a body whose statements are these
 pub body_is : (b : Body) (ss : List Statement) → b.statements.items ≡ ss → b.uints.keys ≡ gathered_uints ss → b.strings ≡ gathered_strings ss → b.labels ≡ labels_from 0 ss → b.commands ≡ command_count ss

@@ -7,12 +7,13 @@ use Rattle.std.specs.Str.{bytes_eq}
 use Rattle.std.specs.Option.{option_map_or}
 use Rattle.std.proofs.lemmas.List.{append-nil}
 use Rattle.std.proofs.lemmas.Slice.Eq.{bytes_eq-Decides}
+use Rattle.std.proofs.lemmas.Bool.{or_right, or_parts}
 use Rattle.teal_source.specs.declared.statement.Statement.{Statement}
 use Rattle.teal_source.specs.declared.fault.AsmFault.{AsmFault}
 use Rattle.teal_source.specs.Operands.{Word}
 use Rattle.teal_source.specs.Statements.{has_label}
 use Rattle.teal_asm.specs.Thinned.{or_else, own_fault, branch_fault, branch_label, front_fault, jumps_to, leads_back, IsNeedless}
-use Rattle.teal_asm.proofs.Bodying.{list_any-push, or_assoc, or_false, or_first, or_second}
+use Rattle.teal_asm.proofs.Bodying.{list_any-push, or_assoc, or_false}
 
 -- ---- what labels decide
 
@@ -125,17 +126,17 @@ waits name before [] later e f g h = absurd cc
 waits name before (s ∷ ss) later e f g h = by (jumps_to name s) refl (waits name (before ++ s ∷ []) ss later)
   where
     front : list_any (has_label name) (before ++ s ∷ []) ≡ false
-    front = list_any-push (has_label name) before s ∙ ap (λ b. b || has_label name s) f ∙ or_first (has_label name s) (list_any (has_label name) ss) g
+    front = list_any-push (has_label name) before s ∙ ap (λ b. b || has_label name s) f ∙ (or_parts (has_label name s) (list_any (has_label name) ss) g).0
 
     behind : list_any (has_label name) (ss ++ later) ≡ false
-    behind = labels-append name ss later ∙ ap (λ b. b || list_any (has_label name) later) (or_second (has_label name s) (list_any (has_label name) ss) g) ∙ h
+    behind = labels-append name ss later ∙ ap (λ b. b || list_any (has_label name) later) (or_parts (has_label name s) (list_any (has_label name) ss) g).1 ∙ h
 
     by : (b : Bool) → jumps_to name s ≡ b → (list_any (jumps_to name) ss ≡ true → list_any (has_label name) (before ++ s ∷ []) ≡ false → list_any (has_label name) ss ≡ false → list_any (has_label name) later ≡ false → is_some (front_fault (before ++ s ∷ []) ss later) ≡ true)
         → is_some (or_else (own_fault s.line (branch_label s.command) (before ++ s ∷ []) (ss ++ later)) (front_fault (before ++ s ∷ []) ss later)) ≡ true
     by true i more = is_some-first (own_fault s.line (branch_label s.command) (before ++ s ∷ []) (ss ++ later)) (front_fault (before ++ s ∷ []) ss later) (missing name s.line (branch_label s.command) (before ++ s ∷ []) (ss ++ later) i front behind)
     by false i more =
         is_some-else (own_fault s.line (branch_label s.command) (before ++ s ∷ []) (ss ++ later)) (front_fault (before ++ s ∷ []) ss later)
-        (more (sym (ap (λ b. b || list_any (jumps_to name) ss) i) ∙ e) front (or_second (has_label name s) (list_any (has_label name) ss) g) h)
+        (more (sym (ap (λ b. b || list_any (jumps_to name) ss) i) ∙ e) front (or_parts (has_label name s) (list_any (has_label name) ss) g).1 h)
 
 -- a branch behind one to the same label, where this does not stand yet
 pub behind_one_that_waits : (before : List Statement) (s : Statement) (name : Word) → s.label ≡ None → branch_label s.command ≡ Some name → list_any (jumps_to name) before ≡ true → list_any (has_label name) before ≡ false → IsNeedless before s
@@ -161,10 +162,6 @@ either : (a b : Bool) {P : Type 0} → (a || b) ≡ true → (a ≡ true → P) 
 either true b e f g = f refl
 either false b e f g = g e
 
-or_true : (a b : Bool) → b ≡ true → (a || b) ≡ true
-or_true true b e = refl
-or_true false b e = e
-
 pub targets_more : (ss : List Statement) (s : Statement) (old new : List (Word × ℕ)) → ((name : Word) → is_some (lookup (bytes_eq name) old) ≡ true → list_any (jumps_to name) ss ≡ true)
     → ((name : Word) → is_some (lookup (bytes_eq name) new) ≡ true → (is_some (lookup (bytes_eq name) old) || jumps_to name s) ≡ true)
     → (name : Word) → is_some (lookup (bytes_eq name) new) ≡ true → list_any (jumps_to name) (ss ++ s ∷ []) ≡ true
@@ -172,7 +169,7 @@ targets_more ss s old new before is name e =
     list_any-push (jumps_to name) ss s
     ∙ either (is_some (lookup (bytes_eq name) old)) (jumps_to name s) (is name e)
     (λ there. ap (λ b. b || jumps_to name s) (before name there))
-    (λ own. or_true (list_any (jumps_to name) ss) (jumps_to name s) own)
+    (λ own. or_right (list_any (jumps_to name) ss) (jumps_to name s) own)
 
 behind_label : (line : ℕ) (label : Option Word) (ss : List Statement) (s : Statement) (later : List Statement) → leads_back ss label ≡ true → is_some (own_fault line label (ss ++ s ∷ []) later) ≡ true
 behind_label line None ss s later e = absurd cc

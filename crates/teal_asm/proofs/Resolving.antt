@@ -4,7 +4,7 @@ use Rattle.std.specs.List.{flat_map, list_any, position_or_len, position}
 use Rattle.std.specs.Map.{lookup}
 use Rattle.std.specs.Option.{option_map}
 use Rattle.std.specs.Str.{bytes_eq}
-use Rattle.std.proofs.lemmas.Bool.{ltb-false, eq-eqb, eqb-true}
+use Rattle.std.proofs.lemmas.Bool.{ltb-false, eq-eqb, eqb-true, or_right}
 use Rattle.std.proofs.lemmas.Slice.Eq.{bytes_eq-Decides}
 use Rattle.std.proofs.lemmas.List.{append-nil}
 use Rattle.std.proofs.lemmas.List.Sums.{prefix_len-le-length}
@@ -69,12 +69,8 @@ label_target p b k labels ss e are =
 
 -- ---- each command's constant is gathered
 
-or_true : (a : Bool) → (a || true) ≡ true
-or_true true = refl
-or_true false = refl
-
 later_true : (a b : Bool) → b ≡ true → (a || b) ≡ true
-later_true a b e = rw e (or_true a)
+later_true a b e = rw e (or_right a true refl)
 
 kept : {A : Type 0} (eq : A → A → Bool) (p : A → Bool) (seen xs : List A) → list_any p seen ≡ true → list_any p (distinct eq seen xs) ≡ true
 kept eq p seen [] e = e

@@ -7,6 +7,7 @@ use Rattle.std.proofs.lemmas.List.Folds.{list_any_more}
 use Rattle.std.proofs.lemmas.Option.{slice_get_within, get_or_from_slice_get}
 use Rattle.std.proofs.Math.Seq.{get_or-append_seam}
 use Rattle.std.proofs.lemmas.Bool.Decides.{nat_tests}
+use Rattle.std.proofs.lemmas.Bool.{or_right}
 use Rattle.teal_check.specs.declared.program.Placed.{Placed}
 use Rattle.teal_dis.specs.Listing.{leads_to, is_target, targets_before}
 use Rattle.teal_dis.specs.Shown.{AreMarks, AreLabels, label_number}
@@ -39,10 +40,6 @@ or_false : (b : Bool) → b || false ≡ b
 or_false true = refl
 or_false false = refl
 
-or_true : (b : Bool) → b || true ≡ true
-or_true true = refl
-or_true false = refl
-
 no_target : (n : ℕ) (p : Placed) → p.target ≡ None → leads_to n p ≡ false
 no_target n p e = rw e refl
 
@@ -64,7 +61,7 @@ marks_target placed marks now number target p m at e near written = goes_on plac
   where
     marked : (marks : List Bool) (target n : ℕ) → target < length marks → get_or (set marks target true) n false ≡ (get_or marks n false || eqb target n)
     marked marks target n near = elim (eqb target n) as (λ b. b ≡ eqb target n → get_or (set marks target true) n false ≡ (get_or marks n false || b)) [
-      | true ↦ λ h. let same : target ≡ n = grind (arith, nat_tests) in rw (← same) (get_or-set_same marks target true false near ∙ sym (or_true (get_or marks target false)))
+      | true ↦ λ h. let same : target ≡ n = grind (arith, nat_tests) in rw (← same) (get_or-set_same marks target true false near ∙ sym (or_right (get_or marks target false) true refl))
       | false ↦ λ h. let differ : n ≢ target = λ s. grind (arith, nat_tests) in get_or-set_other marks target n true false differ ∙ sym (or_false (get_or marks n false))
     ] refl
 

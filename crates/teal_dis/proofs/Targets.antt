@@ -9,7 +9,7 @@ use Rattle.teal_code.specs.declared.instr.Immediates.TheVariants as is
 use Rattle.teal_check.specs.declared.fault.CheckFault.{CheckFault}
 use Rattle.teal_check.specs.declared.fault.CheckFault.TheVariants as fault
 use Rattle.teal_check.specs.declared.program.Placed.{Placed}
-use Rattle.teal_check.specs.WellFormed.{WellFormed, places, index_of, number_at, branch_target, immediates_target, target_of, with_targets, checked}
+use Rattle.teal_check.specs.WellFormed.{WellFormed, places, index_of, number_at, resolved_target, immediates_target, target_of, with_targets, checked}
 use Rattle.teal_check.proofs.CheckedPrograms.{is_checked, length-places}
 
 found_within : (x n : ℕ) (xs : List ℕ) → index_of x xs ≡ Some n → n < length xs
@@ -33,7 +33,7 @@ known : (o : Option ℕ) (d : CheckFault) (t : ℕ) → (ok_or o d >>= λ n. Ok 
 known None d t e = absurd cc
 known (Some n) d t e = let same : n ≡ t = cc in ap (λ k. Some k) same
 
-branch_within : (starts : List ℕ) (end place next offset t : ℕ) → branch_target starts end place next offset ≡ Ok (Some t) → t ≤ length starts
+branch_within : (starts : List ℕ) (end place next offset t : ℕ) → resolved_target starts end place next offset ≡ Ok (Some t) → t ≤ length starts
 branch_within starts end place next offset t e = elim (chosen (ltb 32767 offset) _ _ _ e) [
   | inl (back, bad) ↦ absurd cc
   | inr (forward, more) ↦ elim (chosen (ltb end (next + offset)) _ _ _ more) [

@@ -1,10 +1,10 @@
 -- The statements of a listing mean the program's instructions.
-use Rattle.std.proofs.Common.{◌≡◌, ◌∙◌, refl, sym, ap, subst, ℕ, ◌+◌, ◌<◌, ◌≤◌, Bool, true, false, ◌||◌, eqb, List, [], ◌∷◌, ◌++◌, length, map, Option, Some, None, Result, Ok, Err, inl, inr, arith}
+use Rattle.std.proofs.Common.{◌≡◌, ◌∙◌, refl, sym, ap, subst, ℕ, ◌+◌, ◌<◌, ◌≤◌, Bool, true, false, eqb, List, [], ◌∷◌, ◌++◌, length, map, Option, Some, None, Result, Ok, Err, inl, inr, arith}
 use Rattle.std.specs.Prelude.{if◌then◌else◌, nat_le}
 use Rattle.std.specs.Map.{lookup}
 use Rattle.std.specs.Str.{bytes_eq}
 use Rattle.std.proofs.lemmas.List.{append-nil}
-use Rattle.std.proofs.lemmas.Bool.{cases_lt}
+use Rattle.std.proofs.lemmas.Bool.{cases_lt, or_right}
 use Rattle.std.proofs.lemmas.Bool.Decides.{nat_tests}
 use Rattle.teal_value.specs.Answer.{◌>>=◌}
 use Rattle.teal_table.specs.declared.opcode.Opcode.{Opcode}
@@ -81,13 +81,9 @@ abbrev pub HaveLabels : List Placed → List Placed → Type 0
 HaveLabels placed [] = Unit {0}
 HaveLabels placed (p ∷ ps) = HasLabel placed p.target × HaveLabels placed ps
 
-or_true : (a : Bool) → a || true ≡ true
-or_true true = refl
-or_true false = refl
-
 one_more_label : (q : Placed) (placed : List Placed) (t : Option ℕ) → HasLabel placed t → HasLabel (q ∷ placed) t
 one_more_label q placed None h = tt
-one_more_label q placed (Some t) h = rw h (or_true (leads_to t q))
+one_more_label q placed (Some t) h = rw h (or_right (leads_to t q) true refl)
 
 more_labels : (q : Placed) (placed ps : List Placed) → HaveLabels placed ps → HaveLabels (q ∷ placed) ps
 more_labels q placed [] h = tt

@@ -18,7 +18,7 @@ use Rattle.teal_code.proofs.Reading.{same_value}
 use Rattle.teal_check.specs.declared.fault.CheckFault.{CheckFault}
 use Rattle.teal_check.specs.declared.fault.CheckFault.TheVariants as fault
 use Rattle.teal_check.specs.declared.program.Placed.{Placed}
-use Rattle.teal_check.specs.WellFormed.{WellFormed, has_field, placed_at, placed_from, places, index_of, number_at, RisesFrom, branch_target, immediates_target, target_of, with_targets, checked}
+use Rattle.teal_check.specs.WellFormed.{WellFormed, has_field, placed_at, placed_from, places, index_of, number_at, RisesFrom, resolved_target, immediates_target, target_of, with_targets, checked}
 use Rattle.teal_check.proofs.CheckedPrograms.{is_checked, is_kept, is_placed, length-places, placed_forward}
 use Rattle.teal_check.proofs.Starts.{rises}
 use Rattle.teal_laws.specs.Listed.{HasShape, nothing, index, txn, stack, global, group, array, stack_array, group_array, bounds, offset, uints, strings, uint, string, IsOf, AreOf, IsAimed, AreAimed, IsListed}
@@ -174,7 +174,7 @@ pub some_number : (r : Option ℕ) (place : ℕ) (t : Option ℕ) → (ok_or r (
 some_number None place t e = absurd cc
 some_number (Some n) place t e = let same : Some n ≡ t = cc in (n, refl, sym same)
 
-branch_aimed : (starts : List ℕ) (end number place next offset : ℕ) (t : Option ℕ) → RisesFrom 0 starts → number < length starts → get_or starts number 0 ≡ place → place < next → branch_target starts end place next offset ≡ Ok t → IsAimed (length starts) number (is.Offset offset) t
+branch_aimed : (starts : List ℕ) (end number place next offset : ℕ) (t : Option ℕ) → RisesFrom 0 starts → number < length starts → get_or starts number 0 ≡ place → place < next → resolved_target starts end place next offset ≡ Ok t → IsAimed (length starts) number (is.Offset offset) t
 branch_aimed starts end number place next n t r within stands forward e =
     elim (chosen (ltb 32767 n) _ _ _ e) [
       | inl (back, bad) ↦ absurd cc

@@ -5,6 +5,7 @@ use Rattle.std.specs.List.{list_all}
 use Rattle.std.proofs.lemmas.Fmt.{decimal_by_steps}
 use Rattle.std.proofs.lemmas.List.Folds.{list_all-append}
 use Rattle.std.proofs.lemmas.Bool.Decides.{nat_tests}
+use Rattle.std.proofs.lemmas.Bool.{and_parts, not-true}
 use Rattle.hex.specs.Hex.{encode_lower, encode_with, lower_digits}
 use Rattle.teal_table.specs.declared.shape.Shape.{Shape}
 use Rattle.teal_table.specs.declared.shape.Version.{Version}
@@ -24,25 +25,17 @@ use Rattle.teal_laws.proofs.FieldNames.{scalar_is_plain, array_is_plain, global_
 abbrev pub is_word_byte : ℕ → Bool
 is_word_byte b = is_plain_byte b && not (eqb b 47)
 
-pub both : (a b : Bool) → a && b ≡ true → (a ≡ true) × (b ≡ true)
-both true b e = (refl, e)
-both false b e = absurd cc
-
-not_true : (b : Bool) → not b ≡ true → b ≡ false
-not_true true e = absurd cc
-not_true false e = refl
-
 all_plain : (w : List ℕ) → list_all is_word_byte w ≡ true → list_all is_plain_byte w ≡ true
 all_plain [] h = refl
 all_plain (b ∷ bs) h =
-    let parts = both (is_word_byte b) (list_all is_word_byte bs) h in
-    rw ((both (is_plain_byte b) (not (eqb b 47)) parts.0).0) (all_plain bs parts.1)
+    let parts = and_parts (is_word_byte b) (list_all is_word_byte bs) h in
+    rw ((and_parts (is_plain_byte b) (not (eqb b 47)) parts.0).0) (all_plain bs parts.1)
 
 no_comment : (w : List ℕ) → list_all is_word_byte w ≡ true → has_comment w ≡ false
 no_comment [] h = refl
 no_comment (b ∷ bs) h =
-    let parts = both (is_word_byte b) (list_all is_word_byte bs) h in
-    let other = not_true (eqb b 47) (both (is_plain_byte b) (not (eqb b 47)) parts.0).1 in
+    let parts = and_parts (is_word_byte b) (list_all is_word_byte bs) h in
+    let other = not-true (eqb b 47) (and_parts (is_plain_byte b) (not (eqb b 47)) parts.0).1 in
     let first : eqb 47 b ≡ false = grind (arith, nat_tests) in
     rw first (no_comment bs parts.1)
 
@@ -78,8 +71,8 @@ decimal_is_plain n lt = let d = decimal_bytes n lt in word_is_plain (decimal n) 
 
 element : (p : ℕ → Bool) (xs : List ℕ) (i : ℕ) → list_all p xs ≡ true → p 0 ≡ true → p (get_or xs i 0) ≡ true
 element p [] i h none = none
-element p (x ∷ xs) zero h none = (both (p x) (list_all p xs) h).0
-element p (x ∷ xs) (suc i) h none = element p xs i (both (p x) (list_all p xs) h).1 none
+element p (x ∷ xs) zero h none = (and_parts (p x) (list_all p xs) h).0
+element p (x ∷ xs) (suc i) h none = element p xs i (and_parts (p x) (list_all p xs) h).1 none
 
 hex_bytes : (bytes : List ℕ) → list_all is_word_byte (encode_lower bytes) ≡ true
 unfolding encode_with

@@ -19,7 +19,7 @@ use Rattle.teal_code.specs.Reader.{varuint_at}
 use Rattle.teal_code.proofs.Reading.{is_read, varuint_sound, varuint_complete}
 use Rattle.teal_check.specs.declared.fault.CheckFault.{CheckFault}
 use Rattle.teal_check.specs.declared.program.Placed.{Placed}
-use Rattle.teal_check.specs.WellFormed.{WellFormed, on_code, version_of, version_at, placed_at, placed_from, places, number_at, RisesFrom, branch_target, immediates_target, target_of, with_targets, cost_of, checked}
+use Rattle.teal_check.specs.WellFormed.{WellFormed, on_code, version_of, version_at, placed_at, placed_from, places, number_at, RisesFrom, resolved_target, immediates_target, target_of, with_targets, cost_of, checked}
 use Rattle.teal_check.proofs.CheckedPrograms.{coded_ok, is_checked, is_placed, placed_forward, weaken}
 use Rattle.teal_check.proofs.Starts.{index_of-there}
 use Rattle.teal_laws.specs.ProgramRules.{version_number, Begins, StandsAt, StandFrom, Leads, AllLead, IsProgram}
@@ -194,7 +194,7 @@ number_is starts end target k e =
 no_target : {t : Option ℕ} → ◌≡◌ {A = Result (Option ℕ) CheckFault} (Ok None) (Ok t) → t ≡ None
 no_target {t} e = sym (ok_same e)
 
-branch_leads : (starts : List ℕ) (end place next n : ℕ) (t : Option ℕ) → branch_target starts end place next n ≡ Ok t → Leads starts end next (is.Offset n) t
+branch_leads : (starts : List ℕ) (end place next n : ℕ) (t : Option ℕ) → resolved_target starts end place next n ≡ Ok t → Leads starts end next (is.Offset n) t
 branch_leads starts end place next n t e =
     elim (chosen (ltb 32767 n) _ _ _ e) [
       | inl (back, bad) ↦ absurd cc
@@ -237,7 +237,7 @@ all_lead starts end version bytes place (p ∷ ps) qs e h =
 abbrev AreBefore : List ℕ → ℕ → Type 0
 AreBefore starts end = (k : ℕ) → k < length starts → get_or starts k 0 < end
 
-branch_there : (starts : List ℕ) (end place next n target : ℕ) → RisesFrom 0 starts → AreBefore starts end → Leads starts end next (is.Offset n) (Some target) → branch_target starts end place next n ≡ Ok (Some target)
+branch_there : (starts : List ℕ) (end place next n target : ℕ) → RisesFrom 0 starts → AreBefore starts end → Leads starts end next (is.Offset n) (Some target) → resolved_target starts end place next n ≡ Ok (Some target)
 branch_there starts end place next n target rises before h =
     let fits : ltb 32767 n ≡ false = let small = h.0 in grind (arith, nat_tests) in
     elim (cases_lt target (length starts)) [

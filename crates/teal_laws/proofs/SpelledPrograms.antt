@@ -14,7 +14,7 @@ use Rattle.teal_code.specs.Spelling.{immediates_spelling, instr_spelling}
 use Rattle.teal_code.specs.Reader.{read_at}
 use Rattle.teal_code.proofs.Reading.{is_read}
 use Rattle.teal_check.specs.declared.program.Placed.{Placed}
-use Rattle.teal_check.specs.WellFormed.{WellFormed, placed_at, placed_from, places, number_at, RisesFrom, branch_target, immediates_target, with_targets, version_at, cost_of, checked, affordable}
+use Rattle.teal_check.specs.WellFormed.{WellFormed, placed_at, placed_from, places, number_at, RisesFrom, resolved_target, immediates_target, with_targets, version_at, cost_of, checked, affordable}
 use Rattle.teal_check.proofs.CheckedPrograms.{length-places, placed_rises, weaken}
 use Rattle.teal_check.proofs.Starts.{index_of-there}
 use Rattle.teal_asm.specs.Meaning.{Meant, Straight, Branch, Meaning}
@@ -193,7 +193,7 @@ no_branch starts end place next (is.ByteBlock ss) h = refl
 no_branch starts end place next (is.Uint n) h = refl
 no_branch starts end place next (is.Bytes s) h = refl
 
-branch_is : (starts : List ℕ) (end place next offset target : ℕ) → offset ≤ 1024 → next + offset ≤ end → number_at starts end (next + offset) ≡ Some target → branch_target starts end place next offset ≡ Ok (Some target)
+branch_is : (starts : List ℕ) (end place next offset target : ℕ) → offset ≤ 1024 → next + offset ≤ end → number_at starts end (next + offset) ≡ Some target → resolved_target starts end place next offset ≡ Ok (Some target)
 branch_is starts end place next offset target few within at =
     let fits : ltb 32767 offset ≡ false = grind (arith, nat_tests) in
     let inside : ltb end (next + offset) ≡ false = grind (arith, nat_tests) in

@@ -6,7 +6,7 @@ use Rattle.std.specs.Map.{lookup}
 use Rattle.std.specs.Option.{ok_or}
 use Rattle.std.specs.Str.{bytes_eq}
 use Rattle.std.specs.Str.Parse.{digits_value}
-use Rattle.std.proofs.lemmas.Bool.{ltb-true}
+use Rattle.std.proofs.lemmas.Bool.{ltb-true, and_parts}
 use Rattle.teal_value.proofs.Binding.{bind_ok, chosen}
 use Rattle.teal_table.specs.declared.shape.Shape.{Shape}
 use Rattle.teal_table.specs.declared.shape.Shape.TheVariants as shape
@@ -34,7 +34,6 @@ use Rattle.teal_laws.proofs.Bytes.{AreBytes, each_is}
 use Rattle.teal_laws.proofs.Forms.{HasForm}
 use Rattle.teal_laws.proofs.Forms as form
 use Rattle.teal_laws.proofs.FieldNames.{scalar_asked, array_asked, global_asked}
-use Rattle.teal_laws.proofs.PlainListing.{both}
 use Rattle.teal_laws.proofs.Names.{Alone, alone}
 use Rattle.teal_laws.proofs.PlacedInstructions.{brought}
 use Rattle.teal_laws.proofs.Spellings.{front_bytes}
@@ -77,7 +76,7 @@ numeral_small base w n e =
     elim (is_numeral base w && nat_lt (digits_value base w) (2 ^ 64)) as (λ b. b ≡ is_numeral base w && nat_lt (digits_value base w) (2 ^ 64) → ok_or (cond b (Some (digits_value base w)) None) kind.BadNumber ≡ Ok n → n < 2 ^ 64) [
       | true ↦ λ t h.
           let same : digits_value base w ≡ n = cc in
-          let small = ltb-true (digits_value base w) (2 ^ 64) (both (is_numeral base w) (nat_lt (digits_value base w) (2 ^ 64)) (sym t)).1 in
+          let small = ltb-true (digits_value base w) (2 ^ 64) (and_parts (is_numeral base w) (nat_lt (digits_value base w) (2 ^ 64)) (sym t)).1 in
           omega (arith, small, same)
       | false ↦ λ t h. absurd cc
     ] refl e

@@ -8,6 +8,7 @@ use Rattle.std.proofs.lemmas.List.Folds.{list_all-append}
 use Rattle.std.proofs.lemmas.List.Sums.{AllPass-from_list_all}
 use Rattle.std.proofs.lemmas.List.Splits.{slice_split_at}
 use Rattle.std.proofs.lemmas.Bool.Decides.{nat_tests}
+use Rattle.std.proofs.lemmas.Bool.{and_parts, not-true}
 use Rattle.teal_value.specs.Answer.{◌>>=◌}
 use Rattle.teal_text.specs.declared.fault.TextFaultKind.{TextFaultKind}
 use Rattle.teal_text.specs.declared.scan.FirstToken.{FirstToken}
@@ -17,10 +18,6 @@ use Rattle.teal_text.specs.Lines.{LineTokens, on_line, with_line, lines_from, is
 use Rattle.teal_text.specs.PlainWords.{has_comment, is_plain_byte, is_plain_word, is_plain_line, spaced, line_of_words, text_of_lines, tokens_of_words, lines_of_words, words_at}
 use Rattle.teal_text.proofs.Reading.{step}
 use Rattle.teal_text.proofs.LineReading.{has_first}
-
-both : (a b : Bool) → a && b ≡ true → (a ≡ true) × (b ≡ true)
-both true b e = (refl, e)
-both false b e = absurd cc
 
 -- what a plain byte is not
 record IsPlain (b : ℕ) : Type 0 where
@@ -47,15 +44,11 @@ record IsWord (word : List ℕ) : Type 0 where
   bytes : list_all is_plain_byte word ≡ true
   comment : has_comment word ≡ false
 
-not_true : (b : Bool) → not b ≡ true → b ≡ false
-not_true true e = absurd cc
-not_true false e = refl
-
 is_word : (word : List ℕ) → is_plain_word word ≡ true → IsWord word
 is_word word p =
-    let first = both (ltb 0 (length word)) _ p in
-    let more = both (list_all is_plain_byte word) (not (has_comment word)) first.1 in
-    record { some = grind (arith, nat_tests, first.0); bytes = more.0; comment = not_true _ more.1 }
+    let first = and_parts (ltb 0 (length word)) _ p in
+    let more = and_parts (list_all is_plain_byte word) (not (has_comment word)) first.1 in
+    record { some = grind (arith, nat_tests, first.0); bytes = more.0; comment = not-true _ more.1 }
 
 neither : (a b : Bool) → a || b ≡ false → (a ≡ false) × (b ≡ false)
 neither true b e = absurd cc
@@ -99,7 +92,7 @@ word_len_of : (base64 : Bool) (word rest : List ℕ) → list_all is_plain_byte 
 word_len_of base64 [] [] p c ends = refl
 word_len_of base64 [] (b ∷ bs) p c ends = stops (is_blank b) (not base64 && begins_comment (b ∷ bs)) (word_len base64 bs) ends
 word_len_of base64 (b ∷ bs) rest p c ends =
-    let here = both (is_plain_byte b) (list_all is_plain_byte bs) p in
+    let here = and_parts (is_plain_byte b) (list_all is_plain_byte bs) p in
     let is = plain b here.0 in
     let free = neither (begins_comment (b ∷ bs)) (has_comment bs) c in
     let more = word_len_of base64 bs rest here.1 free.1 ends in
@@ -119,7 +112,7 @@ unfolding first_token
 first_token_of base64 [] rest p ends = absurd cc
 first_token_of base64 (b ∷ bs) rest p ends =
     let word = is_word (b ∷ bs) p in
-    let is = plain b (both (is_plain_byte b) (list_all is_plain_byte bs) word.bytes).0 in
+    let is = plain b (and_parts (is_plain_byte b) (list_all is_plain_byte bs) word.bytes).0 in
     let free = neither (begins_comment (b ∷ bs)) (has_comment bs) word.comment in
     let some : eqb (length (b ∷ (bs ++ rest))) 0 ≡ false = grind (arith, nat_tests) in
     let open_line = not_ended (eqb (length (b ∷ (bs ++ rest))) 0) (not base64) (begins_comment (b ∷ (bs ++ rest))) some (no_comment b bs rest free.0 ends) in
@@ -142,7 +135,7 @@ blank_len_none : (word rest : List ℕ) → is_plain_word word ≡ true → blan
 unfolding blank_len
 blank_len_none [] rest p = absurd cc
 blank_len_none (b ∷ bs) rest p =
-    let is = plain b (both (is_plain_byte b) (list_all is_plain_byte bs) (is_word (b ∷ bs) p).bytes).0 in
+    let is = plain b (and_parts (is_plain_byte b) (list_all is_plain_byte bs) (is_word (b ∷ bs) p).bytes).0 in
     rw is.blank refl
 
 blank_len_one : (word rest : List ℕ) → is_plain_word word ≡ true → blank_len (32 ∷ (word ++ rest)) ≡ 1
@@ -153,7 +146,7 @@ spaced_tokens : (n : ℕ) (base64 : Bool) (place : ℕ) (words : List (List ℕ)
 spaced_tokens n base64 place [] lt p = no_words n base64 place (omega arith)
 spaced_tokens zero base64 place (word ∷ words) lt p = absurd (omega arith)
 spaced_tokens (suc n) base64 place (word ∷ words) lt p =
-    let parts = both (is_plain_word word) (is_plain_line words) p in
+    let parts = and_parts (is_plain_word word) (is_plain_line words) p in
     let len = length-append word (spaced words) in
     let more = spaced_tokens n (announces_base64 word (spaced words)) (place + 1 + length word) words (omega arith) parts.1 in
     one_word n base64 place 1 (spaced (word ∷ words)) word (spaced words) (blank_len_one word (spaced words) parts.0) refl parts.0 (spaced_ends words) ∙ rw more refl
@@ -162,7 +155,7 @@ tokens_read : (place : ℕ) (words : List (List ℕ)) → is_plain_line words �
 unfolding tokens_of
 tokens_read place [] p = no_words 1 false place (omega arith)
 tokens_read place (word ∷ words) p =
-    let parts = both (is_plain_word word) (is_plain_line words) p in
+    let parts = and_parts (is_plain_word word) (is_plain_line words) p in
     let line = word ++ spaced words in
     let len = length-append word (spaced words) in
     let some = (is_word word parts.0).some in
@@ -181,19 +174,19 @@ weaker false q e = absurd cc
 word_in_line : (word : List ℕ) → list_all is_plain_byte word ≡ true → list_all in_line word ≡ true
 word_in_line [] p = refl
 word_in_line (b ∷ bs) p =
-    let parts = both (is_plain_byte b) (list_all is_plain_byte bs) p in
+    let parts = and_parts (is_plain_byte b) (list_all is_plain_byte bs) p in
     rw (weaker (is_plain_byte b) (eqb b 32) parts.0) (word_in_line bs parts.1)
 
 spaced_in_line : (words : List (List ℕ)) → is_plain_line words ≡ true → list_all in_line (spaced words) ≡ true
 spaced_in_line [] p = refl
 spaced_in_line (word ∷ words) p =
-    let parts = both (is_plain_word word) (is_plain_line words) p in
+    let parts = and_parts (is_plain_word word) (is_plain_line words) p in
     rw (list_all-append in_line word (spaced words), word_in_line word (is_word word parts.0).bytes) (spaced_in_line words parts.1)
 
 line_in_line : (words : List (List ℕ)) → is_plain_line words ≡ true → list_all in_line (line_of_words words) ≡ true
 line_in_line [] p = refl
 line_in_line (word ∷ words) p =
-    let parts = both (is_plain_word word) (is_plain_line words) p in
+    let parts = and_parts (is_plain_word word) (is_plain_line words) p in
     rw (list_all-append in_line word (spaced words), word_in_line word (is_word word parts.0).bytes) (spaced_in_line words parts.1)
 
 no_end : (b : ℕ) → in_line b ≡ true → (eqb b 10 ≡ false) × (eqb b 13 ≡ false)
@@ -227,7 +220,7 @@ pub lines_read : (number place : ℕ) (lines : List (List (List ℕ))) → list_
 unfolding lines_from
 lines_read number place [] p = refl
 lines_read number place (words ∷ lines) p =
-    let parts = both (is_plain_line words) (list_all is_plain_line lines) p in
+    let parts = and_parts (is_plain_line words) (list_all is_plain_line lines) p in
     let line = line_of_words words in
     let in_one = line_in_line words parts.0 in
     let split : slice_split is_line_feed (line ++ 10 ∷ text_of_lines lines) ≡ line ∷ slice_split is_line_feed (text_of_lines lines) = slice_split_at is_line_feed line 10 (text_of_lines lines) (no_feed line in_one) refl in

@@ -1,17 +1,17 @@
 -- An address has one text.
-use Rattle.std.proofs.Common.{◌≡◌, ℕ, ◌+◌, ◌*◌, ◌/◌, ◌-◌, Bool, true, false, ◌&&◌, cond, eqb, List, [], ◌∷◌, ◌++◌, length, take, drop, Result, Ok, Err, refl, sym, ap, ◌∙◌, inl, inr, arith, length-append}
+use Rattle.std.proofs.Common.{◌≡◌, ℕ, ◌+◌, ◌*◌, ◌/◌, ◌-◌, Bool, true, false, cond, eqb, List, [], ◌∷◌, ◌++◌, length, take, drop, Result, Ok, Err, refl, sym, ap, ◌∙◌, inl, inr, arith, length-append}
 use Rattle.std.specs.Str.{bytes_eq}
 use Rattle.std.proofs.Math.Seq.{take-append_seam, drop-append_seam}
 use Rattle.std.proofs.Math.ListN.{get_or-append}
 use Rattle.std.proofs.lemmas.List.{take-append-drop, take_rest, get_or-append_right, length-map}
 use Rattle.std.proofs.lemmas.Slice.Eq.{bytes_eq-Decides}
-use Rattle.std.proofs.lemmas.Bool.{cases_lt}
+use Rattle.std.proofs.lemmas.Bool.{cases_lt, and_parts}
 use Rattle.std.proofs.lemmas.Bool.Decides.{nat_tests}
 use Rattle.teal_value.specs.declared.address.Address.{Address}
 use Rattle.teal_value.specs.declared.address_spelling.AddressFault.{AddressFault}
 use Rattle.teal_value.specs.declared.base32.BadText.{BadText}
 use Rattle.teal_value.specs.Base32.{symbol, groups, base32, padding, IsBytes, base32_decoded}
-use Rattle.teal_value.specs.AddressText.{checksum, address_text, checked, address_in, address_of}
+use Rattle.teal_value.specs.AddressText.{checksum, address_text, address_before_checksum, address_in, address_of}
 use Rattle.teal_value.proofs.Base32Law as base32_law
 
 groups_len : (bytes : List ℕ) → length (groups bytes) ≡ (8 * length bytes + 4) / 5
@@ -40,7 +40,7 @@ equal xs = (bytes_eq-Decides xs xs).1 refl
 pub last_four : (digest : List ℕ) → length digest ≡ 32 → take 4 (drop 28 digest) ≡ drop 28 digest
 last_four digest e = rw e at (take_rest digest 28)
 
-address_of_parts : (key sum bytes : List ℕ) → take 32 bytes ≡ key → drop 32 bytes ≡ sum → sum ≡ checksum key → checked bytes ≡ Ok (record { 0 = key })
+address_of_parts : (key sum bytes : List ℕ) → take 32 bytes ≡ key → drop 32 bytes ≡ sum → sum ≡ checksum key → address_before_checksum bytes ≡ Ok (record { 0 = key })
 address_of_parts key sum bytes front back e = rw (front, back, e, equal (checksum key)) refl
 
 pub reads : (key sum : List ℕ) → length key ≡ 32 → length sum ≡ 4 → IsBytes key → IsBytes sum → sum ≡ checksum key → address_of (address_text (record { 0 = key })) ≡ Ok (record { 0 = key })
@@ -61,10 +61,6 @@ record IsSpelled (n : ℕ) (r : Result (List ℕ) BadText) (a : Address) : Type 
   count : length bytes ≡ 36
   same : a.0 ++ checksum a.0 ≡ bytes
 
-both : (a b : Bool) → a && b ≡ true → (a ≡ true) × (b ≡ true)
-both true b e = (refl, e)
-both false b e = absurd cc
-
 passed : (b : Bool) (r : Result Address AddressFault) (f : AddressFault) (a : Address) → cond b r (Err f) ≡ Ok a → (b ≡ true) × (r ≡ Ok a)
 passed true r f a e = (refl, e)
 passed false r f a e = absurd cc
@@ -77,7 +73,7 @@ spelled : (n : ℕ) (r : Result (List ℕ) BadText) (a : Address) → address_in
 spelled n (Err f) a e = absurd cc
 spelled n (Ok bytes) a e =
     let lens = passed _ _ _ a e in
-    let two = both (eqb n 58) (eqb (length bytes) 36) lens.0 in
+    let two = and_parts (eqb n 58) (eqb (length bytes) 36) lens.0 in
     let sums = passed _ _ _ a lens.1 in
     let key : take 32 bytes ≡ a.0 = ap key_of sums.1 in
     record {

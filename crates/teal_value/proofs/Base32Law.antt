@@ -1,5 +1,5 @@
 -- A text reads as bytes exactly where it is a spelling of them.
-use Rattle.std.proofs.Common.{◌≡◌, ◌⊎◌, ℕ, zero, suc, ◌<◌, Bool, true, false, ◌&&◌, ◌||◌, cond, eqb, List, [], ◌∷◌, ◌++◌, length, map, take, drop, codes, Ok, Err, refl, sym, ap, ◌∙◌, inl, inr, arith, rules}
+use Rattle.std.proofs.Common.{◌≡◌, ◌⊎◌, ℕ, zero, suc, ◌<◌, Bool, true, false, cond, eqb, List, [], ◌∷◌, ◌++◌, length, map, take, drop, codes, Ok, Err, refl, sym, ap, ◌∙◌, inl, inr, arith, rules}
 use Rattle.std.specs.List.{AllByRecursion}
 use Rattle.std.specs.Str.{bytes_eq}
 use Rattle.std.proofs.Math.Bool.{or-true}
@@ -9,7 +9,7 @@ use Rattle.std.proofs.lemmas.List.{take-append-drop, append-nil, nil_from_length
 use Rattle.std.proofs.lemmas.List.Elements.{All-from_recursion, All-get_or}
 use Rattle.std.proofs.lemmas.List.Folds.{length-prefix_len}
 use Rattle.std.proofs.lemmas.Slice.Eq.{bytes_eq-Decides}
-use Rattle.std.proofs.lemmas.Bool.{cases_lt}
+use Rattle.std.proofs.lemmas.Bool.{cases_lt, and_parts, or_cases}
 use Rattle.std.proofs.lemmas.Bool.Decides.{nat_tests}
 use Rattle.teal_value.specs.declared.base32.BadText.{BadText}
 use Rattle.teal_value.specs.Base32.{symbol, groups, base32, padding, padding_len, IsBase32, IsBytes, is_symbol, group_of, bytes_of, symbol_count, candidate, is_tail, base32_decoded}
@@ -65,14 +65,6 @@ reads text bytes (small, spelled) =
       | inr padded ↦ rw padded (read_spelling bytes (padding (length (base32 bytes))) small (padding_count (padding_len (length (base32 bytes)))) (rw (equal (padding (length (base32 bytes)))) (or-true _)))
     ]
 
-both : (a b : Bool) → a && b ≡ true → (a ≡ true) × (b ≡ true)
-both true b e = (refl, e)
-both false b e = absurd cc
-
-either : (a b : Bool) → a || b ≡ true → (a ≡ true) ⊎ (b ≡ true)
-either true b e = inl refl
-either false b e = inr e
-
 found : (b : Bool) (x bytes : List ℕ) (f : BadText) → cond b (Ok x) (Err f) ≡ Ok bytes → (b ≡ true) × (x ≡ bytes)
 found true x bytes f e = (refl, cc)
 found false x bytes f e = absurd cc
@@ -87,7 +79,7 @@ bytes_small gs small i =
 
 tail_is : (n : ℕ) (text front rest : List ℕ) → text ≡ front ++ rest → n ≡ length front → is_tail n rest ≡ true → (text ≡ front) ⊎ (text ≡ front ++ padding (length front))
 tail_is n text front rest split len tail =
-    elim (either (eqb (length rest) 0) (bytes_eq rest (padding n)) tail) [
+    elim (or_cases (eqb (length rest) 0) (bytes_eq rest (padding n)) tail) [
       | inl none ↦ inl (split ∙ rw (nil_from_length rest (grind (arith, nat_tests))) (append-nil front))
       | inr padded ↦ inr (split ∙ ap (λ x. front ++ x) ((bytes_eq-Decides rest (padding n)).0 padded ∙ ap padding len))
     ]
@@ -97,7 +89,7 @@ unfolding base32_decoded
 reads_back text bytes e =
     let n = symbol_count text in
     let f = found _ (candidate text) bytes _ e in
-    let tests = both _ _ f.0 in
+    let tests = and_parts _ _ f.0 in
     let before : take n text ≡ base32 bytes = (bytes_eq-Decides (take n text) (base32 (candidate text))).0 tests.0 ∙ ap base32 f.1 in
     let split : text ≡ base32 bytes ++ drop n text = sym (take-append-drop n text) ∙ ap (λ x. x ++ drop n text) before in
     let len : n ≡ length (base32 bytes) = sym (length-prefix_len is_symbol text) ∙ ap length before in

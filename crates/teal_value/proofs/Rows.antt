@@ -41,9 +41,9 @@ empty : base32_decoded [] ≡ Ok []
 unfolding groups base32 bytes_of base32_decoded
 empty = refl
 
-zero_address : address_text (record { 0 = replicate 32 0 }) ≡ codes "AAAAAAAAAAAAAAAAAAAAAAAAAAAAAAAAAAAAAAAAAAAAAAAAAAAAY5HFKQ"
+zero_address_text : address_text (record { 0 = replicate 32 0 }) ≡ codes "AAAAAAAAAAAAAAAAAAAAAAAAAAAAAAAAAAAAAAAAAAAAAAAAAAAAY5HFKQ"
 unfolding groups base32 address_text first_words schedule rounds compress hash_after digest_bytes sha512_256
-zero_address = refl
+zero_address_text = refl
 
 other_checksum : address_of (codes "AAAAAAAAAAAAAAAAAAAAAAAAAAAAAAAAAAAAAAAAAAAAAAAAAAAAY5HFKA") ≡ Err BadChecksum
 unfolding groups base32 bytes_of base32_decoded address_of first_words schedule rounds compress hash_after digest_bytes sha512_256

@@ -17,12 +17,12 @@ unfoldable pub address_text : Address → List ℕ
 address_text a = base32 (a.0 ++ checksum a.0)
 
 -- 36 bytes as an address
-abbrev pub checked : List ℕ → Result Address AddressFault
-checked bytes = if bytes_eq (drop 32 bytes) (checksum (take 32 bytes)) then Ok (record { 0 = take 32 bytes }) else Err fault.BadChecksum
+abbrev pub address_before_checksum : List ℕ → Result Address AddressFault
+address_before_checksum bytes = if bytes_eq (drop 32 bytes) (checksum (take 32 bytes)) then Ok (record { 0 = take 32 bytes }) else Err fault.BadChecksum
 
 -- the bytes that a text of n characters reads as, which are an address if they are 36 without padding
 abbrev pub address_in : ℕ → Result (List ℕ) BadText → Result Address AddressFault
-address_in n (Ok bytes) = if n == 58 && length bytes == 36 then checked bytes else Err fault.BadText
+address_in n (Ok bytes) = if n == 58 && length bytes == 36 then address_before_checksum bytes else Err fault.BadText
 address_in n (Err e) = Err fault.BadText
 
 -- the address that a text writes

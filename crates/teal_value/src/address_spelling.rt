@@ -3,7 +3,7 @@
 ghost use Rattle.std.specs.Prelude.{◌≡◌, ℕ, List, Ok, IfOk, length, take, drop};
 ghost use Rattle.std.specs.String.{string_bytes};
 ghost use Rattle.teal_value.specs.Answer.{Gives};
-ghost use Rattle.teal_value.specs.AddressText.{address_text, address_of, checked, checksum};
+ghost use Rattle.teal_value.specs.AddressText.{address_text, address_of, address_before_checksum, checksum};
 ghost use Rattle.teal_value.specs.FaultNames.{address_fault_name};
 
 use crate::address::Address;
@@ -63,7 +63,7 @@ pub fn address_of_bytes(alloc: Global, text: &[u8]) -> Result<Address, Failure<A
         Err(Failure::Fault(_)) => return Err(Failure::Fault(AddressFault::BadText)),
     };
     if text.len() == 58 && bytes.len() == 36 {
-        checked(&bytes)
+        address_before_checksum(&bytes)
     } else {
         Err(Failure::Fault(AddressFault::BadText))
     }
@@ -87,9 +87,9 @@ fn key_has_one_text(key: &[u8], sum: &[u8])
     let _ = sum;
 }
 
-fn checked(bytes: &[u8]) -> Result<Address, Failure<AddressFault>>
+fn address_before_checksum(bytes: &[u8]) -> Result<Address, Failure<AddressFault>>
     requires { length bytes.now ≡ 36 }
-    ensures { Gives (λ a. a) result (checked bytes.now) }
+    ensures { Gives (λ a. a) result (address_before_checksum bytes.now) }
 {
     let (front, sum) = bytes.split_at(32);
     let mut key = [0; 32];
