@@ -82,6 +82,7 @@ impl ByteConstants {
         self.count = 0;
     }
 
+    /// The byte strings in force.
     pub fn as_slice(&self) -> &[ByteString]
         ensures { result.now ≡ self.now }
     {

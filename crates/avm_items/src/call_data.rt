@@ -31,6 +31,7 @@ impl Addresses {
         Addresses { addresses }
     }
 
+    /// The addresses, lent.
     pub fn as_slice(&self) -> &[Address]
         ensures { result.now ≡ self.now }
     {

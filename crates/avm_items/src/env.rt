@@ -87,6 +87,7 @@ impl Env {
         &self.call
     }
 
+    /// The header of the block that the call is in.
     pub fn header(&self) -> &Header
         ensures { result.now ≡ self.now.header }
     {

@@ -98,6 +98,7 @@ impl ByteString {
         }
     }
 
+    /// The bytes, lent.
     #[inline]
     pub fn as_slice(&self) -> &[u8]
         ensures { result.now ≡ self.now }
@@ -108,12 +109,14 @@ impl ByteString {
         }
     }
 
+    /// How many bytes there are.
     pub fn len(&self) -> usize
         ensures { result ≡ length self.now }
     {
         self.as_slice().len()
     }
 
+    /// Whether there are none.
     pub fn is_empty(&self) -> bool
         ensures { IsTrue result ↔ (self.now ≡ []) }
     {
@@ -158,6 +161,7 @@ impl Uints {
         Uints { numbers }
     }
 
+    /// The numbers, lent.
     pub fn as_slice(&self) -> &[u64]
         ensures { result.now ≡ self.now }
     {
@@ -194,6 +198,7 @@ impl ByteStrings {
         ByteStrings { strings }
     }
 
+    /// The byte strings, lent.
     pub fn as_slice(&self) -> &[ByteString]
         ensures { result.now ≡ self.now }
     {

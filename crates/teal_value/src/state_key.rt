@@ -52,6 +52,7 @@ impl StateKey {
         Some(StateKey { bytes: kept(bytes) })
     }
 
+    /// The bytes of the key, at most 64, lent.
     pub fn as_slice(&self) -> &[u8]
         ensures value { result.now ≡ self.now }
         ensures short { length result.now ≤ 64 }
