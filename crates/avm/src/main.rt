@@ -17,6 +17,7 @@ use std::io::{self, ErrorKind};
 use std::process::ExitCode;
 use std::sync::Wait;
 use std::thread::Threads;
+use teal_table::Opcode;
 
 /// The exit status where memory was wanting before there was a command.
 const FAILED: u8 = 3;
@@ -34,11 +35,11 @@ macro_rules! boxed {
     };
 }
 
-/// The object of a code, of the family that has it, or the next turn of the loop where none has. Each family is an object by
+/// The object of an opcode, of the family that has it, or the next turn of the loop where none has. Each family is an object by
 /// itself, and not in a type of all of them, which would be told apart once more at each instruction.
 macro_rules! object_of {
-    ($alloc:expr, $code:expr, $($family:ident),+) => {
-        $(if let Some(op) = $family::of($code) {
+    ($alloc:expr, $opcode:expr, $($family:ident),+) => {
+        $(if let Some(op) = $family::of($opcode) {
             boxed!($alloc, op)
         } else)+ {
             continue;
@@ -55,9 +56,11 @@ fn main(rt: HostRuntime) -> ExitCode {
             Err(_) => return ExitCode::from(FAILED),
         };
         for code in 0..256usize {
-            let code = code as u8;
+            let Some(opcode) = Opcode::of(code as u8) else {
+                continue;
+            };
             let op: Box<dyn Op> = object_of!(
-                alloc, code, Binary, Bits, Comparison, Equality, Joined, OfBytes, Unary, Wide,
+                alloc, opcode, Binary, Bits, Comparison, Equality, Joined, OfBytes, Unary, Wide,
                 Block, Branch, Bytec, Intc, Literal, Scratch, Stack, Stops, GlobalOp, StateRead,
                 StateWrite, Txn
             );

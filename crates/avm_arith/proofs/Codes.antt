@@ -1,9 +1,7 @@
--- An instruction is told by its code.
-use Rattle.std.proofs.Common.{◌≡◌, ◌∙◌, ℕ, Some, refl, sym, ap}
+-- An instruction is told by its opcode.
+use Rattle.std.proofs.Common.{◌≡◌, ◌∙◌, Some, refl, sym, ap}
 use Rattle.teal_table.specs.declared.opcode.Opcode.{Opcode}
 use Rattle.teal_table.specs.declared.opcode.Opcode.TheVariants as op
-use Rattle.teal_table.specs.Table.{code_of}
-use Rattle.avm_ops.proofs.Sets.{same_code}
 use Rattle.avm_arith.specs.declared.binary.Binary.TheVariants as binary
 use Rattle.avm_arith.specs.declared.comparison.Comparison.TheVariants as comparison
 use Rattle.avm_arith.specs.declared.comparison.Equality.TheVariants as equality
@@ -86,7 +84,5 @@ instruction-arith_opcode (arith.Bits bits.Setbit) = refl
 instruction-arith_opcode (arith.Bits bits.Getbyte) = refl
 instruction-arith_opcode (arith.Bits bits.Setbyte) = refl
 
-pub same_instruction : (a b : ArithOp) (code : ℕ) → code_of (arith_opcode a) ≡ code → code_of (arith_opcode b) ≡ code → Some a ≡ Some b
-same_instruction a b code is_a is_b =
-    let one_opcode = same_code (arith_opcode a) (arith_opcode b) (is_a ∙ sym is_b) in
-    ap Some (sym (instruction-arith_opcode a) ∙ ap instruction one_opcode ∙ instruction-arith_opcode b)
+pub same_instruction : (a b : ArithOp) (opcode : Opcode) → arith_opcode a ≡ opcode → arith_opcode b ≡ opcode → Some a ≡ Some b
+same_instruction a b opcode is_a is_b = ap Some (sym (instruction-arith_opcode a) ∙ ap instruction (is_a ∙ sym is_b) ∙ instruction-arith_opcode b)

@@ -1,7 +1,6 @@
 //! Every instruction of this crate as one type, so that a set of objects is filled with one type of object.
 
 ghost use Rattle.std.specs.Prelude.{◌≡◌, IfSome, Some};
-ghost use Rattle.teal_table.specs.Table.{code_of};
 ghost use Rattle.avm_arith.specs.Families.{arith_opcode};
 
 use crate::{Binary, Bits, Comparison, Equality, Joined, OfBytes, Unary, Wide};
@@ -10,6 +9,7 @@ use avm_items::Env;
 use avm_ops::{Op, Stop};
 use std::alloc::Global;
 use teal_code::Instr;
+use teal_table::Opcode;
 
 /// An instruction on numbers or byte strings, in its family.
 #[derive(Clone, Copy, Debug, PartialEq, Eq)]
@@ -25,26 +25,26 @@ pub enum ArithOp {
 }
 
 impl ArithOp {
-    /// The instruction of a code.
-    pub fn of(code: u8) -> Option<ArithOp>
-        ensures some { IfSome result (λ op. code_of (arith_opcode op) ≡ code) }
-        ensures all { (op : _) → code_of (arith_opcode op) ≡ code → result ≡ Some op }
+    /// The instruction of an opcode.
+    pub fn of(opcode: Opcode) -> Option<ArithOp>
+        ensures some { IfSome result (λ op. arith_opcode op ≡ opcode) }
+        ensures all { (op : _) → arith_opcode op ≡ opcode → result ≡ Some op }
     {
-        if let Some(op) = Binary::of(code) {
+        if let Some(op) = Binary::of(opcode) {
             Some(ArithOp::Binary(op))
-        } else if let Some(op) = Comparison::of(code) {
+        } else if let Some(op) = Comparison::of(opcode) {
             Some(ArithOp::Comparison(op))
-        } else if let Some(op) = Equality::of(code) {
+        } else if let Some(op) = Equality::of(opcode) {
             Some(ArithOp::Equality(op))
-        } else if let Some(op) = Wide::of(code) {
+        } else if let Some(op) = Wide::of(opcode) {
             Some(ArithOp::Wide(op))
-        } else if let Some(op) = Unary::of(code) {
+        } else if let Some(op) = Unary::of(opcode) {
             Some(ArithOp::Unary(op))
-        } else if let Some(op) = OfBytes::of(code) {
+        } else if let Some(op) = OfBytes::of(opcode) {
             Some(ArithOp::OfBytes(op))
-        } else if let Some(op) = Joined::of(code) {
+        } else if let Some(op) = Joined::of(opcode) {
             Some(ArithOp::Joined(op))
-        } else if let Some(op) = Bits::of(code) {
+        } else if let Some(op) = Bits::of(opcode) {
             Some(ArithOp::Bits(op))
         } else {
             None

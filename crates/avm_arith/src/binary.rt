@@ -1,7 +1,6 @@
 //! Instructions that take two numbers and give one.
 
 ghost use Rattle.std.specs.Prelude.{◌≡◌, IfSome, Some};
-ghost use Rattle.teal_table.specs.Table.{code_of};
 ghost use Rattle.avm_arith.specs.Families.{binary_opcode, binary_value};
 
 use avm_cpu::{Cpu, Flow};
@@ -26,21 +25,20 @@ pub enum Binary {
 }
 
 impl Binary {
-    /// The instruction of a code.
-    #[tactic(auto, unfolding(teal_table::specs::Table::row_of))]
-    pub fn of(code: u8) -> Option<Binary>
-        ensures some { IfSome result (λ row. code_of (binary_opcode row) ≡ code) }
-        ensures all { (row : _) → code_of (binary_opcode row) ≡ code → result ≡ Some row }
+    /// The instruction of an opcode.
+    pub fn of(opcode: Opcode) -> Option<Binary>
+        ensures some { IfSome result (λ row. binary_opcode row ≡ opcode) }
+        ensures all { (row : _) → binary_opcode row ≡ opcode → result ≡ Some row }
     {
-        match code {
-            0x08 => Some(Binary::Add),
-            0x09 => Some(Binary::Subtract),
-            0x0a => Some(Binary::Divide),
-            0x0b => Some(Binary::Multiply),
-            0x18 => Some(Binary::Remainder),
-            0x19 => Some(Binary::BitOr),
-            0x1a => Some(Binary::BitAnd),
-            0x1b => Some(Binary::BitXor),
+        match opcode {
+            Opcode::Add => Some(Binary::Add),
+            Opcode::Subtract => Some(Binary::Subtract),
+            Opcode::Divide => Some(Binary::Divide),
+            Opcode::Multiply => Some(Binary::Multiply),
+            Opcode::Remainder => Some(Binary::Remainder),
+            Opcode::BitOr => Some(Binary::BitOr),
+            Opcode::BitAnd => Some(Binary::BitAnd),
+            Opcode::BitXor => Some(Binary::BitXor),
             _ => None,
         }
     }

@@ -1,7 +1,6 @@
 //! Instructions on the bytes and bits of values.
 
 ghost use Rattle.std.specs.Prelude.{◌≡◌, ◌<◌, ◌^◌, length, IfOk, IfSome, Some, nat_lt, slice_set};
-ghost use Rattle.teal_table.specs.Table.{code_of};
 ghost use Rattle.avm_ops.specs.ByteStrings.{bit_count, bit_of, bit_of_value, value_with_bit, with_bit};
 ghost use Rattle.avm_arith.specs.Families.{bits_opcode};
 
@@ -24,17 +23,16 @@ pub enum Bits {
 }
 
 impl Bits {
-    /// The instruction of a code.
-    #[tactic(auto, unfolding(teal_table::specs::Table::row_of))]
-    pub fn of(code: u8) -> Option<Bits>
-        ensures some { IfSome result (λ row. code_of (bits_opcode row) ≡ code) }
-        ensures all { (row : _) → code_of (bits_opcode row) ≡ code → result ≡ Some row }
+    /// The instruction of an opcode.
+    pub fn of(opcode: Opcode) -> Option<Bits>
+        ensures some { IfSome result (λ row. bits_opcode row ≡ opcode) }
+        ensures all { (row : _) → bits_opcode row ≡ opcode → result ≡ Some row }
     {
-        match code {
-            0x53 => Some(Bits::Getbit),
-            0x54 => Some(Bits::Setbit),
-            0x55 => Some(Bits::Getbyte),
-            0x56 => Some(Bits::Setbyte),
+        match opcode {
+            Opcode::Getbit => Some(Bits::Getbit),
+            Opcode::Setbit => Some(Bits::Setbit),
+            Opcode::Getbyte => Some(Bits::Getbyte),
+            Opcode::Setbyte => Some(Bits::Setbyte),
             _ => None,
         }
     }

@@ -1,7 +1,6 @@
 //! Instructions that compare two numbers, or two values of one type.
 
 ghost use Rattle.std.specs.Prelude.{◌≡◌, IfSome, Some};
-ghost use Rattle.teal_table.specs.Table.{code_of};
 ghost use Rattle.avm_ops.specs.Frame.{flag};
 ghost use Rattle.avm_ops.specs.Numbers.{are_equal};
 ghost use Rattle.avm_arith.specs.Families.{comparison_opcode, comparison_holds, equality_opcode, equality_holds};
@@ -37,19 +36,18 @@ pub enum Comparison {
 }
 
 impl Comparison {
-    /// The instruction of a code.
-    #[tactic(auto, unfolding(teal_table::specs::Table::row_of))]
-    pub fn of(code: u8) -> Option<Comparison>
-        ensures some { IfSome result (λ row. code_of (comparison_opcode row) ≡ code) }
-        ensures all { (row : _) → code_of (comparison_opcode row) ≡ code → result ≡ Some row }
+    /// The instruction of an opcode.
+    pub fn of(opcode: Opcode) -> Option<Comparison>
+        ensures some { IfSome result (λ row. comparison_opcode row ≡ opcode) }
+        ensures all { (row : _) → comparison_opcode row ≡ opcode → result ≡ Some row }
     {
-        match code {
-            0x0c => Some(Comparison::Less),
-            0x0d => Some(Comparison::Greater),
-            0x0e => Some(Comparison::LessOrEqual),
-            0x0f => Some(Comparison::GreaterOrEqual),
-            0x10 => Some(Comparison::And),
-            0x11 => Some(Comparison::Or),
+        match opcode {
+            Opcode::Less => Some(Comparison::Less),
+            Opcode::Greater => Some(Comparison::Greater),
+            Opcode::LessOrEqual => Some(Comparison::LessOrEqual),
+            Opcode::GreaterOrEqual => Some(Comparison::GreaterOrEqual),
+            Opcode::And => Some(Comparison::And),
+            Opcode::Or => Some(Comparison::Or),
             _ => None,
         }
     }
@@ -112,15 +110,14 @@ pub enum Equality {
 }
 
 impl Equality {
-    /// The instruction of a code.
-    #[tactic(auto, unfolding(teal_table::specs::Table::row_of))]
-    pub fn of(code: u8) -> Option<Equality>
-        ensures some { IfSome result (λ row. code_of (equality_opcode row) ≡ code) }
-        ensures all { (row : _) → code_of (equality_opcode row) ≡ code → result ≡ Some row }
+    /// The instruction of an opcode.
+    pub fn of(opcode: Opcode) -> Option<Equality>
+        ensures some { IfSome result (λ row. equality_opcode row ≡ opcode) }
+        ensures all { (row : _) → equality_opcode row ≡ opcode → result ≡ Some row }
     {
-        match code {
-            0x12 => Some(Equality::Equal),
-            0x13 => Some(Equality::NotEqual),
+        match opcode {
+            Opcode::Equal => Some(Equality::Equal),
+            Opcode::NotEqual => Some(Equality::NotEqual),
             _ => None,
         }
     }

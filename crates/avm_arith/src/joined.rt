@@ -1,7 +1,6 @@
 //! Instructions that join byte strings and take parts of them.
 
 ghost use Rattle.std.specs.Prelude.{◌≡◌, ◌++◌, IfOk, IfSome, Some};
-ghost use Rattle.teal_table.specs.Table.{code_of};
 ghost use Rattle.avm_arith.specs.Families.{joined_opcode};
 
 use crate::of_bytes::range_of;
@@ -32,15 +31,14 @@ fn concatenated(alloc: Global, first: &[u8], second: &[u8]) -> Result<ByteString
 }
 
 impl Joined {
-    /// The instruction of a code.
-    #[tactic(auto, unfolding(teal_table::specs::Table::row_of))]
-    pub fn of(code: u8) -> Option<Joined>
-        ensures some { IfSome result (λ row. code_of (joined_opcode row) ≡ code) }
-        ensures all { (row : _) → code_of (joined_opcode row) ≡ code → result ≡ Some row }
+    /// The instruction of an opcode.
+    pub fn of(opcode: Opcode) -> Option<Joined>
+        ensures some { IfSome result (λ row. joined_opcode row ≡ opcode) }
+        ensures all { (row : _) → joined_opcode row ≡ opcode → result ≡ Some row }
     {
-        match code {
-            0x50 => Some(Joined::Concat),
-            0x52 => Some(Joined::Substring3),
+        match opcode {
+            Opcode::Concat => Some(Joined::Concat),
+            Opcode::Substring3 => Some(Joined::Substring3),
             _ => None,
         }
     }

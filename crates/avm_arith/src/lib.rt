@@ -1,5 +1,5 @@
 //! The instructions on numbers and byte strings, as objects: one type a family of opcodes, each with `of`, which gives the
-//! family's object of a code, and `ArithOp` over all families, so that a set is filled by a loop over the codes.
+//! family's object of an opcode, and `ArithOp` over all families, so that a set is filled by a loop over the codes.
 //!
 //! What an instruction does stands in `avm_ops`, `specs/Numbers.antt` and `specs/ByteStrings.antt`.
 #![tactic(auto)]

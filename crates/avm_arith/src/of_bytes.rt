@@ -4,7 +4,6 @@ ghost use Rattle.std.specs.Prelude.{◌≡◌, ◌≤◌, length, IfOk, IfSome, 
 ghost use Rattle.sha2.specs.Sha256.{sha256};
 ghost use Rattle.sha2.specs.Sha512.{sha512_256};
 ghost use Rattle.teal_value.specs.Answer.{Gives};
-ghost use Rattle.teal_table.specs.Table.{code_of};
 ghost use Rattle.avm_ops.specs.ByteStrings.{big_endian, number_of_bytes, range_of};
 ghost use Rattle.avm_arith.specs.Families.{of_bytes_opcode, of_bytes_value};
 
@@ -29,18 +28,17 @@ pub enum OfBytes {
 }
 
 impl OfBytes {
-    /// The instruction of a code.
-    #[tactic(auto, unfolding(teal_table::specs::Table::row_of))]
-    pub fn of(code: u8) -> Option<OfBytes>
-        ensures some { IfSome result (λ row. code_of (of_bytes_opcode row) ≡ code) }
-        ensures all { (row : _) → code_of (of_bytes_opcode row) ≡ code → result ≡ Some row }
+    /// The instruction of an opcode.
+    pub fn of(opcode: Opcode) -> Option<OfBytes>
+        ensures some { IfSome result (λ row. of_bytes_opcode row ≡ opcode) }
+        ensures all { (row : _) → of_bytes_opcode row ≡ opcode → result ≡ Some row }
     {
-        match code {
-            0x01 => Some(OfBytes::Sha256),
-            0x03 => Some(OfBytes::Sha512_256),
-            0x15 => Some(OfBytes::Len),
-            0x17 => Some(OfBytes::Btoi),
-            0x51 => Some(OfBytes::Substring),
+        match opcode {
+            Opcode::Sha256 => Some(OfBytes::Sha256),
+            Opcode::Sha512_256 => Some(OfBytes::Sha512_256),
+            Opcode::Len => Some(OfBytes::Len),
+            Opcode::Btoi => Some(OfBytes::Btoi),
+            Opcode::Substring => Some(OfBytes::Substring),
             _ => None,
         }
     }

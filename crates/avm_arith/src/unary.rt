@@ -1,7 +1,6 @@
 //! Instructions on one number.
 
 ghost use Rattle.std.specs.Prelude.{◌≡◌, IfOk, IfSome, Some};
-ghost use Rattle.teal_table.specs.Table.{code_of};
 ghost use Rattle.avm_ops.specs.ByteStrings.{bytes_of_number};
 ghost use Rattle.avm_arith.specs.Families.{unary_opcode, unary_value};
 
@@ -23,16 +22,15 @@ pub enum Unary {
 }
 
 impl Unary {
-    /// The instruction of a code.
-    #[tactic(auto, unfolding(teal_table::specs::Table::row_of))]
-    pub fn of(code: u8) -> Option<Unary>
-        ensures some { IfSome result (λ row. code_of (unary_opcode row) ≡ code) }
-        ensures all { (row : _) → code_of (unary_opcode row) ≡ code → result ≡ Some row }
+    /// The instruction of an opcode.
+    pub fn of(opcode: Opcode) -> Option<Unary>
+        ensures some { IfSome result (λ row. unary_opcode row ≡ opcode) }
+        ensures all { (row : _) → unary_opcode row ≡ opcode → result ≡ Some row }
     {
-        match code {
-            0x14 => Some(Unary::Not),
-            0x16 => Some(Unary::Itob),
-            0x1c => Some(Unary::BitNot),
+        match opcode {
+            Opcode::Not => Some(Unary::Not),
+            Opcode::Itob => Some(Unary::Itob),
+            Opcode::BitNot => Some(Unary::BitNot),
             _ => None,
         }
     }

@@ -1,7 +1,6 @@
 //! Instructions whose result has 128 bits.
 
 ghost use Rattle.std.specs.Prelude.{◌≡◌, ◌/◌, ◌%◌, ◌^◌, IfSome, Some};
-ghost use Rattle.teal_table.specs.Table.{code_of};
 ghost use Rattle.avm_arith.specs.Families.{wide_opcode, wide_value};
 
 use avm_cpu::{Cpu, Flow};
@@ -23,15 +22,14 @@ pub enum Wide {
 const WORD: u128 = 1 << 64;
 
 impl Wide {
-    /// The instruction of a code.
-    #[tactic(auto, unfolding(teal_table::specs::Table::row_of))]
-    pub fn of(code: u8) -> Option<Wide>
-        ensures some { IfSome result (λ row. code_of (wide_opcode row) ≡ code) }
-        ensures all { (row : _) → code_of (wide_opcode row) ≡ code → result ≡ Some row }
+    /// The instruction of an opcode.
+    pub fn of(opcode: Opcode) -> Option<Wide>
+        ensures some { IfSome result (λ row. wide_opcode row ≡ opcode) }
+        ensures all { (row : _) → wide_opcode row ≡ opcode → result ≡ Some row }
     {
-        match code {
-            0x1d => Some(Wide::Mulw),
-            0x1e => Some(Wide::Addw),
+        match opcode {
+            Opcode::Mulw => Some(Wide::Mulw),
+            Opcode::Addw => Some(Wide::Addw),
             _ => None,
         }
     }

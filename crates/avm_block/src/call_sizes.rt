@@ -7,7 +7,7 @@ ghost use Rattle.avm_call.specs.CallRules.{call_fault};
 use crate::entry::Entry;
 use avm_call::Call;
 use avm_items::CallData;
-use avm_ledger::Schema;
+use avm_states::Schema;
 use teal_value::Address;
 
 /// Timestamps and the fields of calls are within their sizes.

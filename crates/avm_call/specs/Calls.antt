@@ -3,7 +3,7 @@
 use Rattle.std.specs.Prelude.{ℕ, ◌+◌, ◌-◌, ◌^◌, ◌==◌, ◌||◌, Bool, true, false, not, if◌then◌else◌, List, [], filter, Option, Some, None, is_some, Result, Ok, Err}
 use Rattle.avm_ledger.specs.declared.application.Application.{Application}
 use Rattle.avm_ledger.specs.declared.header.Header.{Header}
-use Rattle.avm_ledger.specs.Schemas.{no_entries}
+use Rattle.avm_states.specs.Schemas.{no_entries}
 use Rattle.avm_items.specs.declared.call_data.Completion.{Completion}
 use Rattle.avm_items.specs.declared.call_data.Completion.TheVariants as completion
 use Rattle.avm_items.specs.declared.call_data.CallData.{CallData}

@@ -10,7 +10,7 @@ use Rattle.teal_code.specs.declared.decode.CodeFault.{CodeFault}
 use Rattle.teal_code.specs.declared.instr.Instr.{Instr}
 use Rattle.avm_ledger.specs.declared.application.Application.{Application}
 use Rattle.avm_ledger.specs.declared.header.Header.{Header}
-use Rattle.avm_ledger.specs.Entries.{Entries, byte_cmp, value_of_key}
+use Rattle.avm_states.specs.Entries.{Entries, byte_cmp, value_of_key}
 use Rattle.avm_ledger.specs.declared.application.StoredApplication.{StoredApplication}
 use Rattle.avm_ledger.specs.Ledgers.{Ledger, application_at, local_state_at}
 use Rattle.teal_value.specs.SameValues.{is_same}

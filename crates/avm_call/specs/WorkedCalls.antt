@@ -1,9 +1,9 @@
 -- Calls over a ledger without applications, on which replay is computed.
 use Rattle.std.specs.Prelude.{ℕ, List, [], ◌∷◌, Option, Some, None}
 use Rattle.teal_value.specs.declared.value.Value.{Value}
-use Rattle.avm_ledger.specs.declared.schema.Schema.{Schema}
+use Rattle.avm_states.specs.declared.schema.Schema.{Schema}
 use Rattle.avm_ledger.specs.declared.header.Profile.TheVariants as profile
-use Rattle.avm_ledger.specs.Entries.{Entries, value_of_key}
+use Rattle.avm_states.specs.Entries.{Entries, value_of_key}
 use Rattle.avm_ledger.specs.declared.application.StoredApplication.{StoredApplication}
 use Rattle.avm_ledger.specs.Ledgers.{Ledger, empty_ledger, application_at, local_state_at}
 use Rattle.avm_items.specs.declared.call_data.Completion.{Completion}

@@ -2,11 +2,11 @@
 -- zero address, with no entries allowed, over a ledger without applications.
 use Rattle.std.specs.Prelude.{ℕ, List, [], replicate}
 use Rattle.teal_value.specs.declared.address.Address.{Address}
-use Rattle.avm_ledger.specs.declared.schema.Schema.{Schema}
+use Rattle.avm_states.specs.declared.schema.Schema.{Schema}
 use Rattle.avm_ledger.specs.declared.header.Header.{Header}
 use Rattle.avm_ledger.specs.declared.header.Profile.{Profile}
 use Rattle.avm_ledger.specs.declared.header.Profile.TheVariants as profile
-use Rattle.avm_ledger.specs.Schemas.{no_entries}
+use Rattle.avm_states.specs.Schemas.{no_entries}
 use Rattle.avm_items.specs.declared.call_data.Completion.{Completion}
 use Rattle.avm_items.specs.declared.call_data.Completion.TheVariants as completion
 use Rattle.avm_items.specs.declared.call_data.CallData.{CallData}

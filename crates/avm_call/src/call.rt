@@ -11,7 +11,8 @@ ghost use Rattle.avm_items.specs.CallFields.{clears, creates};
 
 use crate::call_fault::{CallError, CallFault};
 use avm_items::{CallData, Completion};
-use avm_ledger::{Application, Profile, Schema, StoredProgram};
+use avm_ledger::{Application, Profile, StoredProgram};
+use avm_states::Schema;
 use std::alloc::{AllocError, Global};
 use std::marker::Model;
 use std::sync::Arc;

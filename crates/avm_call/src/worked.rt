@@ -6,7 +6,7 @@ ghost use Rattle.teal_value.specs.declared.value.Value.TheVariants.{Uint};
 ghost use Rattle.teal_value.specs.declared.fault.Fault.TheVariants as fault;
 ghost use Rattle.avm_ledger.specs.declared.header.Profile.TheVariants as profile;
 ghost use Rattle.avm_call.specs.declared.outcome.Outcome.TheVariants as outcome;
-ghost use Rattle.avm_ledger.specs.Schemas.{no_entries};
+ghost use Rattle.avm_states.specs.Schemas.{no_entries};
 ghost use Rattle.avm_items.specs.declared.call_data.Completion.TheVariants as completion;
 ghost use Rattle.avm_call.specs.declared.outcome.Cause.TheVariants as cause;
 ghost use Rattle.avm_call.specs.declared.outcome.Why.TheVariants as why;

@@ -4,7 +4,7 @@ ghost use Rattle.std.specs.Prelude.{◌≡◌};
 ghost use Rattle.avm_call_codec.specs.CallParts.{call_of_parts};
 
 use avm_items::{Addresses, CallData, Completion};
-use avm_ledger::Schema;
+use avm_states::Schema;
 use teal_value::{Address, ByteString, ByteStrings, Uints};
 
 /// The sender up to the completion.

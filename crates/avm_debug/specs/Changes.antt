@@ -5,7 +5,7 @@ use Rattle.teal_value.specs.declared.address.Address.{Address}
 use Rattle.teal_value.specs.declared.value.Value.{Value}
 use Rattle.teal_value.specs.SameValues.{is_same}
 use Rattle.avm_ledger.specs.declared.application.StoredApplication.{StoredApplication}
-use Rattle.avm_ledger.specs.Entries.{Entries, byte_cmp, value_of_key}
+use Rattle.avm_states.specs.Entries.{Entries, byte_cmp, value_of_key}
 use Rattle.avm_ledger.specs.Ledgers.{Ledger, local_state_at}
 use Rattle.avm_call.specs.Views.{state_changes}
 use Rattle.avm_call.specs.Views as views

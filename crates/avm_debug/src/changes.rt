@@ -1,13 +1,14 @@
 //! What has changed in the states of an application.
 
 ghost use Rattle.std.specs.Prelude.{◌≡◌, ◌++◌, [], IfOk, OnOk};
-ghost use Rattle.avm_ledger.specs.Entries.{value_of_key};
+ghost use Rattle.avm_states.specs.Entries.{value_of_key};
 ghost use Rattle.avm_ledger.specs.Ledgers.{application_at};
 ghost use Rattle.avm_call.specs.Views.{state_changes};
 ghost use Rattle.avm_debug.specs.Changes.{change_of_key, changes_seen, gathered, global_entries, is_same_option, local_changes_along, local_seen, of_account, account_changes};
 
 use crate::view::{KeyChange, LocalChange};
-use avm_ledger::{OpenLedger, State};
+use avm_ledger::OpenLedger;
+use avm_states::State;
 use std::alloc::{AllocError, Global};
 use std::collections::BTreeMap;
 use teal_value::{Address, StateKey, Value};

@@ -1,7 +1,6 @@
 //! Constant blocks.
 
 ghost use Rattle.std.specs.Prelude.{◌≡◌, IfSome, Some};
-ghost use Rattle.teal_table.specs.Table.{code_of};
 ghost use Rattle.avm_flow_ops.specs.Families.{block_opcode};
 
 use avm_cpu::{Cpu, Flow};
@@ -20,15 +19,14 @@ pub enum Block {
 }
 
 impl Block {
-    /// The instruction of a code.
-    #[tactic(auto, unfolding(teal_table::specs::Table::row_of))]
-    pub fn of(code: u8) -> Option<Block>
-        ensures some { IfSome result (λ row. code_of (block_opcode row) ≡ code) }
-        ensures all { (row : _) → code_of (block_opcode row) ≡ code → result ≡ Some row }
+    /// The instruction of an opcode.
+    pub fn of(opcode: Opcode) -> Option<Block>
+        ensures some { IfSome result (λ row. block_opcode row ≡ opcode) }
+        ensures all { (row : _) → block_opcode row ≡ opcode → result ≡ Some row }
     {
-        match code {
-            0x20 => Some(Block::Intcblock),
-            0x26 => Some(Block::Bytecblock),
+        match opcode {
+            Opcode::Intcblock => Some(Block::Intcblock),
+            Opcode::Bytecblock => Some(Block::Bytecblock),
             _ => None,
         }
     }

@@ -1,7 +1,6 @@
 //! The instructions that push a constant of the block in force.
 
 ghost use Rattle.std.specs.Prelude.{◌≡◌, IfSome, Some};
-ghost use Rattle.teal_table.specs.Table.{code_of};
 ghost use Rattle.avm_flow_ops.specs.Families.{intc_opcode, intc_index, bytec_opcode, bytec_index};
 
 use avm_cpu::{Cpu, Flow};
@@ -36,18 +35,17 @@ pub enum Bytec {
 }
 
 impl Intc {
-    /// The instruction of a code.
-    #[tactic(auto, unfolding(teal_table::specs::Table::row_of))]
-    pub fn of(code: u8) -> Option<Intc>
-        ensures some { IfSome result (λ row. code_of (intc_opcode row) ≡ code) }
-        ensures all { (row : _) → code_of (intc_opcode row) ≡ code → result ≡ Some row }
+    /// The instruction of an opcode.
+    pub fn of(opcode: Opcode) -> Option<Intc>
+        ensures some { IfSome result (λ row. intc_opcode row ≡ opcode) }
+        ensures all { (row : _) → intc_opcode row ≡ opcode → result ≡ Some row }
     {
-        match code {
-            0x21 => Some(Intc::Numbered),
-            0x22 => Some(Intc::Zero),
-            0x23 => Some(Intc::One),
-            0x24 => Some(Intc::Two),
-            0x25 => Some(Intc::Three),
+        match opcode {
+            Opcode::Intc => Some(Intc::Numbered),
+            Opcode::Intc0 => Some(Intc::Zero),
+            Opcode::Intc1 => Some(Intc::One),
+            Opcode::Intc2 => Some(Intc::Two),
+            Opcode::Intc3 => Some(Intc::Three),
             _ => None,
         }
     }
@@ -100,18 +98,17 @@ impl Op for Intc {
 }
 
 impl Bytec {
-    /// The instruction of a code.
-    #[tactic(auto, unfolding(teal_table::specs::Table::row_of))]
-    pub fn of(code: u8) -> Option<Bytec>
-        ensures some { IfSome result (λ row. code_of (bytec_opcode row) ≡ code) }
-        ensures all { (row : _) → code_of (bytec_opcode row) ≡ code → result ≡ Some row }
+    /// The instruction of an opcode.
+    pub fn of(opcode: Opcode) -> Option<Bytec>
+        ensures some { IfSome result (λ row. bytec_opcode row ≡ opcode) }
+        ensures all { (row : _) → bytec_opcode row ≡ opcode → result ≡ Some row }
     {
-        match code {
-            0x27 => Some(Bytec::Numbered),
-            0x28 => Some(Bytec::Zero),
-            0x29 => Some(Bytec::One),
-            0x2a => Some(Bytec::Two),
-            0x2b => Some(Bytec::Three),
+        match opcode {
+            Opcode::Bytec => Some(Bytec::Numbered),
+            Opcode::Bytec0 => Some(Bytec::Zero),
+            Opcode::Bytec1 => Some(Bytec::One),
+            Opcode::Bytec2 => Some(Bytec::Two),
+            Opcode::Bytec3 => Some(Bytec::Three),
             _ => None,
         }
     }

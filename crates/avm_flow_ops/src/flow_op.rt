@@ -1,7 +1,6 @@
 //! Every instruction of this crate as one type, so that a set of objects is filled with one type of object.
 
 ghost use Rattle.std.specs.Prelude.{◌≡◌, IfSome, Some};
-ghost use Rattle.teal_table.specs.Table.{code_of};
 ghost use Rattle.avm_flow_ops.specs.Families.{flow_opcode};
 
 use crate::{Block, Branch, Bytec, Intc, Literal, Scratch, Stack, Stops};
@@ -10,6 +9,7 @@ use avm_items::Env;
 use avm_ops::{Op, Stop};
 use std::alloc::Global;
 use teal_code::Instr;
+use teal_table::Opcode;
 
 /// An instruction on the stack, the constants or the scratch space, or on where a run goes on, in its family.
 #[derive(Clone, Copy, Debug, PartialEq, Eq)]
@@ -25,26 +25,26 @@ pub enum FlowOp {
 }
 
 impl FlowOp {
-    /// The instruction of a code.
-    pub fn of(code: u8) -> Option<FlowOp>
-        ensures some { IfSome result (λ op. code_of (flow_opcode op) ≡ code) }
-        ensures all { (op : _) → code_of (flow_opcode op) ≡ code → result ≡ Some op }
+    /// The instruction of an opcode.
+    pub fn of(opcode: Opcode) -> Option<FlowOp>
+        ensures some { IfSome result (λ op. flow_opcode op ≡ opcode) }
+        ensures all { (op : _) → flow_opcode op ≡ opcode → result ≡ Some op }
     {
-        if let Some(op) = Block::of(code) {
+        if let Some(op) = Block::of(opcode) {
             Some(FlowOp::Block(op))
-        } else if let Some(op) = Branch::of(code) {
+        } else if let Some(op) = Branch::of(opcode) {
             Some(FlowOp::Branch(op))
-        } else if let Some(op) = Bytec::of(code) {
+        } else if let Some(op) = Bytec::of(opcode) {
             Some(FlowOp::Bytec(op))
-        } else if let Some(op) = Intc::of(code) {
+        } else if let Some(op) = Intc::of(opcode) {
             Some(FlowOp::Intc(op))
-        } else if let Some(op) = Literal::of(code) {
+        } else if let Some(op) = Literal::of(opcode) {
             Some(FlowOp::Literal(op))
-        } else if let Some(op) = Scratch::of(code) {
+        } else if let Some(op) = Scratch::of(opcode) {
             Some(FlowOp::Scratch(op))
-        } else if let Some(op) = Stack::of(code) {
+        } else if let Some(op) = Stack::of(opcode) {
             Some(FlowOp::Stack(op))
-        } else if let Some(op) = Stops::of(code) {
+        } else if let Some(op) = Stops::of(opcode) {
             Some(FlowOp::Stops(op))
         } else {
             None

@@ -1,6 +1,6 @@
 //! The instructions on the stack, the constants, the scratch space, and where a run goes on, as objects: one type a family
-//! of opcodes, each with `of`, which gives the family's object of a code, and `FlowOp` over all families, so that a set is
-//! filled by a loop over the codes.
+//! of opcodes, each with `of`, which gives the family's object of an opcode, and `FlowOp` over all families, so that a set
+//! is filled by a loop over the codes.
 //!
 //! What an instruction does stands in `avm_ops`, `specs/Stack.antt`.
 #![tactic(auto)]

@@ -1,7 +1,6 @@
 //! Instructions that push what they hold.
 
 ghost use Rattle.std.specs.Prelude.{◌≡◌, IfSome, Some};
-ghost use Rattle.teal_table.specs.Table.{code_of};
 ghost use Rattle.avm_flow_ops.specs.Families.{literal_opcode};
 
 use avm_cpu::{Cpu, Flow};
@@ -21,15 +20,14 @@ pub enum Literal {
 }
 
 impl Literal {
-    /// The instruction of a code.
-    #[tactic(auto, unfolding(teal_table::specs::Table::row_of))]
-    pub fn of(code: u8) -> Option<Literal>
-        ensures some { IfSome result (λ row. code_of (literal_opcode row) ≡ code) }
-        ensures all { (row : _) → code_of (literal_opcode row) ≡ code → result ≡ Some row }
+    /// The instruction of an opcode.
+    pub fn of(opcode: Opcode) -> Option<Literal>
+        ensures some { IfSome result (λ row. literal_opcode row ≡ opcode) }
+        ensures all { (row : _) → literal_opcode row ≡ opcode → result ≡ Some row }
     {
-        match code {
-            0x80 => Some(Literal::Pushbytes),
-            0x81 => Some(Literal::Pushint),
+        match opcode {
+            Opcode::Pushbytes => Some(Literal::Pushbytes),
+            Opcode::Pushint => Some(Literal::Pushint),
             _ => None,
         }
     }

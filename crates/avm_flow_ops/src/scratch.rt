@@ -1,7 +1,6 @@
 //! The scratch space.
 
 ghost use Rattle.std.specs.Prelude.{◌≡◌, IfSome, Some};
-ghost use Rattle.teal_table.specs.Table.{code_of};
 ghost use Rattle.avm_flow_ops.specs.Families.{scratch_opcode};
 
 use avm_cpu::{Cpu, Flow};
@@ -22,15 +21,14 @@ pub enum Scratch {
 }
 
 impl Scratch {
-    /// The instruction of a code.
-    #[tactic(auto, unfolding(teal_table::specs::Table::row_of))]
-    pub fn of(code: u8) -> Option<Scratch>
-        ensures some { IfSome result (λ row. code_of (scratch_opcode row) ≡ code) }
-        ensures all { (row : _) → code_of (scratch_opcode row) ≡ code → result ≡ Some row }
+    /// The instruction of an opcode.
+    pub fn of(opcode: Opcode) -> Option<Scratch>
+        ensures some { IfSome result (λ row. scratch_opcode row ≡ opcode) }
+        ensures all { (row : _) → scratch_opcode row ≡ opcode → result ≡ Some row }
     {
-        match code {
-            0x34 => Some(Scratch::Load),
-            0x35 => Some(Scratch::Store),
+        match opcode {
+            Opcode::Load => Some(Scratch::Load),
+            Opcode::Store => Some(Scratch::Store),
             _ => None,
         }
     }

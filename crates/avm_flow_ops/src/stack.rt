@@ -1,7 +1,6 @@
 //! Instructions that move the values of the stack.
 
 ghost use Rattle.std.specs.Prelude.{◌≡◌, IfSome, Some};
-ghost use Rattle.teal_table.specs.Table.{code_of};
 ghost use Rattle.avm_flow_ops.specs.Families.{stack_opcode};
 
 use avm_cpu::{Cpu, Flow};
@@ -30,19 +29,18 @@ pub enum Stack {
 }
 
 impl Stack {
-    /// The instruction of a code.
-    #[tactic(auto, unfolding(teal_table::specs::Table::row_of))]
-    pub fn of(code: u8) -> Option<Stack>
-        ensures some { IfSome result (λ row. code_of (stack_opcode row) ≡ code) }
-        ensures all { (row : _) → code_of (stack_opcode row) ≡ code → result ≡ Some row }
+    /// The instruction of an opcode.
+    pub fn of(opcode: Opcode) -> Option<Stack>
+        ensures some { IfSome result (λ row. stack_opcode row ≡ opcode) }
+        ensures all { (row : _) → stack_opcode row ≡ opcode → result ≡ Some row }
     {
-        match code {
-            0x48 => Some(Stack::Pop),
-            0x49 => Some(Stack::Dup),
-            0x4a => Some(Stack::Dup2),
-            0x4b => Some(Stack::Dig),
-            0x4c => Some(Stack::Swap),
-            0x4d => Some(Stack::Select),
+        match opcode {
+            Opcode::Pop => Some(Stack::Pop),
+            Opcode::Dup => Some(Stack::Dup),
+            Opcode::Dup2 => Some(Stack::Dup2),
+            Opcode::Dig => Some(Stack::Dig),
+            Opcode::Swap => Some(Stack::Swap),
+            Opcode::Select => Some(Stack::Select),
             _ => None,
         }
     }

@@ -1,7 +1,6 @@
 //! Instructions that end a program, or may.
 
 ghost use Rattle.std.specs.Prelude.{◌≡◌, IfSome, Some};
-ghost use Rattle.teal_table.specs.Table.{code_of};
 ghost use Rattle.avm_flow_ops.specs.Families.{stops_opcode};
 
 use avm_cpu::{Cpu, Flow};
@@ -24,16 +23,15 @@ pub enum Stops {
 }
 
 impl Stops {
-    /// The instruction of a code.
-    #[tactic(auto, unfolding(teal_table::specs::Table::row_of))]
-    pub fn of(code: u8) -> Option<Stops>
-        ensures some { IfSome result (λ row. code_of (stops_opcode row) ≡ code) }
-        ensures all { (row : _) → code_of (stops_opcode row) ≡ code → result ≡ Some row }
+    /// The instruction of an opcode.
+    pub fn of(opcode: Opcode) -> Option<Stops>
+        ensures some { IfSome result (λ row. stops_opcode row ≡ opcode) }
+        ensures all { (row : _) → stops_opcode row ≡ opcode → result ≡ Some row }
     {
-        match code {
-            0x00 => Some(Stops::Err),
-            0x43 => Some(Stops::Return),
-            0x44 => Some(Stops::Assert),
+        match opcode {
+            Opcode::Err => Some(Stops::Err),
+            Opcode::Return => Some(Stops::Return),
+            Opcode::Assert => Some(Stops::Assert),
             _ => None,
         }
     }

@@ -1,7 +1,7 @@
 -- The value of an item changed in place.
 use Rattle.std.proofs.Common.{◌≡◌, ◌∙◌, ℕ, Some, get_or, set, sym, ap, subst}
-use Rattle.avm_ledger.specs.Entries.{Entries}
-use Rattle.avm_ledger.proofs.Maps.{sorted-inserted}
+use Rattle.avm_states.specs.Entries.{Entries}
+use Rattle.sorted_entries.proofs.Maps.{sorted-inserted}
 use Rattle.sorted_entries.specs.Places.{StandsAt}
 use Rattle.avm_items.specs.declared.item.Item.{Item}
 use Rattle.avm_items.specs.declared.item_value.ItemValue.{ItemValue}

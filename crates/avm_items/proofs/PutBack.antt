@@ -9,10 +9,11 @@ use Rattle.teal_value.specs.declared.address.Address.{Address}
 use Rattle.teal_value.specs.declared.value.Value.{Value}
 use Rattle.avm_ledger.specs.declared.application.Application.{Application}
 use Rattle.avm_ledger.specs.declared.application.StoredApplication.{StoredApplication}
-use Rattle.avm_ledger.specs.Entries.{Entries, value_of_key, with_entry, without_entry}
+use Rattle.avm_states.specs.Entries.{Entries, value_of_key, with_entry, without_entry}
 use Rattle.avm_ledger.specs.Ledgers.{Ledger, application_at, global_value, local_state_at, with_application, with_local_state, with_row, with_state, IsInOrder}
-use Rattle.avm_ledger.proofs.Changes.{account_same, account_total, byte_same, byte_total, set_application}
-use Rattle.avm_ledger.proofs.Maps.{lookup-inserted, insert-insert_same, insert_same, remove-insert_same, remove_absent}
+use Rattle.avm_states.proofs.KeyOrder.{byte_same, byte_total}
+use Rattle.avm_ledger.proofs.Changes.{account_same, account_total, set_application}
+use Rattle.sorted_entries.proofs.Maps.{lookup-inserted, insert-insert_same, insert_same, remove-insert_same, remove_absent}
 use Rattle.avm_items.specs.declared.item.Item.{Item}
 use Rattle.avm_items.specs.declared.item.Item.TheVariants as item
 use Rattle.avm_items.specs.declared.item_value.ItemValue.{ItemValue}

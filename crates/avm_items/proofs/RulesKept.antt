@@ -14,16 +14,16 @@ use Rattle.teal_value.specs.declared.address.Address.{Address}
 use Rattle.teal_value.specs.declared.value.Value.{Value}
 use Rattle.teal_value.specs.declared.value.Value.TheVariants.{Uint, Bytes}
 use Rattle.avm_ledger.specs.declared.application.Application.{Application}
-use Rattle.avm_ledger.specs.declared.schema.Schema.{Schema}
-use Rattle.avm_ledger.specs.Entries.{Entries, byte_cmp, value_of_key, with_entry, without_entry}
+use Rattle.avm_states.specs.declared.schema.Schema.{Schema}
+use Rattle.avm_states.specs.Entries.{Entries, byte_cmp, value_of_key, with_entry, without_entry}
 use Rattle.avm_ledger.specs.declared.application.StoredApplication.{StoredApplication}
 use Rattle.avm_ledger.specs.Ledgers.{Ledger, account_cmp, application_at, with_application, without_application, with_local_state, without_local_state, with_row, with_state, empty_ledger}
-use Rattle.avm_ledger.specs.Schemas.{counts_in, uncounted, counts_after, is_within}
+use Rattle.avm_states.specs.Schemas.{counts_in, uncounted, counts_after, is_within}
 use Rattle.avm_ledger.specs.LedgerReader.{local_room, room_of_schema, stored_in}
 use Rattle.avm_ledger.specs.LedgerRules.{IsStateValue, IsStateEntry, IsStateIn, IsApplicationBelow, IsLocalStateBelow, KeepsRules}
 use Rattle.avm_ledger.proofs.Changes.{account_total}
-use Rattle.avm_ledger.proofs.Maps.{is_Equal, lookup-inserted, lookup-inserted_other, lookup-removed, lookup-removed_other, sorted-inserted, sorted-removed}
-use Rattle.avm_ledger.proofs.Counts.{follow_puts, follow_deletes}
+use Rattle.sorted_entries.proofs.Maps.{is_Equal, lookup-inserted, lookup-inserted_other, lookup-removed, lookup-removed_other, sorted-inserted, sorted-removed}
+use Rattle.avm_states.proofs.Counts.{follow_puts, follow_deletes}
 use Rattle.avm_items.specs.declared.item.Item.{Item}
 use Rattle.avm_items.specs.declared.item.Item.TheVariants as item
 use Rattle.avm_items.specs.declared.item_value.ItemValue.{ItemValue}
@@ -31,7 +31,8 @@ use Rattle.avm_items.specs.declared.item_value.ItemValue.TheVariants as value
 use Rattle.avm_items.specs.Items.{ItemMap}
 use Rattle.avm_items.specs.LedgerItems.{put_one, put}
 use Rattle.avm_items.specs.RuleLaws.{IsRowFor, MayKeep, MayKeepAll}
-use Rattle.avm_ledger.proofs.Changes.{byte_same, account_same}
+use Rattle.avm_states.proofs.KeyOrder.{byte_same}
+use Rattle.avm_ledger.proofs.Changes.{account_same}
 
 -- ---- all entries
 

@@ -1,6 +1,6 @@
 -- What a call knows while its program runs.
 use Rattle.std.specs.Prelude.{ℕ, Option, Some}
-use Rattle.avm_ledger.specs.Entries.{Entries}
+use Rattle.avm_states.specs.Entries.{Entries}
 use Rattle.avm_ledger.specs.declared.header.Header.{Header}
 use Rattle.avm_items.specs.declared.call_data.CallData.{CallData}
 use Rattle.avm_items.specs.CallFields.{new_keys}

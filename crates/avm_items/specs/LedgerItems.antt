@@ -1,7 +1,7 @@
 -- The items of a ledger: the value of each, a ledger with some of them set, and what differs between two ledgers.
 use Rattle.std.specs.Prelude.{◌≡◌, ℕ, Bool, false, not, List, [], ◌∷◌, filter, Option, Some, None, is_none, unwrap_or}
-use Rattle.avm_ledger.specs.Entries.{Entries, value_of_key, with_entry, without_entry}
-use Rattle.avm_ledger.specs.Schemas.{counts_in}
+use Rattle.avm_states.specs.Entries.{Entries, value_of_key, with_entry, without_entry}
+use Rattle.avm_states.specs.Schemas.{counts_in}
 use Rattle.avm_ledger.specs.declared.application.StoredApplication.{StoredApplication}
 use Rattle.avm_ledger.specs.Ledgers.{Ledger, application_at, with_application, without_application, with_row, with_state, local_state_at, with_local_state, without_local_state}
 use Rattle.avm_items.specs.declared.item.Item.{Item}

@@ -2,10 +2,10 @@
 use Rattle.std.specs.Prelude.{◌≡◌, ℕ, ◌^◌, ◌<◌, ◌≤◌, true, List, [], ◌∷◌, length, All, Some}
 use Rattle.teal_value.specs.declared.value.Value.{Value}
 use Rattle.avm_ledger.specs.declared.application.Application.{Application}
-use Rattle.avm_ledger.specs.Entries.{value_of_key}
+use Rattle.avm_states.specs.Entries.{value_of_key}
 use Rattle.avm_ledger.specs.declared.application.StoredApplication.{StoredApplication}
 use Rattle.avm_ledger.specs.Ledgers.{Ledger, application_at, with_row, empty_ledger}
-use Rattle.avm_ledger.specs.Schemas.{counts_in, counts_after, is_within}
+use Rattle.avm_states.specs.Schemas.{counts_in, counts_after, is_within}
 use Rattle.avm_ledger.specs.LedgerReader.{local_room, room_of_schema}
 use Rattle.avm_ledger.specs.LedgerRules.{IsStateValue, IsStateIn, IsApplicationBelow, KeepsRules}
 use Rattle.avm_items.specs.declared.item.Item.{Item}

@@ -1,7 +1,7 @@
 -- The bytes of a call, from which the reader is computed.
 use Rattle.std.specs.Prelude.{ℕ, List, [], ◌∷◌, ◌++◌, replicate}
 use Rattle.teal_value.specs.declared.address.Address.{Address}
-use Rattle.avm_ledger.specs.Schemas.{no_entries}
+use Rattle.avm_states.specs.Schemas.{no_entries}
 use Rattle.avm_items.specs.declared.call_data.Completion.TheVariants as completion
 use Rattle.avm_items.specs.declared.call_data.CallData.{CallData}
 

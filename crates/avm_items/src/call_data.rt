@@ -4,7 +4,7 @@ ghost use Rattle.std.specs.Prelude.{◌≡◌, ◌↔◌, IsTrue};
 ghost use Rattle.avm_items.specs.CallFields.{completion_number};
 ghost use Rattle.avm_items.specs.SameCalls.{HasSameLists, HasSameTarget, HasSameTerms};
 
-use avm_ledger::Schema;
+use avm_states::Schema;
 use std::marker::Model;
 use teal_value::{Address, ByteString, ByteStrings, Uints};
 

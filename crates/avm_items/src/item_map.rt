@@ -2,7 +2,7 @@
 
 ghost use Rattle.std.specs.Prelude.{◌≡◌, ◌↔◌, ◌∷◌, [], IfErr, IfNone, IfOk, IfSome, IsTrue, filter, is_some, length, not};
 ghost use Rattle.std.specs.Option.{option_copied};
-ghost use Rattle.avm_ledger.specs.Entries.{with_entry, without_entry};
+ghost use Rattle.avm_states.specs.Entries.{with_entry, without_entry};
 ghost use Rattle.avm_items.specs.Items.{IsInItemOrder, is_global_of, state_of, value_in, with_item, with_state_changed};
 ghost use Rattle.avm_items.specs.LedgerItems.{pruned, value_before};
 ghost use Rattle.avm_items.specs.SameValues.{is_same_value};
@@ -122,7 +122,7 @@ impl ItemMap {
     }
 
     /// Gives a key of the local state that an item has here a value, in place. Where it has none, nothing changes. Only a
-    /// new key can be refused, as by [`avm_ledger::State::insert`].
+    /// new key can be refused, as by [`avm_states::State::insert`].
     pub fn put_entry(&mut self, item: &Item, key: StateKey, value: Value) -> Result<(), AllocError>
         ensures ok { IfOk result (λ _. self.new ≡ with_state_changed (λ state. with_entry state key value) self.old item.now (value_in self.old item.now)) }
         ensures memory { IfErr result (λ _. self.new ≡ self.old) }

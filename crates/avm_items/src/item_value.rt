@@ -1,11 +1,12 @@
 //! Values of items.
 
 ghost use Rattle.std.specs.Prelude.{◌≡◌, ◌↔◌, IfErr, IfOk, IsTrue};
-ghost use Rattle.avm_ledger.specs.Entries.{with_entry, without_entry};
+ghost use Rattle.avm_states.specs.Entries.{with_entry, without_entry};
 ghost use Rattle.avm_items.specs.Items.{local_changed};
 ghost use Rattle.avm_items.specs.SameValues.{is_same_application, is_same_schema, is_same_value};
 
-use avm_ledger::{Application, EntryCounts, Schema, State};
+use avm_ledger::Application;
+use avm_states::{EntryCounts, Schema, State};
 use std::alloc::AllocError;
 use teal_value::{StateKey, Value};
 

@@ -12,8 +12,8 @@ use Rattle.teal_table.specs.declared.opcode.Opcode.TheVariants as op
 use Rattle.teal_code.specs.declared.decode.CodeFault.{CodeFault}
 use Rattle.teal_code.specs.declared.instr.Immediates.{Immediates}
 use Rattle.teal_code.specs.declared.instr.Instr.{Instr}
-use Rattle.avm_ledger.specs.Entries.{Entries, value_of_key, with_entry, without_entry}
-use Rattle.avm_ledger.specs.Schemas.{no_entries, counts_in, counts_after, is_within, keeps_kind}
+use Rattle.avm_states.specs.Entries.{Entries, value_of_key, with_entry, without_entry}
+use Rattle.avm_states.specs.Schemas.{no_entries, counts_in, counts_after, is_within, keeps_kind}
 use Rattle.avm_items.specs.declared.item.Item.{Item}
 use Rattle.avm_items.specs.declared.item.Item.TheVariants as item
 use Rattle.avm_items.specs.declared.item_value.ItemValue.{ItemValue}

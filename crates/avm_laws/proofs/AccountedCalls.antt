@@ -3,7 +3,7 @@ use Rattle.std.proofs.Common.{◌≡◌, ℕ, ◌+◌, ◌-◌, ◌^◌, Bool, t
 use Rattle.std.specs.Prelude.{◌==◌, ◌&&◌, ◌||◌, filter, is_some, not}
 use Rattle.avm_ledger.specs.declared.application.Application.{Application}
 use Rattle.avm_ledger.specs.declared.header.Header.{Header}
-use Rattle.avm_ledger.specs.Schemas.{no_entries}
+use Rattle.avm_states.specs.Schemas.{no_entries}
 use Rattle.avm_ledger.specs.Ledgers.{Ledger, application_at}
 use Rattle.avm_items.specs.declared.call_data.Completion.{Completion}
 use Rattle.avm_items.specs.declared.call_data.Completion.TheVariants as completion

@@ -12,8 +12,8 @@ use Rattle.teal_value.specs.declared.fault.Fault.{Fault}
 use Rattle.teal_value.specs.FaultNumbers.{fault_number, faults, numbered}
 use Rattle.teal_value.proofs.FaultsNumbered.{fault_of_number}
 use Rattle.avm_ledger.specs.declared.header.Header.{Header}
-use Rattle.avm_ledger.specs.declared.schema.Schema.{Schema}
-use Rattle.avm_ledger.specs.Entries.{Entries}
+use Rattle.avm_states.specs.declared.schema.Schema.{Schema}
+use Rattle.avm_states.specs.Entries.{Entries}
 use Rattle.avm_ledger.specs.LedgerRules.{IsStateValue, IsStateEntry}
 use Rattle.avm_ledger.specs.Spellings.{u16_bytes, u64_bytes, short_string_bytes, value_bytes, entry_bytes, state_bytes, schema_bytes, header_bytes}
 use Rattle.avm_call.specs.declared.outcome.Why.{Why}

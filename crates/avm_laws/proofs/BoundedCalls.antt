@@ -9,7 +9,7 @@ use Rattle.teal_value.specs.declared.value.Value.TheVariants.{Uint, Bytes}
 use Rattle.avm_ledger.specs.declared.application.Application.{Application}
 use Rattle.avm_ledger.specs.declared.application.StoredApplication.{StoredApplication}
 use Rattle.avm_ledger.specs.declared.header.Header.{Header}
-use Rattle.avm_ledger.specs.Entries.{Entries, byte_cmp, value_of_key}
+use Rattle.avm_states.specs.Entries.{Entries, byte_cmp, value_of_key}
 use Rattle.avm_ledger.specs.Ledgers.{Ledger, account_cmp, application_at, local_state_at}
 use Rattle.avm_ledger.specs.LedgerRules.{IsStateValue, IsStateEntry, IsLocalStateBelow}
 use Rattle.avm_ledger.proofs.KeptOrder.{application_rules, orderly}

@@ -23,7 +23,7 @@ use Rattle.teal_code.specs.declared.instr.Immediates.TheVariants as is
 use Rattle.avm_ledger.specs.declared.application.StoredApplication.{StoredApplication}
 use Rattle.avm_ledger.specs.declared.header.Profile.{Profile}
 use Rattle.avm_ledger.specs.declared.header.Profile.TheVariants as profile
-use Rattle.avm_ledger.specs.Entries.{Entries, byte_cmp, value_of_key}
+use Rattle.avm_states.specs.Entries.{Entries, byte_cmp, value_of_key}
 use Rattle.avm_ledger.specs.Ledgers.{Ledger, account_cmp, application_at, local_state_at}
 use Rattle.avm_items.specs.declared.call_data.Completion.{Completion}
 use Rattle.avm_items.specs.declared.call_data.Completion.TheVariants as completion

@@ -5,7 +5,7 @@ use Rattle.teal_code.specs.declared.decode.CodeFault.{CodeFault}
 use Rattle.teal_code.specs.declared.instr.Instr.{Instr}
 use Rattle.avm_ledger.specs.declared.application.Application.{Application}
 use Rattle.avm_ledger.specs.declared.application.StoredApplication.{StoredApplication}
-use Rattle.avm_ledger.specs.Entries.{with_entry, without_entry}
+use Rattle.avm_states.specs.Entries.{with_entry, without_entry}
 use Rattle.avm_ledger.specs.Ledgers.{Ledger, application_at}
 use Rattle.avm_items.specs.declared.item.Item.{Item}
 use Rattle.avm_items.specs.declared.item.Item.TheVariants as item

@@ -6,13 +6,13 @@ use Rattle.std.proofs.lemmas.Bool.{eqb-true}
 use Rattle.teal_value.specs.declared.value.Value.{Value}
 use Rattle.avm_ledger.specs.declared.application.Application.{Application}
 use Rattle.avm_ledger.specs.declared.application.StoredApplication.{StoredApplication}
-use Rattle.avm_ledger.specs.declared.schema.Schema.{Schema}
-use Rattle.avm_ledger.specs.Entries.{Entries, value_of_key, with_entry, without_entry, IsInKeyOrder}
-use Rattle.avm_ledger.specs.Schemas.{counts_in, no_entries, keeps_kind, counts_after}
+use Rattle.avm_states.specs.declared.schema.Schema.{Schema}
+use Rattle.avm_states.specs.Entries.{Entries, value_of_key, with_entry, without_entry, IsInKeyOrder}
+use Rattle.avm_states.specs.Schemas.{counts_in, no_entries, keeps_kind, counts_after}
 use Rattle.avm_ledger.specs.Ledgers.{Ledger, application_at, with_row, with_state, IsInOrder}
 use Rattle.avm_ledger.proofs.Changes.{set_application}
-use Rattle.avm_ledger.proofs.Counts.{follow_puts, follow_deletes, stay_with_kind}
-use Rattle.avm_ledger.proofs.Maps.{lookup-inserted, lookup-inserted_other, sorted-inserted}
+use Rattle.avm_states.proofs.Counts.{follow_puts, follow_deletes, stay_with_kind}
+use Rattle.sorted_entries.proofs.Maps.{lookup-inserted, lookup-inserted_other, sorted-inserted}
 use Rattle.avm_items.specs.declared.item.Item.{Item}
 use Rattle.avm_items.specs.declared.item.Item.TheVariants as item
 use Rattle.avm_items.specs.declared.item_value.ItemValue.{ItemValue}

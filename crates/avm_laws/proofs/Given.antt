@@ -11,11 +11,12 @@ use Rattle.std.specs.Map.{keys_of}
 use Rattle.std.specs.List.{AllByRecursion}
 use Rattle.std.specs.List.Sorted.{IsStrictlySortedBy}
 use Rattle.teal_value.specs.declared.value.Value.{Value}
-use Rattle.avm_ledger.specs.Entries.{Entries, value_of_key}
+use Rattle.avm_states.specs.Entries.{Entries, value_of_key}
 use Rattle.avm_ledger.specs.declared.application.StoredApplication.{StoredApplication}
 use Rattle.avm_ledger.specs.Ledgers.{Ledger, application_at, local_state_at, IsInOrder}
-use Rattle.avm_ledger.proofs.Changes.{account_total, account_same, byte_total, byte_same}
-use Rattle.avm_ledger.proofs.Maps.{is_Equal, above_tied, all_below, below_none, same_map}
+use Rattle.avm_states.proofs.KeyOrder.{byte_total, byte_same}
+use Rattle.avm_ledger.proofs.Changes.{account_total, account_same}
+use Rattle.sorted_entries.proofs.Maps.{is_Equal, above_tied, all_below, below_none, same_map}
 use Rattle.avm_items.specs.declared.item.Item.{Item}
 use Rattle.avm_items.specs.declared.item.Item.TheVariants as item
 use Rattle.avm_items.specs.declared.item_value.ItemValue.{ItemValue}

@@ -9,7 +9,7 @@ use Rattle.teal_value.specs.declared.value.Value.TheVariants.{Uint}
 use Rattle.avm_ledger.specs.declared.application.Application.{Application}
 use Rattle.avm_ledger.specs.declared.application.StoredApplication.{StoredApplication}
 use Rattle.avm_ledger.specs.declared.header.Header.{Header}
-use Rattle.avm_ledger.specs.Entries.{Entries}
+use Rattle.avm_states.specs.Entries.{Entries}
 use Rattle.avm_ledger.specs.Ledgers.{Ledger, application_at, with_row}
 use Rattle.avm_ledger.specs.LedgerReader.{Room, local_room, room_of_schema}
 use Rattle.avm_ledger.specs.LedgerRules.{IsStateEntry, IsStateIn, IsApplicationBelow, IsLocalStateBelow}

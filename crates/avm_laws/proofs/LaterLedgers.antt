@@ -6,7 +6,7 @@ use Rattle.std.proofs.lemmas.Bool.{eqb-true}
 use Rattle.avm_ledger.specs.declared.application.Application.{Application}
 use Rattle.avm_ledger.specs.declared.application.StoredApplication.{StoredApplication}
 use Rattle.avm_ledger.specs.declared.header.Header.{Header}
-use Rattle.avm_ledger.specs.Entries.{Entries, with_entry, without_entry}
+use Rattle.avm_states.specs.Entries.{Entries, with_entry, without_entry}
 use Rattle.avm_ledger.specs.Ledgers.{IsInOrder, IsOrderly, Ledger, application_at, with_application, with_row, with_state, without_application}
 use Rattle.avm_items.specs.declared.call_data.CallData.{CallData}
 use Rattle.avm_items.specs.declared.item.Item.TheVariants as item

@@ -12,12 +12,12 @@ use Rattle.std.proofs.lemmas.Slice.Eq.{bytes_eq-Decides}
 use Rattle.teal_value.specs.SameValues.{are_same_bytes}
 use Rattle.teal_value.specs.SameValueLaws.{is_same-Decides}
 use Rattle.avm_ledger.specs.declared.application.Application.{Application}
-use Rattle.avm_ledger.specs.declared.schema.Schema.{Schema}
-use Rattle.avm_ledger.specs.Entries.{is_same_entry}
+use Rattle.avm_states.specs.declared.schema.Schema.{Schema}
+use Rattle.avm_states.specs.Entries.{is_same_entry}
 use Rattle.avm_ledger.specs.Ledgers.{Ledger, IsInOrder}
 use Rattle.avm_ledger.proofs.Changes.{address_is}
-use Rattle.avm_ledger.proofs.Maps.{is_Equal, above_tied, below_none}
-use Rattle.avm_ledger.proofs.SameStates.{states-Decides}
+use Rattle.sorted_entries.proofs.Maps.{is_Equal, above_tied, below_none}
+use Rattle.avm_states.proofs.SameStates.{states-Decides}
 use Rattle.avm_items.specs.declared.item.Item.{Item}
 use Rattle.avm_items.specs.declared.item_value.ItemValue.{ItemValue}
 use Rattle.avm_items.specs.declared.item_value.ItemValue.TheVariants as value

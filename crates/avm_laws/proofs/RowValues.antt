@@ -21,8 +21,8 @@ use Rattle.teal_table.specs.declared.global_fields.GlobalField.TheVariants as gl
 use Rattle.teal_table.specs.Fields.{global_field_at}
 use Rattle.teal_code.specs.declared.instr.Immediates.{Immediates}
 use Rattle.avm_ledger.specs.declared.application.Application.{Application}
-use Rattle.avm_ledger.specs.Entries.{Entries, byte_cmp, value_of_key, with_entry}
-use Rattle.avm_ledger.specs.Schemas.{counts_in, counts_after, is_within, keeps_kind}
+use Rattle.avm_states.specs.Entries.{Entries, byte_cmp, value_of_key, with_entry}
+use Rattle.avm_states.specs.Schemas.{counts_in, counts_after, is_within, keeps_kind}
 use Rattle.avm_ledger.specs.Ledgers.{Ledger, application_at}
 use Rattle.avm_items.specs.declared.item.Item.{Item}
 use Rattle.avm_items.specs.declared.item.Item.TheVariants as item

@@ -16,15 +16,15 @@ use Rattle.teal_value.specs.declared.value.Value.{Value}
 use Rattle.teal_value.specs.declared.value.Value.TheVariants.{Uint, Bytes}
 use Rattle.avm_ledger.specs.declared.application.Application.{Application}
 use Rattle.avm_ledger.specs.declared.application.StoredApplication.{StoredApplication}
-use Rattle.avm_ledger.specs.declared.schema.Schema.{Schema}
-use Rattle.avm_ledger.specs.Entries.{Entries, byte_cmp, value_of_key, with_entry, without_entry}
-use Rattle.avm_ledger.specs.Schemas.{counts_in, counts_after, is_within, keeps_kind}
+use Rattle.avm_states.specs.declared.schema.Schema.{Schema}
+use Rattle.avm_states.specs.Entries.{Entries, byte_cmp, value_of_key, with_entry, without_entry}
+use Rattle.avm_states.specs.Schemas.{counts_in, counts_after, is_within, keeps_kind}
 use Rattle.avm_ledger.specs.Ledgers.{Ledger, account_cmp, application_at, local_state_at, with_application, with_row, with_state}
 use Rattle.avm_ledger.specs.LedgerReader.{local_room, room_of_schema}
 use Rattle.avm_ledger.specs.LedgerRules.{IsStateValue, IsStateEntry, IsStateIn, IsLocalStateBelow, KeepsRules}
 use Rattle.avm_ledger.proofs.Changes.{account_same}
-use Rattle.avm_ledger.proofs.Counts.{follow_puts, stay_with_kind}
-use Rattle.avm_ledger.proofs.Maps.{is_Equal, sorted-inserted}
+use Rattle.avm_states.proofs.Counts.{follow_puts, stay_with_kind}
+use Rattle.sorted_entries.proofs.Maps.{is_Equal, sorted-inserted}
 use Rattle.avm_items.specs.declared.item.Item.{Item}
 use Rattle.avm_items.specs.declared.item.Item.TheVariants as item
 use Rattle.avm_items.specs.declared.item_value.ItemValue.{ItemValue}

@@ -7,7 +7,7 @@ use Rattle.teal_value.specs.declared.address.Address.{Address}
 use Rattle.teal_value.specs.declared.value.Value.{Value}
 use Rattle.teal_value.specs.declared.value.Value.TheVariants.{Uint, Bytes}
 use Rattle.avm_ledger.specs.declared.application.StoredApplication.{StoredApplication}
-use Rattle.avm_ledger.specs.Entries.{Entries}
+use Rattle.avm_states.specs.Entries.{Entries}
 use Rattle.avm_ledger.specs.Ledgers.{Ledger, empty_ledger}
 use Rattle.avm_ledger.specs.LedgerReader.{ledger_at}
 use Rattle.avm_ledger.specs.LedgerRules.{IsStateValue, IsStateEntry, IsApplicationBelow, IsLocalStateBelow}

@@ -15,10 +15,10 @@ use Rattle.teal_table.specs.declared.global_fields.GlobalField.TheVariants as gl
 use Rattle.teal_table.specs.Fields.{global_field_at}
 use Rattle.teal_code.specs.declared.instr.Immediates.{Immediates}
 use Rattle.avm_ledger.specs.declared.application.Application.{Application}
-use Rattle.avm_ledger.specs.declared.schema.Schema.{Schema}
+use Rattle.avm_states.specs.declared.schema.Schema.{Schema}
 use Rattle.avm_ledger.specs.declared.application.StoredApplication.{StoredApplication}
-use Rattle.avm_ledger.specs.Entries.{Entries, value_of_key, with_entry, without_entry}
-use Rattle.avm_ledger.specs.Schemas.{no_entries, counts_in, is_within, keeps_kind, counts_after}
+use Rattle.avm_states.specs.Entries.{Entries, value_of_key, with_entry, without_entry}
+use Rattle.avm_states.specs.Schemas.{no_entries, counts_in, is_within, keeps_kind, counts_after}
 use Rattle.avm_ledger.specs.Ledgers.{Ledger, application_at}
 use Rattle.avm_items.specs.declared.item.Item.{Item}
 use Rattle.avm_items.specs.declared.item.Item.TheVariants as item

@@ -2,8 +2,8 @@
 use Rattle.std.specs.Prelude.{◌≡◌, ℕ, ◌^◌, ◌<◌, List, ◌++◌, length, All}
 use Rattle.teal_value.specs.declared.value.Value.{Value}
 use Rattle.avm_ledger.specs.declared.header.Header.{Header}
-use Rattle.avm_ledger.specs.declared.schema.Schema.{Schema}
-use Rattle.avm_ledger.specs.Entries.{Entries}
+use Rattle.avm_states.specs.declared.schema.Schema.{Schema}
+use Rattle.avm_states.specs.Entries.{Entries}
 use Rattle.avm_ledger.specs.LedgerRules.{IsStateValue, IsStateEntry}
 use Rattle.avm_ledger.specs.Spellings.{header_bytes, schema_bytes, state_bytes, value_bytes}
 use Rattle.avm_call.specs.declared.outcome.Cause.TheVariants as cause

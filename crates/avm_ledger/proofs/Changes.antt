@@ -4,23 +4,21 @@ use Rattle.std.specs.Ordering.{is_eq, nat_cmp, ordering_then}
 use Rattle.std.specs.declared.cmp.Ordering.{Ordering}
 use Rattle.std.specs.declared.cmp.Ordering.TheVariants.{Less, Equal, Greater}
 use Rattle.std.specs.Cmp.{IsTotalOrder, on_total}
-use Rattle.std.proofs.lemmas.Cmp.{nat_cmp_total, nat_list_cmp_total, then_total}
+use Rattle.std.proofs.lemmas.Cmp.{nat_cmp_total, then_total}
 use Rattle.std.proofs.lemmas.Map.Steps.{set_value_same}
-use Rattle.std.specs.FinMap.{nat_cmp-IsAntisymmetric, slice_cmp-IsAntisymmetric}
+use Rattle.std.specs.FinMap.{nat_cmp-IsAntisymmetric}
 use Rattle.std.specs.Map.{set_value}
 use Rattle.std.specs.BTreeMap.{is_at}
 use Rattle.teal_value.specs.declared.address.Address.{Address}
 use Rattle.avm_ledger.specs.declared.application.Application.{Application}
 use Rattle.avm_ledger.specs.declared.application.StoredApplication.{StoredApplication}
-use Rattle.avm_ledger.specs.Entries.{Entries, byte_cmp, IsInKeyOrder}
+use Rattle.avm_states.specs.Entries.{Entries, byte_cmp, IsInKeyOrder}
 use Rattle.avm_ledger.specs.Ledgers.{Ledger, account_cmp, application_at, with_application, without_application, with_row, with_state, IsInOrder}
-use Rattle.avm_ledger.proofs.Maps.{lookup-inserted, lookup-inserted_other, lookup-removed, lookup-removed_other, is_Equal, sorted-inserted, sorted-removed, set_value-there}
+use Rattle.sorted_entries.proofs.Maps.{lookup-inserted, lookup-inserted_other, lookup-removed, lookup-removed_other, is_Equal, sorted-inserted, sorted-removed, set_value-there}
+use Rattle.avm_states.proofs.KeyOrder.{byte_same, byte_total}
 
 pub account_total : IsTotalOrder account_cmp
-account_total = then_total (on_total (λ x. x.0.0) nat_list_cmp_total) (on_total (λ x. x.1) nat_cmp_total)
-
-pub byte_total : IsTotalOrder byte_cmp
-byte_total = nat_list_cmp_total
+account_total = then_total (on_total (λ x. x.0.0) byte_total) (on_total (λ x. x.1) nat_cmp_total)
 
 -- ---- keys that tie are the same
 
@@ -31,9 +29,6 @@ both_Equal : (r s : Ordering) → ordering_then r s ≡ Equal → (r ≡ Equal) 
 both_Equal Less s e = absurd cc
 both_Equal Equal s e = (refl, e)
 both_Equal Greater s e = absurd cc
-
-pub byte_same : (x y : List ℕ) → byte_cmp x y ≡ Equal → x ≡ y
-byte_same = slice_cmp-IsAntisymmetric nat_cmp-IsAntisymmetric
 
 pub account_same : (x y : Address × ℕ) → account_cmp x y ≡ Equal → x ≡ y
 account_same x y e =

@@ -8,12 +8,12 @@ use Rattle.teal_value.specs.declared.failure.Failure.TheVariants as failure
 use Rattle.teal_value.specs.declared.value.Value.{Value}
 use Rattle.avm_ledger.specs.declared.ledger_fault.LedgerFault.{LedgerFault}
 use Rattle.avm_ledger.specs.declared.ledger_fault.LedgerFault.TheVariants.{Truncated}
-use Rattle.avm_ledger.specs.declared.schema.Schema.{Schema}
-use Rattle.avm_ledger.specs.Entries.{Entries, with_entry}
-use Rattle.avm_ledger.specs.Schemas.{count_without}
+use Rattle.avm_states.specs.declared.schema.Schema.{Schema}
+use Rattle.avm_states.specs.Entries.{Entries, with_entry}
+use Rattle.avm_states.specs.Schemas.{count_without}
 use Rattle.avm_ledger.specs.FieldReader.{Front, short_string_at}
 use Rattle.avm_ledger.specs.LedgerReader.{rises_from_key, key_at, value_at, entries_at}
-use Rattle.avm_ledger.proofs.Changes.{byte_total}
+use Rattle.avm_states.proofs.KeyOrder.{byte_total}
 use Rattle.avm_ledger.proofs.FieldsBack.{then}
 use Rattle.avm_ledger.proofs.FieldsSpelled.{from}
 use Rattle.avm_ledger.proofs.LedgerKept.{rule_kept, and_second, less}

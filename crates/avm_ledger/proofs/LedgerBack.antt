@@ -19,11 +19,11 @@ use Rattle.teal_value.specs.declared.address.Address.{Address}
 use Rattle.teal_check.specs.WellFormed.{WellFormed, checked}
 use Rattle.teal_check.specs.declared.fault.CheckFault.{CheckFault}
 use Rattle.avm_ledger.specs.declared.ledger_fault.LedgerFault.TheVariants.{Truncated}
-use Rattle.avm_ledger.specs.declared.schema.Schema.{Schema}
-use Rattle.avm_ledger.specs.Entries.{Entries, byte_cmp}
+use Rattle.avm_states.specs.declared.schema.Schema.{Schema}
+use Rattle.avm_states.specs.Entries.{Entries, byte_cmp}
 use Rattle.avm_ledger.specs.declared.application.StoredApplication.{StoredApplication}
 use Rattle.avm_ledger.specs.Ledgers.{Ledger, account_cmp}
-use Rattle.avm_ledger.specs.Schemas.{count_with, count_without, counts_in}
+use Rattle.avm_states.specs.Schemas.{count_with, count_without, counts_in}
 use Rattle.avm_ledger.specs.Spellings.{string_bytes, schema_bytes, counted_bytes, u8_bytes, u16_bytes, u32_bytes, u64_bytes, application_bytes, local_state_bytes, ledger_bytes, value_bytes, entry_bytes, state_bytes}
 use Rattle.avm_ledger.specs.FieldReader.{number_at, short_string_at}
 use Rattle.avm_ledger.specs.LedgerReader.{tested, Room, local_room, room_of_schema, stored_in, limited_schema_at, program_at, stored_application_at, id_between, applications_at, is_no_lower, rises_from_pair, account_at, local_id_at, local_states_at, next_id_at, ledger_front, alone, ledger_at, rises_from_key, key_at, value_of_kind, value_at, entries_at, state_of_count, state_at}

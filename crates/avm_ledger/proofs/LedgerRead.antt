@@ -9,7 +9,7 @@ use Rattle.teal_value.specs.Answer.{Gives}
 use Rattle.teal_value.specs.declared.failure.Failure.{Failure}
 use Rattle.avm_ledger.specs.declared.ledger_fault.LedgerFault.{LedgerFault}
 use Rattle.avm_ledger.specs.declared.application.StoredApplication.{StoredApplication}
-use Rattle.avm_ledger.specs.Entries.{IsInKeyOrder}
+use Rattle.avm_states.specs.Entries.{IsInKeyOrder}
 use Rattle.avm_ledger.specs.Ledgers.{Ledger, IsInOrder}
 use Rattle.avm_ledger.specs.LedgerReader.{ledger_at}
 use Rattle.avm_ledger.specs.LedgerRules.{IsApplicationBelow, KeepsRules, IsCountable}

@@ -9,11 +9,11 @@ use Rattle.teal_value.specs.declared.value.Value.TheVariants.{Uint, Bytes}
 use Rattle.teal_value.specs.declared.address.Address.{Address}
 use Rattle.avm_ledger.specs.declared.ledger_fault.LedgerFault.{LedgerFault}
 use Rattle.avm_ledger.specs.declared.ledger_fault.LedgerFault.TheVariants.{Malformed, Truncated, Rest}
-use Rattle.avm_ledger.specs.declared.schema.Schema.{Schema}
-use Rattle.avm_ledger.specs.Entries.{Entries}
+use Rattle.avm_states.specs.declared.schema.Schema.{Schema}
+use Rattle.avm_states.specs.Entries.{Entries}
 use Rattle.avm_ledger.specs.declared.application.StoredApplication.{StoredApplication}
 use Rattle.avm_ledger.specs.Ledgers.{Ledger}
-use Rattle.avm_ledger.specs.Schemas.{count_without}
+use Rattle.avm_states.specs.Schemas.{count_without}
 use Rattle.avm_ledger.specs.Spellings.{u8_bytes, u32_bytes, u64_bytes, short_string_bytes, string_bytes, counted_bytes, value_bytes, entry_bytes, state_bytes, schema_bytes, application_bytes, local_state_bytes, ledger_bytes}
 use Rattle.avm_ledger.specs.FieldReader.{number_at, short_string_at, string_at, address_at, schema_at}
 use Rattle.avm_ledger.specs.LedgerReader.{tested, Room, local_room, room_of_schema, stored_in, key_at, uint_at, bytes_value_at, value_of_kind, value_at, entries_at, state_of_count, state_at, limited_schema_at, program_at, stored_application_at, id_between, applications_at, account_at, local_id_at, local_states_at, next_id_at, ledger_front, alone, ledger_at}

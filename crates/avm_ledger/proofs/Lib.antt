@@ -1,7 +1,4 @@
-pub mod Maps
-pub mod Counts
 pub mod Changes
-pub mod SameStates
 pub mod FieldsBack
 pub mod FieldsSpelled
 pub mod FieldsFit

@@ -6,7 +6,7 @@ use Rattle.teal_value.specs.declared.failure.Failure.{Failure}
 use Rattle.teal_value.specs.declared.failure.Failure.TheVariants as failure
 use Rattle.avm_ledger.specs.declared.ledger_fault.LedgerFault.{LedgerFault}
 use Rattle.avm_ledger.specs.declared.application.StoredApplication.{StoredApplication}
-use Rattle.avm_ledger.specs.Entries.{Entries}
+use Rattle.avm_states.specs.Entries.{Entries}
 use Rattle.avm_ledger.specs.FieldReader.{Front}
 use Rattle.avm_ledger.specs.LedgerReader.{Room, local_room, stored_in, state_at, account_at, local_id_at, local_states_at}
 use Rattle.avm_ledger.proofs.FieldsBack.{then}

@@ -3,7 +3,7 @@ use Rattle.std.specs.Prelude.{ℕ, zero, suc, nat_lt, if◌then◌else◌, List,
 use Rattle.std.specs.Int.{Width, w8, w16, byte_len, from_be_bytes}
 use Rattle.teal_value.specs.Answer.{◌>>=◌}
 use Rattle.teal_value.specs.declared.address.Address.{Address}
-use Rattle.avm_ledger.specs.declared.schema.Schema.{Schema}
+use Rattle.avm_states.specs.declared.schema.Schema.{Schema}
 
 -- a value, and the bytes behind it
 abbrev pub Front : Type 0 → Type 0 → Type 0

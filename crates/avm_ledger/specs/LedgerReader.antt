@@ -12,11 +12,11 @@ use Rattle.teal_value.specs.declared.value.Value.TheVariants.{Uint, Bytes}
 use Rattle.teal_check.specs.WellFormed.{checked}
 use Rattle.avm_ledger.specs.declared.ledger_fault.LedgerFault.{LedgerFault}
 use Rattle.avm_ledger.specs.declared.ledger_fault.LedgerFault.TheVariants.{Malformed, Truncated, Rest}
-use Rattle.avm_ledger.specs.declared.schema.Schema.{Schema}
-use Rattle.avm_ledger.specs.Entries.{Entries, byte_cmp}
+use Rattle.avm_states.specs.declared.schema.Schema.{Schema}
+use Rattle.avm_states.specs.Entries.{Entries, byte_cmp}
 use Rattle.avm_ledger.specs.declared.application.StoredApplication.{StoredApplication}
 use Rattle.avm_ledger.specs.Ledgers.{Ledger, account_cmp}
-use Rattle.avm_ledger.specs.Schemas.{count_without}
+use Rattle.avm_states.specs.Schemas.{count_without}
 use Rattle.avm_ledger.specs.FieldReader.{Front, number_at, short_string_at, string_at, address_at, schema_at}
 
 -- a field that keeps a rule

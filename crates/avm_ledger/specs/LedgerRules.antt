@@ -7,10 +7,10 @@ use Rattle.teal_value.specs.declared.address.Address.{Address}
 use Rattle.teal_value.specs.declared.value.Value.{Value}
 use Rattle.teal_value.specs.declared.value.Value.TheVariants.{Uint, Bytes}
 use Rattle.teal_check.specs.WellFormed.{checked}
-use Rattle.avm_ledger.specs.Entries.{Entries, IsInKeyOrder}
+use Rattle.avm_states.specs.Entries.{Entries, IsInKeyOrder}
 use Rattle.avm_ledger.specs.declared.application.StoredApplication.{StoredApplication}
 use Rattle.avm_ledger.specs.Ledgers.{Ledger, account_cmp}
-use Rattle.avm_ledger.specs.Schemas.{counts_in}
+use Rattle.avm_states.specs.Schemas.{counts_in}
 use Rattle.avm_ledger.specs.LedgerReader.{Room, room_of_schema, local_room, stored_in}
 
 -- a value that may stand in a state

@@ -11,7 +11,7 @@ use Rattle.avm_ledger.specs.declared.application.Application.{Application}
 use Rattle.avm_ledger.specs.declared.application.StoredApplication.{StoredApplication}
 use Rattle.avm_ledger.specs.declared.ids_end.IdsEnd.{IdsEnd}
 use Rattle.avm_ledger.specs.declared.ids_end.IdsEnd.TheVariants as ids
-use Rattle.avm_ledger.specs.Entries.{Entries, byte_cmp, value_of_key, IsInKeyOrder}
+use Rattle.avm_states.specs.Entries.{Entries, byte_cmp, value_of_key, IsInKeyOrder}
 
 pub record Ledger : Type 0 where
   pub next_id : ℕ

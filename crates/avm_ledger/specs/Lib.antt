@@ -1,6 +1,4 @@
-pub mod Entries
 pub mod Ledgers
-pub mod Schemas
 pub mod Spellings
 pub mod FieldReader
 pub mod LedgerReader

@@ -7,8 +7,8 @@ use Rattle.teal_value.specs.declared.address.Address.{Address}
 use Rattle.teal_value.specs.declared.value.Value.{Value}
 use Rattle.teal_value.specs.declared.value.Value.TheVariants.{Uint, Bytes}
 use Rattle.avm_ledger.specs.declared.header.Header.{Header}
-use Rattle.avm_ledger.specs.declared.schema.Schema.{Schema}
-use Rattle.avm_ledger.specs.Entries.{Entries}
+use Rattle.avm_states.specs.declared.schema.Schema.{Schema}
+use Rattle.avm_states.specs.Entries.{Entries}
 use Rattle.avm_ledger.specs.declared.application.StoredApplication.{StoredApplication}
 use Rattle.avm_ledger.specs.Ledgers.{Ledger}
 

@@ -2,9 +2,8 @@
 
 ghost use Rattle.std.specs.Prelude.{◌≡◌, IfOk};
 
-use crate::schema::Schema;
-use crate::state::State;
 use crate::stored_program::StoredProgram;
+use avm_states::{Schema, State};
 use std::alloc::AllocError;
 use teal_value::Address;
 

@@ -12,7 +12,7 @@ use crate::ledger::Ledger;
 use crate::ledger_fault::LedgerError;
 use crate::ledger_reading::parts_of;
 use crate::spelling::{put_schema, put_state, put_string, put_u32, put_u64};
-use crate::state::State;
+use avm_states::State;
 use sha2::{Digest, Sha256};
 use std::alloc::{AllocError, Global};
 use teal_value::Address;

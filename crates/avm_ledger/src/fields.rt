@@ -5,7 +5,7 @@ ghost use Rattle.std.specs.Int.{w8, w16, w32, w64};
 ghost use Rattle.teal_value.specs.Answer.{Gives};
 ghost use Rattle.avm_ledger.specs.FieldReader.{address_at, bytes_at, number_at, schema_at, short_string_at, string_at};
 
-use crate::schema::Schema;
+use avm_states::Schema;
 use std::marker::Model;
 use teal_value::{Address, Failure};
 

@@ -6,15 +6,14 @@ ghost use Rattle.std.specs.Option.{option_copied, option_map};
 ghost use Rattle.teal_value.specs.Answer.{Gives};
 ghost use Rattle.teal_value.specs.declared.address.Address.{Address};
 ghost use Rattle.avm_ledger.specs.declared.application.StoredApplication.{StoredApplication};
-ghost use Rattle.avm_ledger.specs.Entries.{Entries};
+ghost use Rattle.avm_states.specs.Entries.{Entries};
 ghost use Rattle.avm_ledger.specs.Ledgers.{IsOrderly, application_at, creation, empty_ledger, global_value, local_state_at};
 
 use crate::application::{Application, StoredApplication};
 use crate::ids_end::IdsEnd;
 use crate::open_ledger::OpenLedger;
-use crate::schema::Schema;
-use crate::state::State;
 use crate::stored_program::StoredProgram;
+use avm_states::{Schema, State};
 use std::alloc::{AllocError, Global};
 use std::collections::BTreeMap;
 use std::collections::btree_map::Iter;

@@ -8,11 +8,10 @@ ghost use Rattle.avm_ledger.specs.LedgerReader.{account_at, applications_at, id_
 use crate::application::{Application, StoredApplication};
 use crate::fields::Fields;
 use crate::ledger_fault::{LedgerError, LedgerFault};
-use crate::schema::Schema;
 use crate::sorted_map::map_of;
-use crate::state::State;
 use crate::state_reading::state_of;
 use crate::stored_program::StoredProgram;
+use avm_states::{Schema, State};
 use std::alloc::Global;
 use std::cmp::Ordering;
 use std::collections::BTreeMap;

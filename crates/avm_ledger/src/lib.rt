@@ -1,35 +1,28 @@
-//! Ledgers: applications, their schemas, states, and what a block tells its programs. What a ledger is stands in
-//! `specs/Ledgers.antt`, states as finite maps in `specs/Entries.antt`, the rules of ledgers in `specs/LedgerRules.antt`,
-//! their bytes in `specs/Spellings.antt` and `specs/LedgerReader.antt`.
+//! Ledgers: applications, local states, and what a block tells its programs. What a ledger is stands in
+//! `specs/Ledgers.antt`, the rules of ledgers in `specs/LedgerRules.antt`, their bytes in `specs/Spellings.antt` and
+//! `specs/LedgerReader.antt`. The states are those of `avm_states`.
 #![tactic(auto)]
 
 mod application;
 mod codec;
-mod entry_counts;
 mod fields;
 mod header;
 mod ids_end;
-pub mod laws;
 mod ledger;
 mod ledger_fault;
 mod ledger_reading;
 mod open_ledger;
 pub mod reading_laws;
-mod schema;
 mod sorted_map;
 pub mod spelling;
-mod state;
 mod state_reading;
 mod stored_program;
 
 pub use application::{Application, StoredApplication};
-pub use entry_counts::EntryCounts;
 pub use fields::Fields;
 pub use header::{Header, Profile};
 pub use ids_end::IdsEnd;
 pub use ledger::Ledger;
 pub use ledger_fault::{LedgerError, LedgerFault};
 pub use open_ledger::OpenLedger;
-pub use schema::Schema;
-pub use state::State;
 pub use stored_program::StoredProgram;

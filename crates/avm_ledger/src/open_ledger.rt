@@ -4,12 +4,12 @@ ghost use Rattle.std.specs.Prelude.{◌≡◌, ℕ, None, IfErr, IfOk, IsSome};
 ghost use Rattle.std.specs.Map.Iter.{ShowsInOrder, deref_pair};
 ghost use Rattle.std.specs.Option.{option_copied, option_map};
 ghost use Rattle.teal_value.specs.declared.address.Address.{Address};
-ghost use Rattle.avm_ledger.specs.Entries.{Entries, with_entry, without_entry};
+ghost use Rattle.avm_states.specs.Entries.{Entries, with_entry, without_entry};
 ghost use Rattle.avm_ledger.specs.Ledgers.{IsInOrder, IsOrderly, application_at, global_value, local_state_at, with_application, with_local_state, with_row, with_state, without_application, without_local_state};
 
 use crate::application::{Application, StoredApplication};
 use crate::ledger::Ledger;
-use crate::state::State;
+use avm_states::State;
 use std::alloc::{AllocError, Global};
 use std::collections::BTreeMap;
 use std::collections::btree_map::Iter;

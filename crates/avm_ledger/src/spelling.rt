@@ -4,8 +4,7 @@ ghost use Rattle.std.specs.Prelude.{◌≡◌, ◌++◌, OnErr, OnOk, take};
 ghost use Rattle.teal_code.specs.Spelling.{Continues};
 ghost use Rattle.avm_ledger.specs.Spellings.{entry_bytes, schema_bytes, short_string_bytes, state_bytes, string_bytes, u16_bytes, u32_bytes, u64_bytes, u8_bytes, value_bytes};
 
-use crate::schema::Schema;
-use crate::state::State;
+use avm_states::{Schema, State};
 use std::alloc::AllocError;
 use teal_value::{StateKey, Value};
 

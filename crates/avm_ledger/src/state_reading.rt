@@ -3,13 +3,12 @@
 ghost use Rattle.std.specs.Prelude.{◌≡◌, None};
 ghost use Rattle.std.specs.Option.{option_copied};
 ghost use Rattle.teal_value.specs.Answer.{Gives};
-ghost use Rattle.avm_ledger.specs.Schemas.{count_without};
+ghost use Rattle.avm_states.specs.Schemas.{count_without};
 ghost use Rattle.avm_ledger.specs.LedgerReader.{bytes_value_at, entries_at, key_at, rises_from_key, state_at, value_at};
 
 use crate::fields::Fields;
 use crate::ledger_fault::{LedgerError, LedgerFault};
-use crate::schema::Schema;
-use crate::state::State;
+use avm_states::{Schema, State};
 use std::alloc::Global;
 use std::cmp::Ordering;
 use teal_value::{ByteString, Failure, StateKey, Value};

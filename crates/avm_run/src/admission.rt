@@ -12,7 +12,8 @@ ghost use Rattle.avm_run.specs.Tests.{HasRoom, IsAdmitted, Tests};
 
 use avm_call::{Call, Why};
 use avm_items::{CallData, Completion, Item, ItemMap, ItemValue};
-use avm_ledger::{Application, EntryCounts, State};
+use avm_ledger::Application;
+use avm_states::{EntryCounts, State};
 use std::alloc::{AllocError, Global};
 
 /// Why the tests before a program give nothing.

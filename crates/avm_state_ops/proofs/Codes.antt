@@ -1,9 +1,7 @@
--- An instruction is told by its code.
-use Rattle.std.proofs.Common.{◌≡◌, ◌∙◌, ℕ, Some, refl, sym, ap}
+-- An instruction is told by its opcode.
+use Rattle.std.proofs.Common.{◌≡◌, ◌∙◌, Some, refl, sym, ap}
 use Rattle.teal_table.specs.declared.opcode.Opcode.{Opcode}
 use Rattle.teal_table.specs.declared.opcode.Opcode.TheVariants as op
-use Rattle.teal_table.specs.Table.{code_of}
-use Rattle.avm_ops.proofs.Sets.{same_code}
 use Rattle.avm_state_ops.specs.declared.txn.Txn.TheVariants as txn
 use Rattle.avm_state_ops.specs.declared.reads.StateRead.TheVariants as read
 use Rattle.avm_state_ops.specs.declared.writes.StateWrite.TheVariants as write
@@ -49,7 +47,5 @@ instruction-state_opcode (state.Write write.GlobalPut) = refl
 instruction-state_opcode (state.Write write.LocalDelete) = refl
 instruction-state_opcode (state.Write write.GlobalDelete) = refl
 
-pub same_instruction : (a b : StateOp) (code : ℕ) → code_of (state_opcode a) ≡ code → code_of (state_opcode b) ≡ code → Some a ≡ Some b
-same_instruction a b code is_a is_b =
-    let one_opcode = same_code (state_opcode a) (state_opcode b) (is_a ∙ sym is_b) in
-    ap Some (sym (instruction-state_opcode a) ∙ ap instruction one_opcode ∙ instruction-state_opcode b)
+pub same_instruction : (a b : StateOp) (opcode : Opcode) → state_opcode a ≡ opcode → state_opcode b ≡ opcode → Some a ≡ Some b
+same_instruction a b opcode is_a is_b = ap Some (sym (instruction-state_opcode a) ∙ ap instruction (is_a ∙ sym is_b) ∙ instruction-state_opcode b)

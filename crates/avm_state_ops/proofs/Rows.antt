@@ -5,10 +5,10 @@ use Rattle.teal_value.specs.declared.address.Address.{Address}
 use Rattle.teal_value.specs.declared.value.Value.{Value}
 use Rattle.teal_value.specs.declared.fault.Fault.{Fault}
 use Rattle.teal_value.specs.declared.fault.Fault.TheVariants as fault
-use Rattle.avm_ledger.specs.Entries.{Entries, value_of_key, with_entry}
-use Rattle.avm_ledger.specs.Schemas.{counts_in, counts_after, is_within, keeps_kind}
+use Rattle.avm_states.specs.Entries.{Entries, value_of_key, with_entry}
+use Rattle.avm_states.specs.Schemas.{counts_in, counts_after, is_within, keeps_kind}
 use Rattle.avm_ledger.specs.declared.application.Application.{Application}
-use Rattle.avm_ledger.specs.declared.schema.Schema.{Schema}
+use Rattle.avm_states.specs.declared.schema.Schema.{Schema}
 use Rattle.avm_items.specs.declared.item.Item.{Item}
 use Rattle.avm_items.specs.declared.item.Item.TheVariants as item
 use Rattle.avm_items.specs.declared.item_value.ItemValue.{ItemValue}

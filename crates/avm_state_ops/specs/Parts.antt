@@ -11,9 +11,9 @@ use Rattle.avm_items.specs.Environments.{Environment, known_to}
 use Rattle.avm_cpu.specs.Machine.{Machine}
 use Rattle.avm_ops.specs.declared.op.Stop.{Stop}
 use Rattle.avm_ops.specs.declared.op.Stop.TheVariants as stop
-use Rattle.avm_ledger.specs.declared.schema.Schema.{Schema}
-use Rattle.avm_ledger.specs.Entries.{Entries, value_of_key, with_entry}
-use Rattle.avm_ledger.specs.Schemas.{counts_in, is_within, keeps_kind}
+use Rattle.avm_states.specs.declared.schema.Schema.{Schema}
+use Rattle.avm_states.specs.Entries.{Entries, value_of_key, with_entry}
+use Rattle.avm_states.specs.Schemas.{counts_in, is_within, keeps_kind}
 use Rattle.avm_ops.specs.Frame.{Context, After, Stepped, must}
 use Rattle.avm_ops.specs.Objects.{context_of}
 use Rattle.avm_ops.specs.States.{leaves, key_written, counts_written}

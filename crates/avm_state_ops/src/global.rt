@@ -2,7 +2,6 @@
 
 ghost use Rattle.std.specs.Prelude.{◌≡◌, IfSome, Some};
 ghost use Rattle.teal_table.specs.declared.opcode.Opcode.TheVariants as op;
-ghost use Rattle.teal_table.specs.Table.{code_of};
 ghost use Rattle.avm_items.specs.Asks.{answer_from};
 ghost use Rattle.avm_items.specs.Environments.{known_to};
 ghost use Rattle.avm_cpu.specs.Machine.{Machine};
@@ -19,7 +18,7 @@ use avm_ops::immediates::field_of;
 use avm_ops::{Op, Stop};
 use std::alloc::Global;
 use teal_code::Instr;
-use teal_table::{GlobalField, Opcode, global_field};
+use teal_table::{GlobalField, Opcode, Opcode, global_field};
 use teal_value::{Fault, Value};
 
 /// Pushes a field of the block, or of the application that runs.
@@ -58,14 +57,13 @@ fn global_value(alloc: Global, env: &Env, field: GlobalField) -> Result<Value, S
 }
 
 impl GlobalOp {
-    /// The instruction, of its code.
-    #[tactic(auto, unfolding(teal_table::specs::Table::row_of))]
-    pub fn of(code: u8) -> Option<GlobalOp>
-        ensures some { IfSome result (λ _. code_of op.Global ≡ code) }
-        ensures all { (row : _) → code_of op.Global ≡ code → result ≡ Some row }
+    /// The instruction, of its opcode.
+    pub fn of(opcode: Opcode) -> Option<GlobalOp>
+        ensures some { IfSome result (λ _. op.Global ≡ opcode) }
+        ensures all { (row : _) → op.Global ≡ opcode → result ≡ Some row }
     {
-        match code {
-            0x32 => Some(GlobalOp),
+        match opcode {
+            Opcode::Global => Some(GlobalOp),
             _ => None,
         }
     }

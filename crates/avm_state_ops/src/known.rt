@@ -8,8 +8,9 @@ ghost use Rattle.avm_ops.specs.States.{application, global_counts, global_entry,
 ghost use Rattle.avm_state_ops.specs.Parts.{Answers, StopsFor};
 
 use avm_items::{Env, Item, ItemValue};
-use avm_ledger::{Application, EntryCounts, State};
+use avm_ledger::Application;
 use avm_ops::Stop;
+use avm_states::{EntryCounts, State};
 use std::alloc::Global;
 use teal_value::{Address, StateKey, Value};
 

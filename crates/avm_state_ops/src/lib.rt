@@ -1,5 +1,6 @@
 //! The instructions on the fields of a call and of a block, and on the states of applications and accounts, as objects:
-//! one type a family of opcodes, each with `of`, which gives the family's object of a code, and `StateOp` over all families.
+//! one type a family of opcodes, each with `of`, which gives the family's object of an opcode, and `StateOp` over all
+//! families.
 //!
 //! What an instruction does stands in `avm_ops`, `specs/Fields.antt` and `specs/States.antt`.
 #![tactic(auto)]

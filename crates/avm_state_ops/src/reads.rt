@@ -3,7 +3,6 @@
 ghost use Rattle.std.specs.Prelude.{◌≡◌, ◌==◌, if◌then◌else◌, IfOk, IfSome, Some};
 ghost use Rattle.std.specs.Option.{option_copied};
 ghost use Rattle.teal_value.specs.declared.fault.Fault.TheVariants.{NoForeign};
-ghost use Rattle.teal_table.specs.Table.{code_of};
 ghost use Rattle.avm_ops.specs.Frame.{flag};
 ghost use Rattle.avm_ops.specs.Objects.{Does, IfStopped};
 ghost use Rattle.avm_ops.specs.States.{foreign_of, global_get, global_get_ex, local_get, local_get_ex, opted_in, or_zero};
@@ -36,18 +35,17 @@ pub enum StateRead {
 }
 
 impl StateRead {
-    /// The instruction of a code.
-    #[tactic(auto, unfolding(teal_table::specs::Table::row_of))]
-    pub fn of(code: u8) -> Option<StateRead>
-        ensures some { IfSome result (λ row. code_of (read_opcode row) ≡ code) }
-        ensures all { (row : _) → code_of (read_opcode row) ≡ code → result ≡ Some row }
+    /// The instruction of an opcode.
+    pub fn of(opcode: Opcode) -> Option<StateRead>
+        ensures some { IfSome result (λ row. read_opcode row ≡ opcode) }
+        ensures all { (row : _) → read_opcode row ≡ opcode → result ≡ Some row }
     {
-        match code {
-            0x61 => Some(StateRead::OptedIn),
-            0x62 => Some(StateRead::LocalGet),
-            0x63 => Some(StateRead::LocalGetEx),
-            0x64 => Some(StateRead::GlobalGet),
-            0x65 => Some(StateRead::GlobalGetEx),
+        match opcode {
+            Opcode::AppOptedIn => Some(StateRead::OptedIn),
+            Opcode::AppLocalGet => Some(StateRead::LocalGet),
+            Opcode::AppLocalGetEx => Some(StateRead::LocalGetEx),
+            Opcode::AppGlobalGet => Some(StateRead::GlobalGet),
+            Opcode::AppGlobalGetEx => Some(StateRead::GlobalGetEx),
             _ => None,
         }
     }

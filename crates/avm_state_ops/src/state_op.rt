@@ -1,7 +1,6 @@
 //! Every instruction of this crate as one type, so that a set of objects is filled with one type of object.
 
 ghost use Rattle.std.specs.Prelude.{◌≡◌, IfSome, Some};
-ghost use Rattle.teal_table.specs.Table.{code_of};
 ghost use Rattle.avm_state_ops.specs.Families.{state_opcode};
 
 use crate::{GlobalOp, StateRead, StateWrite, Txn};
@@ -10,6 +9,7 @@ use avm_items::Env;
 use avm_ops::{Op, Stop};
 use std::alloc::Global;
 use teal_code::Instr;
+use teal_table::Opcode;
 
 /// An instruction on the fields of a call or of a block, or on a state, in its family.
 #[derive(Clone, Copy, Debug, PartialEq, Eq)]
@@ -21,18 +21,18 @@ pub enum StateOp {
 }
 
 impl StateOp {
-    /// The instruction of a code.
-    pub fn of(code: u8) -> Option<StateOp>
-        ensures some { IfSome result (λ op. code_of (state_opcode op) ≡ code) }
-        ensures all { (op : _) → code_of (state_opcode op) ≡ code → result ≡ Some op }
+    /// The instruction of an opcode.
+    pub fn of(opcode: Opcode) -> Option<StateOp>
+        ensures some { IfSome result (λ op. state_opcode op ≡ opcode) }
+        ensures all { (op : _) → state_opcode op ≡ opcode → result ≡ Some op }
     {
-        if let Some(op) = Txn::of(code) {
+        if let Some(op) = Txn::of(opcode) {
             Some(StateOp::Txn(op))
-        } else if let Some(op) = GlobalOp::of(code) {
+        } else if let Some(op) = GlobalOp::of(opcode) {
             Some(StateOp::Global(op))
-        } else if let Some(op) = StateRead::of(code) {
+        } else if let Some(op) = StateRead::of(opcode) {
             Some(StateOp::Read(op))
-        } else if let Some(op) = StateWrite::of(code) {
+        } else if let Some(op) = StateWrite::of(opcode) {
             Some(StateOp::Write(op))
         } else {
             None

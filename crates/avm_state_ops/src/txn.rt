@@ -2,7 +2,6 @@
 
 ghost use Rattle.std.specs.Prelude.{◌≡◌, IfSome, Some, ◌==◌};
 ghost use Rattle.teal_value.specs.Answer.{Gives};
-ghost use Rattle.teal_table.specs.Table.{code_of};
 ghost use Rattle.avm_ops.specs.Fields.{is_in_group};
 ghost use Rattle.avm_state_ops.specs.Families.{txn_opcode};
 
@@ -32,19 +31,18 @@ pub enum Txn {
 }
 
 impl Txn {
-    /// The instruction of a code.
-    #[tactic(auto, unfolding(teal_table::specs::Table::row_of))]
-    pub fn of(code: u8) -> Option<Txn>
-        ensures some { IfSome result (λ row. code_of (txn_opcode row) ≡ code) }
-        ensures all { (row : _) → code_of (txn_opcode row) ≡ code → result ≡ Some row }
+    /// The instruction of an opcode.
+    pub fn of(opcode: Opcode) -> Option<Txn>
+        ensures some { IfSome result (λ row. txn_opcode row ≡ opcode) }
+        ensures all { (row : _) → txn_opcode row ≡ opcode → result ≡ Some row }
     {
-        match code {
-            0x31 => Some(Txn::Scalar),
-            0x33 => Some(Txn::GroupScalar),
-            0x36 => Some(Txn::Element),
-            0x37 => Some(Txn::GroupElement),
-            0x38 => Some(Txn::StackScalar),
-            0x39 => Some(Txn::StackElement),
+        match opcode {
+            Opcode::Txn => Some(Txn::Scalar),
+            Opcode::Gtxn => Some(Txn::GroupScalar),
+            Opcode::Txna => Some(Txn::Element),
+            Opcode::Gtxna => Some(Txn::GroupElement),
+            Opcode::Gtxns => Some(Txn::StackScalar),
+            Opcode::Gtxnsa => Some(Txn::StackElement),
             _ => None,
         }
     }

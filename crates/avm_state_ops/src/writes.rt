@@ -2,8 +2,7 @@
 
 ghost use Rattle.std.specs.Prelude.{◌≡◌, ◌||◌, ℕ, List, Some, false, true, IfSome, MatchOption};
 ghost use Rattle.std.specs.Option.{option_copied};
-ghost use Rattle.teal_table.specs.Table.{code_of};
-ghost use Rattle.avm_ledger.specs.Schemas.{counts_after, is_within, keeps_kind};
+ghost use Rattle.avm_states.specs.Schemas.{counts_after, is_within, keeps_kind};
 ghost use Rattle.avm_items.specs.Asks.{answer_from};
 ghost use Rattle.avm_items.specs.Environments.{known_to};
 ghost use Rattle.avm_cpu.specs.Machine.{Machine};
@@ -16,8 +15,9 @@ use crate::fields::account;
 use crate::known::{application, global_counts, global_entry, local_state};
 use avm_cpu::{Cpu, Flow};
 use avm_items::{Env, Item, ItemValue};
-use avm_ledger::{Application, EntryCounts, Schema, State};
+use avm_ledger::Application;
 use avm_ops::{Op, Stop};
+use avm_states::{EntryCounts, Schema, State};
 use std::alloc::Global;
 use teal_code::Instr;
 use teal_table::Opcode;
@@ -37,17 +37,16 @@ pub enum StateWrite {
 }
 
 impl StateWrite {
-    /// The instruction of a code.
-    #[tactic(auto, unfolding(teal_table::specs::Table::row_of))]
-    pub fn of(code: u8) -> Option<StateWrite>
-        ensures some { IfSome result (λ row. code_of (write_opcode row) ≡ code) }
-        ensures all { (row : _) → code_of (write_opcode row) ≡ code → result ≡ Some row }
+    /// The instruction of an opcode.
+    pub fn of(opcode: Opcode) -> Option<StateWrite>
+        ensures some { IfSome result (λ row. write_opcode row ≡ opcode) }
+        ensures all { (row : _) → write_opcode row ≡ opcode → result ≡ Some row }
     {
-        match code {
-            0x66 => Some(StateWrite::LocalPut),
-            0x67 => Some(StateWrite::GlobalPut),
-            0x68 => Some(StateWrite::LocalDelete),
-            0x69 => Some(StateWrite::GlobalDelete),
+        match opcode {
+            Opcode::AppLocalPut => Some(StateWrite::LocalPut),
+            Opcode::AppGlobalPut => Some(StateWrite::GlobalPut),
+            Opcode::AppLocalDel => Some(StateWrite::LocalDelete),
+            Opcode::AppGlobalDel => Some(StateWrite::GlobalDelete),
             _ => None,
         }
     }
@@ -119,7 +118,7 @@ fn counts_within(
 }
 
 /// Whether a value may be put under a key of a state: it is of the old one's kind, or the counts then keep to the limit.
-#[tactic(auto, using(avm_ledger::proofs::Counts::follow_puts))]
+#[tactic(auto, using(avm_states::proofs::Counts::follow_puts))]
 fn test_schema(state: &State, key: &[u8], value: &Value, limit: Schema) -> Result<(), Fault>
     ensures { result ≡ schema_test state.now key.now value.now limit }
 {

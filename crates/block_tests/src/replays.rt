@@ -10,15 +10,17 @@ use avm_block::{Block, MAX_ENTRIES, decode, encode};
 use avm_call::{Call, Cause, Outcome, Why};
 use avm_flow_ops::FlowOp;
 use avm_items::Completion;
-use avm_ledger::{Ledger, Profile, Schema};
+use avm_ledger::{Ledger, Profile};
 use avm_ops::{BoxedOp, Op, OpSet, Ops};
 use avm_replay::{PlainBlockFault, StateFault, Verdict, plain_block, replay, state_at};
 use avm_state_ops::StateOp;
+use avm_states::Schema;
 use sample_calls::bare::{NO_ENTRY, call, header};
 use sample_calls::full_set;
 use sample_calls::rows::ledger_of;
 use std::alloc::Global;
 use std::test::Fail;
+use teal_table::Opcode;
 use teal_value::{Failure, Fault};
 
 const ONE_UINT: Schema = Schema { uints: 1, bytes: 0 };

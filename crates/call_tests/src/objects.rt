@@ -8,9 +8,10 @@ use avm_arith::{ArithOp, Binary};
 use avm_cpu::{Cpu, Flow};
 use avm_flow_ops::FlowOp;
 use avm_items::{Addresses, CallData, Completion, Env};
-use avm_ledger::{Header, Profile, Schema};
+use avm_ledger::{Header, Profile};
 use avm_ops::{BoxedOp, Op, OpSet, Ops, PushFault, Stop};
 use avm_state_ops::StateOp;
+use avm_states::Schema;
 use std::alloc::Global;
 use std::sync::Arc;
 use std::test::Fail;
@@ -369,15 +370,17 @@ fn instructions_run_through_a_full_set(rt: HostRuntime) -> Result<(), Fail> {
     assert_eq!(rt; ops.missing(), Some(0));
     for is_last in [false, true] {
         for code in 0..256usize {
-            let code = code as u8;
-            if !is_wanted(&ops, is_last, code) {
+            let Some(opcode) = Opcode::of(code as u8) else {
+                continue;
+            };
+            if !is_wanted(&ops, is_last, code as u8) {
                 continue;
             }
-            let op: Box<dyn Op> = if let Some(op) = ArithOp::of(code) {
+            let op: Box<dyn Op> = if let Some(op) = ArithOp::of(opcode) {
                 Box::new(alloc, op)?
-            } else if let Some(op) = FlowOp::of(code) {
+            } else if let Some(op) = FlowOp::of(opcode) {
                 Box::new(alloc, op)?
-            } else if let Some(op) = StateOp::of(code) {
+            } else if let Some(op) = StateOp::of(opcode) {
                 Box::new(alloc, op)?
             } else {
                 continue;

@@ -21,6 +21,7 @@ use sample_calls::running::finished_by;
 use std::alloc::{AllocError, Global};
 use std::sync::Arc;
 use std::test::Fail;
+use teal_table::Opcode;
 use teal_value::Failure;
 
 /// A set with an object of every opcode.

@@ -2,7 +2,8 @@
 
 use avm_call_codec::CallCodec;
 use avm_items::{CallData, CallDataFault, Completion};
-use avm_ledger::{Ledger, LedgerFault, Schema, State};
+use avm_ledger::{Ledger, LedgerFault};
+use avm_states::{Schema, State};
 use std::alloc::Global;
 use std::test::Fail;
 use teal_check::check;

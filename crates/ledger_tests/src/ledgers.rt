@@ -1,7 +1,8 @@
 //! Ledgers that are made, changed and read back.
 
 use avm_items::{Item, ItemMap, ItemValue, item_of, put_open};
-use avm_ledger::{Application, EntryCounts, IdsEnd, Ledger, OpenLedger, Schema, State};
+use avm_ledger::{Application, IdsEnd, Ledger, OpenLedger};
+use avm_states::{EntryCounts, Schema, State};
 use std::alloc::Global;
 use std::test::Fail;
 use teal_check::{Program, check};

@@ -6,7 +6,7 @@ use Rattle.std.specs.List.{AllByRecursion, insert}
 use Rattle.std.specs.List.Sorted.{IsStrictlySortedBy}
 use Rattle.std.specs.Map.{keys_of, set_value}
 use Rattle.std.specs.BTreeMap.{insert_entry, is_at}
-use Rattle.avm_ledger.proofs.Maps.{is_Equal, set_value-there, sorted-inserted}
+use Rattle.sorted_entries.proofs.Maps.{is_Equal, set_value-there, sorted-inserted}
 use Rattle.std.specs.Cmp.{tied_itself}
 use Rattle.std.proofs.lemmas.Option.{same_Some}
 use Rattle.avm_items.specs.declared.item.Item.{Item}

@@ -7,7 +7,7 @@ use Rattle.std.specs.List.Sorted.{IsStrictlySortedBy}
 use Rattle.std.specs.Map.{lookup, keys_of}
 use Rattle.std.specs.BTreeMap.{insert_entry, is_at}
 use Rattle.std.specs.declared.cmp.Ordering.TheVariants.{Less}
-use Rattle.avm_ledger.proofs.Maps.{is_Equal, above_tied, below_none, lookup-inserted, lookup-inserted_other, same_map}
+use Rattle.sorted_entries.proofs.Maps.{is_Equal, above_tied, below_none, lookup-inserted, lookup-inserted_other, same_map}
 use Rattle.avm_items.specs.declared.item.Item.{Item}
 use Rattle.avm_items.specs.Items.{item_cmp}
 use Rattle.avm_items.proofs.Puts.{item_same, item_total}

@@ -10,6 +10,7 @@ use avm_state_ops::StateOp;
 use sample_calls::full_set;
 use std::alloc::Global;
 use std::test::Fail;
+use teal_table::Opcode;
 
 /// A set with an object of every opcode.
 pub fn full_ops(alloc: Global) -> Result<OpSet, Fail>

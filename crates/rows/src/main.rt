@@ -25,6 +25,7 @@ use avm_ops::{BoxedOp, Op, OpSet, Ops};
 use avm_state_ops::StateOp;
 use std::alloc::Global;
 use std::io::{self, ErrorKind};
+use teal_table::Opcode;
 
 /// What the rows since the last command have said.
 #[derive(Drop)]
@@ -48,12 +49,14 @@ fn main(rt: HostRuntime) -> io::Result<()> {
     let alloc = rt.alloc();
     let mut ops: OpSet = Ops::new(alloc)?;
     for code in 0..256usize {
-        let code = code as u8;
-        let op: Box<dyn Op> = if let Some(op) = ArithOp::of(code) {
+        let Some(opcode) = Opcode::of(code as u8) else {
+            continue;
+        };
+        let op: Box<dyn Op> = if let Some(op) = ArithOp::of(opcode) {
             Box::new(alloc, op)?
-        } else if let Some(op) = FlowOp::of(code) {
+        } else if let Some(op) = FlowOp::of(opcode) {
             Box::new(alloc, op)?
-        } else if let Some(op) = StateOp::of(code) {
+        } else if let Some(op) = StateOp::of(opcode) {
             Box::new(alloc, op)?
         } else {
             continue;

@@ -2,7 +2,8 @@
 
 use avm_call::Call;
 use avm_items::{Addresses, CallData, Completion};
-use avm_ledger::{Header, Profile, Schema};
+use avm_ledger::{Header, Profile};
+use avm_states::Schema;
 use std::alloc::Global;
 use std::test::Fail;
 use teal_value::{Address, ByteString, ByteStrings, Uints};

@@ -6,12 +6,14 @@ macro_rules! full_set {
     ($alloc:expr) => {{
         let mut ops: OpSet = Ops::new($alloc)?;
         for code in 0..256usize {
-            let code = code as u8;
-            let op: Box<dyn Op> = if let Some(op) = ArithOp::of(code) {
+            let Some(opcode) = Opcode::of(code as u8) else {
+                continue;
+            };
+            let op: Box<dyn Op> = if let Some(op) = ArithOp::of(opcode) {
                 Box::new($alloc, op)?
-            } else if let Some(op) = FlowOp::of(code) {
+            } else if let Some(op) = FlowOp::of(opcode) {
                 Box::new($alloc, op)?
-            } else if let Some(op) = StateOp::of(code) {
+            } else if let Some(op) = StateOp::of(opcode) {
                 Box::new($alloc, op)?
             } else {
                 continue;

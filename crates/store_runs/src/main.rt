@@ -18,6 +18,7 @@ use avm_state_ops::StateOp;
 use sample_calls::full_set;
 use std::env;
 use std::test::Fail;
+use teal_table::Opcode;
 
 /// The scenarios.
 const NAMES: [&str; 5] = ["values", "skew", "parts", "prunes", "marks"];

@@ -19,6 +19,7 @@ use sample_calls::running::finished_by;
 use std::alloc::Global;
 use std::sync::Arc;
 use std::test::Fail;
+use teal_table::Opcode;
 use teal_value::{Address, Failure, Value};
 
 /// An attempt that has read all that its call asks for.

@@ -1,6 +1,6 @@
 use Rattle.std.proofs.Common.{◌+◌, ◌-◌, ◌∙◌, ap, arith}
 use Rattle.std.proofs.lemmas.Result.{err_from_is_err_and}
-use Rattle.avm_ledger.specs.Entries.{with_entry}
+use Rattle.avm_states.specs.Entries.{with_entry}
 use Rattle.avm_ledger.proofs.EntriesReading.{goes_on, no_key, no_value, short_key}
 use Rattle.avm_ledger.proofs.state_reading.entries_of.Goals as goal
 

@@ -1,6 +1,6 @@
 use Rattle.std.proofs.Common.{Some, sym, ap, ◌∙◌}
 use Rattle.std.specs.Option.{option_copied}
-use Rattle.avm_ledger.specs.Schemas.{counts_after, is_within}
+use Rattle.avm_states.specs.Schemas.{counts_after, is_within}
 use Rattle.avm_state_ops.proofs.Rows.{put_over_schema}
 use Rattle.avm_state_ops.proofs.writes.counts_of_put.Goals as goal
 

@@ -2,7 +2,7 @@ use Rattle.std.proofs.Common.{rules, ◌≡◌, true, nat_le, length, Some}
 use Rattle.std.specs.Option.{option_copied}
 use Rattle.avm_items.specs.Asks.{answer_from}
 use Rattle.avm_items.specs.Environments.{known_to}
-use Rattle.avm_ledger.specs.Schemas.{keeps_kind}
+use Rattle.avm_states.specs.Schemas.{keeps_kind}
 use Rattle.avm_ops.specs.Objects.{context_of}
 use Rattle.avm_ops.specs.States.{global_put, global_put_over, value_length}
 use Rattle.avm_state_ops.specs.Parts.{after_put, known_row}

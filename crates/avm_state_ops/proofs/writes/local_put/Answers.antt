@@ -8,7 +8,7 @@ use Rattle.avm_items.specs.declared.item.Item.TheVariants as item
 use Rattle.avm_items.specs.declared.item_value.ItemValue.TheVariants as value
 use Rattle.avm_items.specs.Items.{with_item}
 use Rattle.avm_items.specs.Environments.{known_to}
-use Rattle.avm_ledger.specs.Entries.{with_entry}
+use Rattle.avm_states.specs.Entries.{with_entry}
 use Rattle.avm_ops.specs.declared.op.Stop.TheVariants as stop
 use Rattle.avm_ops.specs.Frame.{there}
 use Rattle.avm_ops.specs.Objects.{context_of}

@@ -1,7 +1,7 @@
 use Rattle.std.proofs.Common.{◌≡◌, ap, sym, ◌∙◌}
-use Rattle.avm_ledger.specs.Entries.{Entries}
+use Rattle.avm_states.specs.Entries.{Entries}
 use Rattle.avm_items.specs.declared.item_value.ItemValue.TheVariants.{Local}
-use Rattle.avm_ledger.proofs.SameStates.{states-Decides}
+use Rattle.avm_states.proofs.SameStates.{states-Decides}
 use Rattle.avm_items.proofs.item_value.ItemValue.is_same.Goals as goal
 
 states_in : (s t : Entries) → Local s ≡ Local t → s ≡ t

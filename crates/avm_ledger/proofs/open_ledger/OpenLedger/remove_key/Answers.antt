@@ -1,4 +1,4 @@
-use Rattle.avm_ledger.specs.Entries.{without_entry}
+use Rattle.avm_states.specs.Entries.{without_entry}
 use Rattle.avm_ledger.proofs.Changes.{written_in_order, written_state}
 use Rattle.avm_ledger.proofs.open_ledger.OpenLedger.remove_key.Goals as goal
 

@@ -1,5 +1,5 @@
 use Rattle.std.proofs.lemmas.Result.{IfOk-weaker, on_err_weaker}
-use Rattle.avm_ledger.specs.Entries.{with_entry}
+use Rattle.avm_states.specs.Entries.{with_entry}
 use Rattle.avm_ledger.proofs.Changes.{written_in_order, written_state, kept_state}
 use Rattle.avm_ledger.proofs.open_ledger.OpenLedger.set_key.Goals as goal
 

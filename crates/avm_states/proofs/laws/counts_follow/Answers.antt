@@ -1,5 +1,5 @@
-use Rattle.avm_ledger.proofs.Counts as counts
-use Rattle.avm_ledger.proofs.laws.counts_follow.Goals as goal
+use Rattle.avm_states.proofs.Counts as counts
+use Rattle.avm_states.proofs.laws.counts_follow.Goals as goal
 
 pub returns-clause-puts : goal.returns-clause-puts
 returns-clause-puts c = counts.follow_puts

@@ -1,10 +1,10 @@
 use Rattle.std.proofs.Common.{arith, subst, sym, ap, ◌∙◌}
-use Rattle.avm_ledger.specs.Entries.{IsInKeyOrder}
-use Rattle.avm_ledger.specs.Schemas.{uncounted}
-use Rattle.avm_ledger.proofs.Changes.{byte_total}
-use Rattle.avm_ledger.proofs.Maps.{sorted-removed}
-use Rattle.avm_ledger.proofs.Counts.{counted_after_delete}
-use Rattle.avm_ledger.proofs.state.State.remove.Goals as goal
+use Rattle.avm_states.specs.Entries.{IsInKeyOrder}
+use Rattle.avm_states.specs.Schemas.{uncounted}
+use Rattle.avm_states.proofs.KeyOrder.{byte_total}
+use Rattle.sorted_entries.proofs.Maps.{sorted-removed}
+use Rattle.avm_states.proofs.Counts.{counted_after_delete}
+use Rattle.avm_states.proofs.state.State.remove.Goals as goal
 
 pub invariant_of-self : goal.invariant_of-self
 invariant_of-self c =

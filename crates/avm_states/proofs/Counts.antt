@@ -3,24 +3,19 @@ use Rattle.std.proofs.Common.{◌≡◌, ◌<◌, ◌≤◌, ◌+◌, ◌^◌, �
 use Rattle.std.specs.Ordering.{is_eq, match_ordering}
 use Rattle.std.specs.declared.cmp.Ordering.{Ordering}
 use Rattle.std.specs.declared.cmp.Ordering.TheVariants.{Less, Equal, Greater}
-use Rattle.std.specs.Cmp.{IsTotalOrder}
-use Rattle.std.proofs.lemmas.Cmp.{nat_list_cmp_total}
 use Rattle.std.specs.Map.{keys_of}
 use Rattle.std.specs.List.{All, AllByRecursion}
 use Rattle.std.specs.BTreeMap.{is_at}
-use Rattle.std.specs.FinMap.{nat_cmp-IsAntisymmetric, slice_cmp-IsAntisymmetric}
 use Rattle.std.proofs.lemmas.List.Elements.{All-head, All-nil, All-tail}
 use Rattle.std.proofs.lemmas.Map.Views.{All-keys-insert_entry, All-map-remove_entry}
 use Rattle.std.specs.List.Sorted.{IsStrictlySortedBy}
 use Rattle.teal_value.specs.declared.value.Value.{Value}
 use Rattle.teal_value.specs.declared.value.Value.TheVariants.{Uint, Bytes}
-use Rattle.avm_ledger.specs.declared.schema.Schema.{Schema}
-use Rattle.avm_ledger.specs.Entries.{Entries, byte_cmp, value_of_key, with_entry, without_entry, IsInKeyOrder}
-use Rattle.avm_ledger.specs.Schemas.{IsCounted, no_entries, count_with, count_without, counts_in, uncounted, counts_after, keeps_kind}
-use Rattle.avm_ledger.proofs.Maps.{below_none, all_below, is_Equal}
-
-byte_total : IsTotalOrder byte_cmp
-byte_total = nat_list_cmp_total
+use Rattle.avm_states.specs.declared.schema.Schema.{Schema}
+use Rattle.avm_states.specs.Entries.{Entries, byte_cmp, value_of_key, with_entry, without_entry, IsInKeyOrder}
+use Rattle.avm_states.specs.Schemas.{IsCounted, no_entries, count_with, count_without, counts_in, uncounted, counts_after, keeps_kind}
+use Rattle.sorted_entries.proofs.Maps.{below_none, all_below, is_Equal}
+use Rattle.avm_states.proofs.KeyOrder.{byte_same, byte_total}
 
 pub none_counted : IsCounted [] (record { uints = 0; bytes = 0 }) × IsInKeyOrder []
 unfolding IsStrictlySortedBy
@@ -183,5 +178,5 @@ no_long_key (e ∷ es) key short long =
     at_key : value_of_key es key ≡ None → (b : Bool) → is_eq (byte_cmp key e.0) ≡ b → cond b (Some e.1) (value_of_key es key) ≡ None
     at_key later false other = later
     at_key later true same =
-        let key_is : key ≡ e.0 = slice_cmp-IsAntisymmetric nat_cmp-IsAntisymmetric key e.0 (is_Equal (byte_cmp key e.0) same) in
+        let key_is : key ≡ e.0 = byte_same key e.0 (is_Equal (byte_cmp key e.0) same) in
         absurd (omega (arith, All-head (λ k. length k ≤ 64) e.0 (keys_of es) short, long, ap length key_is))

@@ -7,7 +7,7 @@ use Rattle.std.proofs.lemmas.Slice.Eq.{slice_eq-Decides, bytes_eq-Decides}
 use Rattle.teal_value.specs.declared.value.Value.{Value}
 use Rattle.teal_value.specs.SameValues.{are_same_bytes, is_same}
 use Rattle.teal_value.specs.SameValueLaws.{is_same-Decides}
-use Rattle.avm_ledger.specs.Entries.{Entries, is_same_entry}
+use Rattle.avm_states.specs.Entries.{Entries, is_same_entry}
 
 first_true : (a b : Bool) → (a && b) ≡ true → (a ≡ true) × (b ≡ true)
 first_true true b e = (refl, e)

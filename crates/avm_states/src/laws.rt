@@ -1,6 +1,6 @@
 //! The laws of states, each the contract of a function without work.
 
-ghost use Rattle.avm_ledger.specs.Schemas.{FollowPuts, FollowDeletes, StayWithKind};
+ghost use Rattle.avm_states.specs.Schemas.{FollowPuts, FollowDeletes, StayWithKind};
 
 /// How many uints and byte strings a state has, after a put and after a delete.
 pub fn counts_follow()

@@ -1,10 +1,10 @@
 use Rattle.std.proofs.Common.{◌+◌, arith, sym, ap, subst, length, ◌∙◌}
-use Rattle.avm_ledger.specs.Entries.{IsInKeyOrder}
-use Rattle.avm_ledger.specs.Schemas.{IsCounted, uncounted}
-use Rattle.avm_ledger.proofs.Changes.{byte_total}
-use Rattle.avm_ledger.proofs.Counts.{counted_after_put, few}
-use Rattle.avm_ledger.proofs.Maps.{sorted-inserted}
-use Rattle.avm_ledger.proofs.state.State.insert.Goals as goal
+use Rattle.avm_states.specs.Entries.{IsInKeyOrder}
+use Rattle.avm_states.specs.Schemas.{IsCounted, uncounted}
+use Rattle.avm_states.proofs.KeyOrder.{byte_total}
+use Rattle.avm_states.proofs.Counts.{counted_after_put, few}
+use Rattle.sorted_entries.proofs.Maps.{sorted-inserted}
+use Rattle.avm_states.proofs.state.State.insert.Goals as goal
 
 -- The entries after the put are counted by the sum, and are as many as a length may be.
 counted : (c : goal.After-without) → IsCounted c.put.new.entries.items (record { uints = c.without.result.uints + c.of-count.result.uints; bytes = c.without.result.bytes + c.of-count.result.bytes })

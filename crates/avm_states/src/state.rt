@@ -2,8 +2,8 @@
 
 ghost use Rattle.std.specs.Prelude.{◌≡◌, ◌≤◌, [], None, IfErr, IfOk, IfSome, length, List, ℕ};
 ghost use Rattle.std.specs.Option.{option_copied};
-ghost use Rattle.avm_ledger.specs.Entries.{value_of_key, with_entry, without_entry, IsInKeyOrder};
-ghost use Rattle.avm_ledger.specs.Schemas.{counts_in};
+ghost use Rattle.avm_states.specs.Entries.{value_of_key, with_entry, without_entry, IsInKeyOrder};
+ghost use Rattle.avm_states.specs.Schemas.{counts_in};
 
 use crate::entry_counts::EntryCounts;
 use sorted_entries::{put, take, value_of};
@@ -25,8 +25,8 @@ impl Model for State {
 
     ghost Value = { List (List ℕ × StateValue) };
 
-    ghost use Rattle.avm_ledger.specs.Entries.{IsInKeyOrder};
-    ghost use Rattle.avm_ledger.specs.Schemas.{IsCounted};
+    ghost use Rattle.avm_states.specs.Entries.{IsInKeyOrder};
+    ghost use Rattle.avm_states.specs.Schemas.{IsCounted};
 
     ghost view = { λ s. s.entries.items };
 
@@ -45,7 +45,7 @@ impl State {
     }
 
     /// No entries, in room for so many.
-    pub(crate) fn with_room(alloc: Global, entries: usize) -> Result<Self, AllocError>
+    pub fn with_room(alloc: Global, entries: usize) -> Result<Self, AllocError>
         ensures { IfOk result (λ state. state ≡ []) }
     {
         Ok(State {
@@ -154,7 +154,7 @@ impl PartialEq for State {
     ghost use Rattle.std.specs.Cmp.{partial_equiv_from_equiv, on_equiv, and_equiv};
     ghost use Rattle.std.specs.Cmp.Lexicographic.{pointwise, lists_equiv, nat_list_eq_equiv};
     ghost use Rattle.teal_value.specs.SameValueLaws.{is_same_equiv};
-    ghost use Rattle.avm_ledger.specs.Entries.{is_same_entry};
+    ghost use Rattle.avm_states.specs.Entries.{is_same_entry};
 
     ghost eq = { pointwise is_same_entry };
 

@@ -2,7 +2,7 @@
 
 ghost use Rattle.std.specs.Prelude.{◌≡◌, ◌+◌, ◌<◌, ◌^◌, MatchOption, false, true};
 ghost use Rattle.std.specs.Option.{option_copied};
-ghost use Rattle.avm_ledger.specs.Schemas.{count_with, is_within, no_entries, uncounted};
+ghost use Rattle.avm_states.specs.Schemas.{count_with, is_within, no_entries, uncounted};
 
 use crate::schema::Schema;
 use std::marker::Model;
@@ -18,7 +18,7 @@ pub struct EntryCounts {
 }
 
 impl Model for EntryCounts {
-    ghost use Rattle.avm_ledger.specs.declared.schema.Schema.{Schema};
+    ghost use Rattle.avm_states.specs.declared.schema.Schema.{Schema};
 
     ghost Value = { Schema };
 

@@ -1,0 +1,3 @@
+pub mod KeyOrder
+pub mod Counts
+pub mod SameStates
