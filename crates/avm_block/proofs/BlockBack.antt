@@ -16,7 +16,7 @@ use Rattle.avm_ledger.specs.FieldReader.{bytes_at}
 use Rattle.avm_ledger.proofs.FieldsBack.{then, bytes_back, byte_back, u32_back, u64_back}
 use Rattle.avm_items.specs.declared.call_data.CallData.{CallData}
 use Rattle.avm_items.specs.CallSpelling.{call_bytes}
-use Rattle.avm_items.specs.CallReading.{HasFields}
+use Rattle.avm_items.specs.CallRoundTrip.{HasFields}
 use Rattle.avm_items.proofs.CallBack.{call_back}
 use Rattle.avm_call.specs.OutcomeSpelling.{outcome_bytes}
 use Rattle.avm_block.specs.declared.block_fault.BlockFault.TheVariants.{Truncated, Digest}
@@ -24,7 +24,7 @@ use Rattle.avm_block.specs.declared.entry.Entry.{Entry}
 use Rattle.avm_block.specs.Blocks.{Block}
 use Rattle.avm_block.specs.BlockSpelling.{magic, format_bytes, entry_bytes, body_bytes, block_bytes}
 use Rattle.avm_block.specs.BlockReader.{magic_at, profile_at, header_at, timestamp_at, in_block, call_in, entry_at, entries_at, count_at, body_at, sealed, block_at}
-use Rattle.avm_block.specs.BlockReading.{IsEntry, AreEntries, IsHeader, IsBlock}
+use Rattle.avm_block.specs.BlockRoundTrip.{IsEntry, AreEntries, IsHeader, IsBlock}
 use Rattle.avm_block.proofs.OutcomeBack.{outcome_back}
 
 same_bytes : (xs : List ℕ) → are_same_bytes xs xs ≡ true

@@ -2,11 +2,11 @@
 use Rattle.std.proofs.Common.{◌≡◌, ℕ, ◌^◌, ◌<◌, true, Bool, List, [], ◌∷◌, All}
 use Rattle.std.proofs.lemmas.List.Elements.{All-head, All-tail}
 use Rattle.avm_items.specs.declared.call_data.CallData.{CallData}
-use Rattle.avm_items.specs.CallReading.{HasFields}
+use Rattle.avm_items.specs.CallRoundTrip.{HasFields}
 use Rattle.avm_block.specs.declared.entry.Entry.{Entry}
 use Rattle.avm_block.specs.Blocks.{RisesAbove}
 use Rattle.avm_call.specs.Places.{HasPlace}
-use Rattle.avm_block.specs.BlockReading.{AreEntries}
+use Rattle.avm_block.specs.BlockRoundTrip.{AreEntries}
 
 abbrev IsSmall : Entry → Type 0
 IsSmall e = e.timestamp < 2 ^ 64

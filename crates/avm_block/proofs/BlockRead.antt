@@ -9,7 +9,7 @@ use Rattle.avm_block.specs.declared.block_fault.BlockFault.{BlockFault}
 use Rattle.avm_block.specs.AcceptedCalls.{is_accepted}
 use Rattle.avm_block.specs.Blocks.{Block}
 use Rattle.avm_block.specs.BlockReader.{body_at, block_at}
-use Rattle.avm_block.specs.BlockReading.{IsBlock}
+use Rattle.avm_block.specs.BlockRoundTrip.{IsBlock}
 use Rattle.avm_block.specs.BlockSpelling.{body_bytes, block_bytes}
 use Rattle.avm_block.proofs.BlockBack.{block_back}
 use Rattle.avm_block.proofs.BlockSpelled.{body_spelled, block_spelled}

@@ -21,7 +21,7 @@ use Rattle.avm_items.specs.declared.call_fault.CallDataFault.{CallDataFault}
 use Rattle.avm_items.specs.declared.call_data.CallData.{CallData}
 use Rattle.avm_items.specs.CallSpelling.{call_bytes}
 use Rattle.avm_items.specs.CallReader.{call_front}
-use Rattle.avm_items.specs.CallReading.{HasFields}
+use Rattle.avm_items.specs.CallRoundTrip.{HasFields}
 use Rattle.avm_items.proofs.CallSpelled.{front_spells}
 use Rattle.avm_block.specs.declared.block_fault.BlockFault.{BlockFault}
 use Rattle.avm_block.specs.declared.block_fault.BlockFault.TheVariants.{Magic, Format, Truncated, Rest, Order, Field, Digest}
@@ -30,7 +30,7 @@ use Rattle.avm_block.specs.Blocks.{Block}
 use Rattle.avm_block.specs.BlockSpelling.{magic, format_bytes, entry_bytes, body_bytes, block_bytes}
 use Rattle.avm_block.specs.OutcomeReader.{outcome_at}
 use Rattle.avm_block.specs.BlockReader.{magic_at, profile_of_format, profile_at, header_at, timestamp_at, in_block, call_in, entry_at, entries_at, count_at, body_at, sealed, block_at}
-use Rattle.avm_block.specs.BlockReading.{IsEntry, AreEntries, IsHeader, IsBlock}
+use Rattle.avm_block.specs.BlockRoundTrip.{IsEntry, AreEntries, IsHeader, IsBlock}
 use Rattle.avm_block.proofs.BlockBack.{front_is}
 use Rattle.avm_block.proofs.OutcomeSpelled.{kept, of_kind, outcome_spelled}
 

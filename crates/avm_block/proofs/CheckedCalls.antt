@@ -8,7 +8,7 @@ use Rattle.teal_check.specs.WellFormed.{WellFormed, checked}
 use Rattle.teal_check.proofs.CheckedPrograms.{is_checked}
 use Rattle.avm_items.specs.declared.call_data.CallData.{CallData}
 use Rattle.avm_items.specs.CallFields.{creates}
-use Rattle.avm_items.specs.CallReading.{IsAddress, IsString, IsWord, HasFields}
+use Rattle.avm_items.specs.CallRoundTrip.{IsAddress, IsString, IsWord, HasFields}
 use Rattle.avm_call.specs.declared.call_fault.CallFault.{CallFault}
 use Rattle.avm_call.specs.declared.call_fault.CallFault.TheVariants as fault
 use Rattle.avm_call.specs.Ends.{is_program}

@@ -16,7 +16,7 @@ use Rattle.avm_items.specs.CallReader.{call_front}
 use Rattle.avm_block.specs.declared.block_fault.BlockFault.{BlockFault}
 use Rattle.avm_block.specs.declared.block_fault.BlockFault.TheVariants.{Magic, Format, Truncated, Rest, Order, Field, Digest}
 use Rattle.avm_block.specs.declared.entry.Entry.{Entry}
-use Rattle.avm_block.specs.Blocks.{Block}
+use Rattle.avm_block.specs.Blocks.{Block, most_calls}
 use Rattle.avm_block.specs.BlockSpelling.{magic}
 use Rattle.avm_block.specs.OutcomeReader.{outcome_at}
 
@@ -69,7 +69,7 @@ entries_at accepted (suc n) before bytes =
     entry_at accepted before bytes >>= λ e. entries_at accepted n e.0.timestamp e.1 >>= λ es. Ok (e.0 ∷ es.0, es.1)
 
 abbrev pub count_at : List ℕ → Front BlockFault ℕ
-count_at bytes = number_at Truncated w32 bytes >>= λ n. if nat_le n.0 4096 then Ok n else Err Field
+count_at bytes = number_at Truncated w32 bytes >>= λ n. if nat_le n.0 most_calls then Ok n else Err Field
 
 -- all up to the last digest
 abbrev pub body_at : (Profile → CallData → Bool) → List ℕ → Front BlockFault Block

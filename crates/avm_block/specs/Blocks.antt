@@ -8,6 +8,10 @@ use Rattle.avm_call.specs.declared.outcome.Outcome.{Outcome}
 use Rattle.avm_call.specs.Replay.{outcomes, replayed}
 use Rattle.avm_block.specs.declared.entry.Entry.{Entry}
 
+-- how many calls a block has at most
+abbrev pub most_calls : ℕ
+most_calls = 4096
+
 pub record Block : Type 0 where
   pub base : List ℕ
   pub header : Header

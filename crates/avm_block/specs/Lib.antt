@@ -3,6 +3,6 @@ pub mod BlockSpelling
 pub mod OutcomeReader
 pub mod BlockReader
 pub mod AcceptedCalls
-pub mod BlockReading
+pub mod BlockRoundTrip
 pub mod WorkedBlocks
 pub mod FaultNames

@@ -4,7 +4,7 @@ ghost use Rattle.std.specs.Prelude.{◌≡◌, ◌≤◌, true, All, IfOk, vec_l
 ghost use Rattle.avm_call.specs.Places.{HasPlace};
 ghost use Rattle.avm_block.specs.AcceptedCalls.{is_accepted};
 ghost use Rattle.avm_block.specs.Blocks.{RisesAbove};
-ghost use Rattle.avm_block.specs.BlockReading.{IsBlock};
+ghost use Rattle.avm_block.specs.BlockRoundTrip.{IsBlock};
 
 use crate::call_sizes::entries_fit;
 use crate::entry::Entry;
@@ -29,7 +29,7 @@ pub struct Block {
 impl Model for Block {
     ghost use Rattle.avm_block.specs.AcceptedCalls.{is_accepted};
     ghost use Rattle.avm_block.specs.Blocks.{Block as BlockRecord};
-    ghost use Rattle.avm_block.specs.BlockReading.{IsBlock};
+    ghost use Rattle.avm_block.specs.BlockRoundTrip.{IsBlock};
 
     ghost Value = { BlockRecord };
 

@@ -7,7 +7,7 @@ ghost use Rattle.avm_block.specs.declared.block_fault.BlockFault.TheVariants.{Fi
 ghost use Rattle.avm_block.specs.AcceptedCalls.{is_accepted};
 ghost use Rattle.avm_block.specs.Blocks.{Block as BlockRecord};
 ghost use Rattle.avm_block.specs.BlockReader.{block_at, block_fault_of, body_at, call_in, count_at, entries_at, entry_at, in_block, magic_at, timestamp_at};
-ghost use Rattle.avm_block.specs.BlockReading.{IsBlock};
+ghost use Rattle.avm_block.specs.BlockRoundTrip.{IsBlock};
 ghost use Rattle.avm_block.specs.BlockSpelling.{block_bytes, magic};
 
 use crate::accepted_calls::accepts;

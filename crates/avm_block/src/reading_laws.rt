@@ -9,7 +9,7 @@ ghost use Rattle.avm_block.specs.declared.block_fault.BlockFault.TheVariants.{Fi
 ghost use Rattle.avm_block.specs.BlockSpelling.{magic};
 ghost use Rattle.avm_block.specs.OutcomeReader.{outcome_at};
 ghost use Rattle.avm_block.specs.BlockReader.{block_at};
-ghost use Rattle.avm_block.specs.BlockReading.{NoneBeginsAnother, ReadsBack, SpellsBack};
+ghost use Rattle.avm_block.specs.BlockRoundTrip.{NoneBeginsAnother, ReadsBack, SpellsBack};
 ghost use Rattle.avm_block.specs.WorkedBlocks.{any_call, up_to_count, zeros};
 
 /// A block is read from its bytes.

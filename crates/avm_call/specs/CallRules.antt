@@ -5,6 +5,7 @@ use Rattle.teal_table.specs.declared.shape.Version.TheVariants.{Two, Three}
 use Rattle.teal_check.specs.declared.fault.CheckFault.{CheckFault}
 use Rattle.teal_check.specs.WellFormed.{WellFormed, checked}
 use Rattle.avm_states.specs.declared.schema.Schema.{Schema}
+use Rattle.avm_states.specs.Schemas.{most_global_entries, most_local_entries}
 use Rattle.avm_ledger.specs.declared.header.Profile.{Profile}
 use Rattle.avm_ledger.specs.declared.header.Profile.TheVariants as profile
 use Rattle.avm_items.specs.declared.call_data.Completion.{Completion}
@@ -41,7 +42,7 @@ entries_in s = s.uints + s.bytes
 -- a creation alone brings schemas
 abbrev pub fits_schemas : CallData → Bool
 fits_schemas call =
-    if creates call then nat_le (entries_in call.global_schema) 64 && nat_le (entries_in call.local_schema) 16
+    if creates call then nat_le (entries_in call.global_schema) most_global_entries && nat_le (entries_in call.local_schema) most_local_entries
     else (entries_in call.global_schema == 0) && (entries_in call.local_schema == 0)
 
 -- the first rule on programs and schemas that the fields break, but for those of programs themselves

@@ -4,7 +4,7 @@ ghost use Rattle.std.specs.Prelude.{◌≡◌, ◌++◌, ◌<◌, ◌≤◌, len
 ghost use Rattle.teal_value.specs.Answer.{Gives};
 ghost use Rattle.avm_items.specs.declared.call_data.CallData.{CallData as CallFields};
 ghost use Rattle.avm_items.specs.CallReader.{call_at, call_from};
-ghost use Rattle.avm_items.specs.CallReading.{HasFields};
+ghost use Rattle.avm_items.specs.CallRoundTrip.{HasFields};
 ghost use Rattle.avm_items.specs.CallSpelling.{call_bytes};
 
 use crate::reading::{call_of, front_of};

@@ -4,7 +4,7 @@ ghost use Rattle.std.specs.Prelude.{◌≡◌, ◌+◌, ◌<◌, ◌≤◌, ◌�
 ghost use Rattle.std.specs.Option.{option_copied};
 ghost use Rattle.teal_value.specs.declared.fault.Fault.TheVariants.{StackFull};
 ghost use Rattle.teal_value.specs.declared.value.Value.TheVariants.{Uint, Bytes};
-ghost use Rattle.avm_cpu.specs.Machine.{filled, machine_at, with_stack};
+ghost use Rattle.avm_cpu.specs.Machine.{filled, machine_at, with_stack, most_values};
 ghost use Rattle.avm_cpu.specs.Operands.{one_uint, one_bytes, one_value, two_uints, two_bytes, two_values, uint_and_bytes, bytes_and_uint, bytes_and_value, value_and_uint, bytes_and_two_uints, value_and_two_uints, two_values_and_uint, two_uints_and_bytes, uint_bytes_and_value, value_below};
 
 use crate::constants::ByteConstants;
@@ -155,7 +155,7 @@ impl Cpu {
     /// How many values the stack holds.
     pub fn depth(&self) -> usize
         ensures depth { result ≡ length self.now.stack }
-        ensures fits { result ≤ 1000 }
+        ensures fits { result ≤ most_values }
     {
         self.stack.len()
     }
@@ -398,8 +398,8 @@ impl Cpu {
     /// Puts a value on top, where there is room.
     pub fn push(&mut self, value: Value) -> Result<(), Fault>
         ensures { MatchResult result
-            (λ _. (length self.old.stack < 1000) × (self.new ≡ with_stack self.old (value ∷ self.old.stack)))
-            (λ f. (1000 ≤ length self.old.stack) × (f ≡ StackFull) × (self.new ≡ self.old)) }
+            (λ _. (length self.old.stack < most_values) × (self.new ≡ with_stack self.old (value ∷ self.old.stack)))
+            (λ f. (most_values ≤ length self.old.stack) × (f ≡ StackFull) × (self.new ≡ self.old)) }
     {
         if self.stack.is_full() {
             return Err(Fault::StackFull);
@@ -411,8 +411,8 @@ impl Cpu {
     /// Puts two values on top, where there is room for both; the second becomes the top.
     pub fn push_pair(&mut self, below: Value, top: Value) -> Result<(), Fault>
         ensures { MatchResult result
-            (λ _. (length self.old.stack + 2 ≤ 1000) × (self.new ≡ with_stack self.old (top ∷ below ∷ self.old.stack)))
-            (λ f. (1000 < length self.old.stack + 2) × (f ≡ StackFull) × (self.new ≡ self.old)) }
+            (λ _. (length self.old.stack + 2 ≤ most_values) × (self.new ≡ with_stack self.old (top ∷ below ∷ self.old.stack)))
+            (λ f. (most_values < length self.old.stack + 2) × (f ≡ StackFull) × (self.new ≡ self.old)) }
     {
         if self.depth() + 2 > 1000 {
             return Err(Fault::StackFull);

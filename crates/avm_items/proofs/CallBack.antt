@@ -13,7 +13,7 @@ use Rattle.avm_items.specs.declared.call_data.CallData.{CallData}
 use Rattle.avm_items.specs.CallFields.{completion_number}
 use Rattle.avm_items.specs.CallSpelling.{address_bytes, call_bytes}
 use Rattle.avm_items.specs.CallReader.{completion_at, call_front, call_from, alone, call_at}
-use Rattle.avm_items.specs.CallReading.{IsAddress, IsString, IsWord, HasFields}
+use Rattle.avm_items.specs.CallRoundTrip.{IsAddress, IsString, IsWord, HasFields}
 
 completion_back : (done : Completion) (rest : List ℕ) → completion_at (u8_bytes (completion_number done) ++ rest) ≡ Ok (done, rest)
 completion_back completion.NoOp rest = then _ _ _ _ (byte_back Truncated 0 rest (omega arith)) refl

@@ -10,7 +10,7 @@ use Rattle.avm_items.specs.declared.call_fault.CallDataFault.{CallDataFault}
 use Rattle.avm_items.specs.declared.call_data.CallData.{CallData}
 use Rattle.avm_items.specs.CallSpelling.{call_bytes}
 use Rattle.avm_items.specs.CallReader.{call_front, call_at}
-use Rattle.avm_items.specs.CallReading.{HasFields}
+use Rattle.avm_items.specs.CallRoundTrip.{HasFields}
 use Rattle.avm_items.proofs.CallBack.{call_back_alone}
 use Rattle.avm_items.proofs.CallSpelled.{front_spells, call_spells}
 

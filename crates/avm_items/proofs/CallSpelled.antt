@@ -18,7 +18,7 @@ use Rattle.avm_items.specs.declared.call_data.CallData.{CallData}
 use Rattle.avm_items.specs.CallFields.{completion_number}
 use Rattle.avm_items.specs.CallSpelling.{address_bytes, call_bytes}
 use Rattle.avm_items.specs.CallReader.{completion_of, completion_at, call_front, call_from, alone, call_at}
-use Rattle.avm_items.specs.CallReading.{IsAddress, IsString, IsWord, HasFields}
+use Rattle.avm_items.specs.CallRoundTrip.{IsAddress, IsString, IsWord, HasFields}
 
 one_of : (n k : ℕ) (this : Completion) (others : Option Completion) (d : Completion) → completion_number this ≡ k → (others ≡ Some d → n ≡ completion_number d) → cond (eqb n k) (Some this) others ≡ Some d → n ≡ completion_number d
 one_of n k this others d is later e = at_test (eqb n k) refl e

@@ -8,7 +8,7 @@ pub mod Locality
 pub mod Counting
 pub mod CallSpelling
 pub mod CallReader
-pub mod CallReading
+pub mod CallRoundTrip
 pub mod WorkedCallBytes
 pub mod LedgerItems
 pub mod PutLaws

@@ -2,7 +2,7 @@
 use Rattle.std.specs.Prelude.{◌≡◌, ℕ, ◌^◌, ◌<◌, ◌≤◌, true, List, [], ◌∷◌, length, All, Some}
 use Rattle.teal_value.specs.declared.value.Value.{Value}
 use Rattle.avm_ledger.specs.declared.application.Application.{Application}
-use Rattle.avm_states.specs.Entries.{value_of_key}
+use Rattle.avm_states.specs.Entries.{value_of_key, most_key_bytes}
 use Rattle.avm_ledger.specs.declared.application.StoredApplication.{StoredApplication}
 use Rattle.avm_ledger.specs.Ledgers.{Ledger, application_at, with_row, empty_ledger}
 use Rattle.avm_states.specs.Schemas.{counts_in, counts_after, is_within}
@@ -22,7 +22,7 @@ pub record IsRowFor (l : Ledger) (id : ℕ) (row : Application) : Type 0 where
 
 -- a key's value that there is room for under the schema of its application, if this stands
 pub record IsEntryFor (l : Ledger) (id : ℕ) (key : List ℕ) (v : Value) : Type 0 where
-  pub key_length : length key ≤ 64
+  pub key_length : length key ≤ most_key_bytes
   pub value : IsStateValue v
   pub room : (app : StoredApplication) → application_at l id ≡ Some app
       → is_within (counts_after (value_of_key app.state key) (Some v) (counts_in app.state)) app.row.global_schema ≡ true

@@ -5,7 +5,7 @@ ghost use Rattle.avm_items.specs.declared.call_fault.CallDataFault.TheVariants.{
 ghost use Rattle.avm_items.specs.CallSpelling.{call_bytes};
 ghost use Rattle.avm_items.specs.CallReader.{call_at, call_from};
 ghost use Rattle.avm_items.specs.WorkedCallBytes.{behind_completion, up_to_completion, worked_call, zeros};
-ghost use Rattle.avm_items.specs.CallReading.{NoneBeginsAnother, ReadsBack, ReadsBackAlone, ReadsBackAtAPlace, SpellsBack, SpellsBackAlone, SpellsBackAtAPlace};
+ghost use Rattle.avm_items.specs.CallRoundTrip.{NoneBeginsAnother, ReadsBack, ReadsBackAlone, ReadsBackAtAPlace, SpellsBack, SpellsBackAlone, SpellsBackAtAPlace};
 
 /// A call is read from its bytes.
 pub fn reads_back()

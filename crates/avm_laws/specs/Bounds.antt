@@ -12,15 +12,16 @@ use Rattle.avm_call.specs.CallRules.{call_fault}
 use Rattle.avm_call.specs.Runs.{path}
 use Rattle.avm_call.specs.Calls.{Target, admitted, prepared, execution}
 use Rattle.avm_laws.specs.Rules.{IsCallOfBytes, HasWords, IsSound}
+use Rattle.avm_cpu.specs.Machine.{most_bytes, most_values}
 
 -- a number, or a byte string of at most 4096 bytes
 abbrev pub IsShortValue : Value → Type 0
 IsShortValue (Uint n) = Unit {0}
-IsShortValue (Bytes s) = length s ≤ 4096
+IsShortValue (Bytes s) = length s ≤ most_bytes
 
 -- at most 1000 values on the stack, and no long byte string there or in the scratch space
 pub record IsWithinBounds (stack scratch : List Value) : Type 0 where
-  pub height : length stack ≤ 1000
+  pub height : length stack ≤ most_values
   pub operands : All IsShortValue stack
   pub stored : All IsShortValue scratch
 

@@ -6,6 +6,7 @@ use Rattle.avm_ledger.specs.declared.application.Application.{Application}
 use Rattle.avm_ledger.specs.declared.application.StoredApplication.{StoredApplication}
 use Rattle.avm_ledger.specs.declared.header.Header.{Header}
 use Rattle.avm_states.specs.Entries.{Entries}
+use Rattle.avm_states.specs.Schemas.{most_global_entries, most_local_entries}
 use Rattle.avm_ledger.specs.Ledgers.{Ledger, empty_ledger}
 use Rattle.avm_ledger.specs.LedgerReader.{ledger_at}
 use Rattle.avm_ledger.specs.LedgerRules.{KeepsRules}
@@ -13,7 +14,7 @@ use Rattle.avm_items.specs.declared.call_data.Completion.TheVariants as completi
 use Rattle.avm_items.specs.declared.call_data.CallData.{CallData}
 use Rattle.avm_items.specs.CallFields.{creates}
 use Rattle.avm_items.specs.CallReader.{call_front}
-use Rattle.avm_items.specs.CallReading.{HasFields}
+use Rattle.avm_items.specs.CallRoundTrip.{HasFields}
 use Rattle.avm_items.specs.LedgerItems.{at, put}
 use Rattle.avm_items.specs.Asks.{result_over}
 use Rattle.avm_call.specs.CallRules.{call_fault}
@@ -71,8 +72,8 @@ pub record HasWords (h : Header) : Type 0 where
 pub record BringsPrograms (c : CallData) : Type 0 where
   pub approval : creates c ≡ true → is_program c.approval ≡ true
   pub clear : creates c ≡ true → is_program c.clear ≡ true
-  pub global_schema : creates c ≡ true → c.global_schema.uints + c.global_schema.bytes ≤ 64
-  pub local_schema : creates c ≡ true → c.local_schema.uints + c.local_schema.bytes ≤ 16
+  pub global_schema : creates c ≡ true → c.global_schema.uints + c.global_schema.bytes ≤ most_global_entries
+  pub local_schema : creates c ≡ true → c.local_schema.uints + c.local_schema.bytes ≤ most_local_entries
   pub new_approval : c.completion ≡ completion.UpdateApplication → is_program c.approval ≡ true
   pub new_clear : c.completion ≡ completion.UpdateApplication → is_program c.clear ≡ true
 

@@ -13,10 +13,10 @@ use Rattle.teal_check.specs.WellFormed.{checked}
 use Rattle.avm_ledger.specs.declared.ledger_fault.LedgerFault.{LedgerFault}
 use Rattle.avm_ledger.specs.declared.ledger_fault.LedgerFault.TheVariants.{Malformed, Truncated, Rest}
 use Rattle.avm_states.specs.declared.schema.Schema.{Schema}
-use Rattle.avm_states.specs.Entries.{Entries, byte_cmp}
+use Rattle.avm_states.specs.Entries.{Entries, byte_cmp, most_key_bytes, most_value_bytes}
 use Rattle.avm_ledger.specs.declared.application.StoredApplication.{StoredApplication}
 use Rattle.avm_ledger.specs.Ledgers.{Ledger, account_cmp}
-use Rattle.avm_states.specs.Schemas.{count_without}
+use Rattle.avm_states.specs.Schemas.{count_without, most_global_entries, most_local_entries}
 use Rattle.avm_ledger.specs.FieldReader.{Front, number_at, short_string_at, string_at, address_at, schema_at}
 
 -- a field that keeps a rule
@@ -33,10 +33,10 @@ pub record Room : Type 0 where
 abbrev pub room_of_schema : Schema → Room
 room_of_schema s = record { entries = s.uints + s.bytes; kinds = s }
 
--- A local state under the schema of its application; where this is gone, at most 16 entries of any kind.
+-- A local state under the schema of its application; where this is gone, as many entries of any kind as a schema may allow.
 abbrev pub local_room : Option StoredApplication → Room
 local_room (Some app) = room_of_schema app.row.local_schema
-local_room None = record { entries = 16; kinds = record { uints = 16; bytes = 16 } }
+local_room None = record { entries = most_local_entries; kinds = record { uints = most_local_entries; bytes = most_local_entries } }
 
 -- the application of an id
 abbrev pub stored_in : List (ℕ × StoredApplication) → ℕ → Option StoredApplication
@@ -48,13 +48,13 @@ rises_from_key None key = true
 rises_from_key (Some before) key = is_lt (byte_cmp before key)
 
 abbrev pub key_at : Option (List ℕ) → List ℕ → Front LedgerFault (List ℕ)
-key_at before bytes = short_string_at Truncated bytes >>= λ k. tested (nat_le (length k.0) 64 && rises_from_key before k.0) k
+key_at before bytes = short_string_at Truncated bytes >>= λ k. tested (nat_le (length k.0) most_key_bytes && rises_from_key before k.0) k
 
 abbrev pub uint_at : List ℕ → Front LedgerFault Value
 uint_at bytes = number_at Truncated w64 bytes >>= λ n. Ok (Uint n.0, n.1)
 
 abbrev pub bytes_value_at : List ℕ → Front LedgerFault Value
-bytes_value_at bytes = short_string_at Truncated bytes >>= λ s. tested (nat_le (length s.0) 64) (Bytes s.0, s.1)
+bytes_value_at bytes = short_string_at Truncated bytes >>= λ s. tested (nat_le (length s.0) most_value_bytes) (Bytes s.0, s.1)
 
 -- a value behind its kind, while there is room for one of the kind
 abbrev pub value_of_kind : Schema → ℕ × List ℕ → Front LedgerFault Value
@@ -92,7 +92,8 @@ program_at bytes = string_at Truncated bytes >>= λ p. tested (is_ok (checked p.
 abbrev pub stored_application_at : List ℕ → Front LedgerFault StoredApplication
 stored_application_at bytes =
     address_at Truncated bytes >>= λ creator. program_at creator.1 >>= λ approval. program_at approval.1 >>= λ clear.
-    limited_schema_at 64 clear.1 >>= λ global. limited_schema_at 16 global.1 >>= λ local. state_at (room_of_schema global.0) local.1 >>= λ state.
+    limited_schema_at most_global_entries clear.1 >>= λ global. limited_schema_at most_local_entries global.1 >>= λ local.
+    state_at (room_of_schema global.0) local.1 >>= λ state.
     Ok (
       record {
         row = record { creator = creator.0; approval = approval.0; clear = clear.0; global_schema = global.0; local_schema = local.0 };

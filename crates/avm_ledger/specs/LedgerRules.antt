@@ -7,19 +7,19 @@ use Rattle.teal_value.specs.declared.address.Address.{Address}
 use Rattle.teal_value.specs.declared.value.Value.{Value}
 use Rattle.teal_value.specs.declared.value.Value.TheVariants.{Uint, Bytes}
 use Rattle.teal_check.specs.WellFormed.{checked}
-use Rattle.avm_states.specs.Entries.{Entries, IsInKeyOrder}
+use Rattle.avm_states.specs.Entries.{Entries, IsInKeyOrder, most_key_bytes, most_value_bytes}
 use Rattle.avm_ledger.specs.declared.application.StoredApplication.{StoredApplication}
 use Rattle.avm_ledger.specs.Ledgers.{Ledger, account_cmp}
-use Rattle.avm_states.specs.Schemas.{counts_in}
+use Rattle.avm_states.specs.Schemas.{counts_in, most_global_entries, most_local_entries}
 use Rattle.avm_ledger.specs.LedgerReader.{Room, room_of_schema, local_room, stored_in}
 
 -- a value that may stand in a state
 abbrev pub IsStateValue : Value → Type 0
 IsStateValue (Uint n) = n < 2 ^ 64
-IsStateValue (Bytes s) = length s ≤ 64
+IsStateValue (Bytes s) = length s ≤ most_value_bytes
 
 abbrev pub IsStateEntry : List ℕ × Value → Type 0
-IsStateEntry e = (length e.0 ≤ 64) × IsStateValue e.1
+IsStateEntry e = (length e.0 ≤ most_key_bytes) × IsStateValue e.1
 
 -- a state that there is room for
 pub record IsStateIn (room : Room) (state : Entries) : Type 0 where
@@ -36,8 +36,8 @@ pub record IsApplicationBelow (next : ℕ) (e : ℕ × StoredApplication) : Type
   pub creator : length e.1.row.creator.0 ≡ 32
   pub approval : is_ok (checked e.1.row.approval) ≡ true
   pub clear : is_ok (checked e.1.row.clear) ≡ true
-  pub global_schema : e.1.row.global_schema.uints + e.1.row.global_schema.bytes ≤ 64
-  pub local_schema : e.1.row.local_schema.uints + e.1.row.local_schema.bytes ≤ 16
+  pub global_schema : e.1.row.global_schema.uints + e.1.row.global_schema.bytes ≤ most_global_entries
+  pub local_schema : e.1.row.local_schema.uints + e.1.row.local_schema.bytes ≤ most_local_entries
   pub state : IsStateIn (room_of_schema e.1.row.global_schema) e.1.state
 
 -- a local state with its account and id, beside these applications

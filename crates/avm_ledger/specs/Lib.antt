@@ -3,6 +3,6 @@ pub mod Spellings
 pub mod FieldReader
 pub mod LedgerReader
 pub mod LedgerRules
-pub mod LedgerReading
+pub mod LedgerRoundTrip
 pub mod WorkedLedgers
 pub mod FaultNames

@@ -246,8 +246,8 @@ fn room_of(application: Option<&StoredApplication>) -> (u16, Schema)
         }
         None => {
             let kinds = Schema {
-                uints: 16,
-                bytes: 16,
+                uints: MAX_LOCAL_ENTRIES as u8,
+                bytes: MAX_LOCAL_ENTRIES as u8,
             };
             (MAX_LOCAL_ENTRIES, kinds)
         }

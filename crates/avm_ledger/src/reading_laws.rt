@@ -6,7 +6,7 @@ ghost use Rattle.avm_ledger.specs.Ledgers.{empty_ledger};
 ghost use Rattle.avm_ledger.specs.Spellings.{ledger_bytes};
 ghost use Rattle.avm_ledger.specs.LedgerReader.{ledger_at};
 ghost use Rattle.avm_ledger.specs.WorkedLedgers.{falling_keys, one_local_state, two_entries, two_uints, up_to_state, worked_ledger, zeros};
-ghost use Rattle.avm_ledger.specs.LedgerReading.{KeepsTheRules, NoneBeginsAnother, ReadsBack, ReadsBackAlone, SpellsBack};
+ghost use Rattle.avm_ledger.specs.LedgerRoundTrip.{KeepsTheRules, NoneBeginsAnother, ReadsBack, ReadsBackAlone, SpellsBack};
 
 /// A ledger that keeps the rules is read from its bytes.
 pub fn reads_back()

@@ -14,8 +14,9 @@ use Rattle.avm_replay.specs.Plain.{first_beyond}
 use Rattle.avm_pool.specs.declared.pool_fault.PoolFault.{PoolFault}
 use Rattle.avm_pool.specs.declared.pool_fault.PoolFault.TheVariants as fault
 use Rattle.avm_pool.specs.Refusals.{AreFull, HasWorkers, IsFirstMissing, IsRefusal}
-use Rattle.avm_node.specs.ProposeCommands.{IsPoolFault, most_calls}
+use Rattle.avm_node.specs.ProposeCommands.{IsPoolFault}
 use Rattle.avm_node.specs.WorkerSets.{AreWorkerSets}
+use Rattle.avm_block.specs.Blocks.{most_calls}
 
 within_three : (needed : Profile) → fits_in needed profile.Three ≡ true
 within_three profile.Two = refl

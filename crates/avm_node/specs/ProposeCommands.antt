@@ -4,6 +4,7 @@ use Rattle.std.specs.List.{flat_map}
 use Rattle.hex.specs.Hex.{encode_lower}
 use Rattle.avm_items.specs.declared.call_data.CallData.{CallData}
 use Rattle.avm_block.specs.BlockSpelling.{block_bytes}
+use Rattle.avm_block.specs.Blocks.{most_calls}
 use Rattle.avm_pool.specs.declared.pool_fault.PoolFault.{PoolFault}
 use Rattle.avm_pool.specs.declared.pool_fault.PoolFault.TheVariants as fault
 use Rattle.avm_pool.specs.declared.proposal.Proposal.{Proposal}
@@ -14,10 +15,6 @@ use Rattle.avm_node.specs.DigitLines.{digit_lines}
 use Rattle.avm_node.specs.ProposeInputs.{ProposeInput, propose_input}
 use Rattle.avm_node.specs.Refusals.{refusal_reply}
 use Rattle.avm_node.specs.Replies.{Reply, done, refused}
-
--- how many calls a block has at most
-abbrev pub most_calls : ℕ
-most_calls = 4096
 
 abbrev pub left_line : ℕ → List ℕ
 left_line number = codes "left " ++ (decimal number ++ codes "\n")

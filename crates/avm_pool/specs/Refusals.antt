@@ -9,12 +9,13 @@ use Rattle.avm_ops.specs.Objects.{IsFull, IsLeastMissing, Slots}
 use Rattle.avm_replay.specs.Plain.{first_beyond}
 use Rattle.avm_pool.specs.declared.pool_fault.PoolFault.{PoolFault}
 use Rattle.avm_pool.specs.declared.pool_fault.PoolFault.TheVariants as fault
+use Rattle.avm_block.specs.Blocks.{most_calls}
 
 -- a set of objects for each of 1 to 8 workers, and no more calls than a block has entries
 pub record HasWorkers {O : Type 0} (sets : List (Slots O)) (calls : List CallData) : Type 0 where
   pub some : 0 < length sets
   pub few : length sets ≤ 8
-  pub calls_few : length calls ≤ 4096
+  pub calls_few : length calls ≤ most_calls
 
 -- each set has an object of every opcode, and so has the caller's own, which comes last
 abbrev pub AreFull : {O : Type 0} → (O → Opcode) → List (Slots O) → Slots O → Type 0

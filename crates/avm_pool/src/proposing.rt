@@ -7,6 +7,7 @@ ghost use Rattle.mv_parts.specs.Opening.{open_fault};
 ghost use Rattle.mv_parts.specs.Sealing.{IsOf};
 ghost use Rattle.avm_pool.specs.Proposals.{IsProposal};
 ghost use Rattle.avm_pool.specs.Refusals.{IsRefusal, IsWant, MayPropose};
+ghost use Rattle.avm_block.specs.Blocks.{most_calls};
 
 use crate::gate::Gate;
 use crate::holding::ShardLock;
@@ -126,7 +127,7 @@ fn rest<G: Gate, R: Wait>(
 ) -> Result<Proposal, PoolError>
     requires full { IsFull ⟦<BoxedOp as Op>⟧.opcode own_ops.now }
     requires idle { journal.world.live ≡ [] }
-    requires few { length journal.calls ≤ 4096 }
+    requires few { length journal.calls ≤ most_calls }
     ensures proposal { IfOk result (IsProposal journal.base journal.header journal.calls) }
     ensures want { IfErr result IsWant }
 {

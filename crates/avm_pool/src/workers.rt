@@ -3,6 +3,7 @@
 ghost use Rattle.std.specs.Prelude.{◌≡◌, ◌≤◌, true, []};
 ghost use Rattle.call_numbers.specs.Passes.{IsWith, view};
 ghost use Rattle.call_numbers.specs.Rule.{hand};
+ghost use Rattle.avm_block.specs.Blocks.{most_calls};
 
 use crate::gate::Gate;
 use crate::running::Shared;
@@ -29,7 +30,7 @@ pub(crate) enum Ran {
 /// Puts the numbers 1 to the count.
 pub(crate) fn put_all<R: Wait>(rt: &R, numbers: &Numbers, pass: &mut NumberPass, count: u32)
     requires queue { IsWith numbers.now pass.old × (view pass.old ≡ hand true 0 []) }
-    requires room { count ≤ 4096 }
+    requires room { count ≤ most_calls }
     ensures { IsWith numbers.now pass.new × (view pass.new ≡ hand true count []) }
 {
     for below in 0..count {

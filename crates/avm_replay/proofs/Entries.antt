@@ -9,7 +9,7 @@ use Rattle.avm_call.specs.declared.outcome.Outcome.{Outcome}
 use Rattle.avm_call.specs.Replay.{ledger_after, outcome_on, outcomes, replayed}
 use Rattle.avm_block.specs.declared.entry.Entry.{Entry}
 use Rattle.avm_block.specs.Blocks.{RisesAbove, calls_in, outcomes_in}
-use Rattle.avm_block.specs.BlockReading.{AreEntries}
+use Rattle.avm_block.specs.BlockRoundTrip.{AreEntries}
 use Rattle.avm_replay.specs.Past.{entries_until}
 use Rattle.avm_replay.specs.Verdicts.{Compares, IsFirstWrong}
 

@@ -11,7 +11,7 @@ use Rattle.avm_call.specs.Places.{HasPlace}
 use Rattle.avm_call.specs.Replay.{outcomes, replayed}
 use Rattle.avm_block.specs.declared.entry.Entry.{Entry}
 use Rattle.avm_block.specs.AcceptedCalls.{fits_in}
-use Rattle.avm_block.specs.Blocks.{Block, Replays, calls_in, calls_of, outcomes_in}
+use Rattle.avm_block.specs.Blocks.{Block, Replays, calls_in, calls_of, outcomes_in, most_calls}
 use Rattle.avm_replay.specs.declared.plain.PlainBlockFault.{PlainBlockFault}
 use Rattle.avm_replay.specs.declared.plain.PlainBlockFault.TheVariants as fault
 
@@ -23,7 +23,7 @@ first_beyond profile number (call ∷ calls) =
 
 -- why these calls make no block under a header
 abbrev pub plain_fault : Header → List CallData → Option PlainBlockFault
-plain_fault header calls = if nat_lt 4096 (length calls) then Some fault.TooMany else option_map fault.Profile (first_beyond header.profile 1 calls)
+plain_fault header calls = if nat_lt most_calls (length calls) then Some fault.TooMany else option_map fault.Profile (first_beyond header.profile 1 calls)
 
 -- It is this fault, or want of memory.
 abbrev pub IsFaultOf : Option PlainBlockFault → Failure PlainBlockFault → Type 0

@@ -18,7 +18,7 @@ use avm_ops::immediates::field_of;
 use avm_ops::{Op, Stop};
 use std::alloc::Global;
 use teal_code::Instr;
-use teal_table::{GlobalField, Opcode, Opcode, global_field};
+use teal_table::{GlobalField, Opcode, global_field};
 use teal_value::{Fault, Value};
 
 /// Pushes a field of the block, or of the application that runs.

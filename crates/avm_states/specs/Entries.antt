@@ -16,6 +16,13 @@ byte_cmp = slice_cmp nat_cmp
 abbrev pub Entries : Type 0
 Entries = List (List ℕ × Value)
 
+-- how many bytes a key has at most, and how many a byte string that is its value
+abbrev pub most_key_bytes : ℕ
+most_key_bytes = 64
+
+abbrev pub most_value_bytes : ℕ
+most_value_bytes = 64
+
 -- the value of a key
 abbrev pub value_of_key : Entries → List ℕ → Option Value
 value_of_key state key = lookup (is_at (byte_cmp key)) state

@@ -5,7 +5,14 @@ use Rattle.std.specs.Map.{keys_of}
 use Rattle.teal_value.specs.declared.value.Value.{Value}
 use Rattle.teal_value.specs.declared.value.Value.TheVariants.{Uint, Bytes}
 use Rattle.avm_states.specs.declared.schema.Schema.{Schema}
-use Rattle.avm_states.specs.Entries.{Entries, value_of_key, with_entry, without_entry, IsInKeyOrder}
+use Rattle.avm_states.specs.Entries.{Entries, value_of_key, with_entry, without_entry, IsInKeyOrder, most_key_bytes}
+
+-- how many entries a schema of an application's own state allows at most, and one of an account's
+abbrev pub most_global_entries : ℕ
+most_global_entries = 64
+
+abbrev pub most_local_entries : ℕ
+most_local_entries = 16
 
 abbrev pub no_entries : Schema
 no_entries = record { uints = 0; bytes = 0 }
@@ -24,11 +31,11 @@ abbrev pub counts_in : Entries → Schema
 counts_in [] = no_entries
 counts_in (e ∷ es) = count_with e.1 (counts_in es)
 
--- The counts are those of the entries, which are as many as memory may hold, under keys of at most 64 bytes.
+-- The counts are those of the entries, which are as many as memory may hold, under keys that are not too long.
 pub record IsCounted (state : Entries) (n : Schema) : Type 0 where
   pub counts : counts_in state ≡ n
   pub room : length state < 2 ^ 64
-  pub keys : All (λ k. length k ≤ 64) (keys_of state)
+  pub keys : All (λ k. length k ≤ most_key_bytes) (keys_of state)
 
 -- whether so many may stand under the schema
 abbrev pub is_within : Schema → Schema → Bool

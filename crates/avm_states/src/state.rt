@@ -2,7 +2,7 @@
 
 ghost use Rattle.std.specs.Prelude.{◌≡◌, ◌≤◌, [], None, IfErr, IfOk, IfSome, length, List, ℕ};
 ghost use Rattle.std.specs.Option.{option_copied};
-ghost use Rattle.avm_states.specs.Entries.{value_of_key, with_entry, without_entry, IsInKeyOrder};
+ghost use Rattle.avm_states.specs.Entries.{value_of_key, with_entry, without_entry, IsInKeyOrder, most_key_bytes};
 ghost use Rattle.avm_states.specs.Schemas.{counts_in};
 
 use crate::entry_counts::EntryCounts;
@@ -77,11 +77,11 @@ impl State {
         value_of(self.entries.as_slice(), key)
     }
 
-    /// The value of the key of these bytes. No key has more than 64.
+    /// The value of the key of these bytes. Bytes too many for a key have none.
     #[tactic(auto, using(crate::proofs::Counts::no_long_key))]
     pub fn value_of(&self, key: &[u8]) -> Option<&Value>
         ensures value { option_copied result ≡ value_of_key self.now key.now }
-        ensures short { IfSome result (λ _. length key.now ≤ 64) }
+        ensures short { IfSome result (λ _. length key.now ≤ most_key_bytes) }
     {
         let _counts = self.counts;
         match StateKey::of(key) {

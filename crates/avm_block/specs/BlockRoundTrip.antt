@@ -3,10 +3,10 @@ use Rattle.std.specs.Prelude.{◌≡◌, ℕ, ◌^◌, ◌<◌, ◌≤◌, Bool,
 use Rattle.avm_ledger.specs.declared.header.Header.{Header}
 use Rattle.avm_ledger.specs.declared.header.Profile.{Profile}
 use Rattle.avm_items.specs.declared.call_data.CallData.{CallData}
-use Rattle.avm_items.specs.CallReading.{HasFields}
+use Rattle.avm_items.specs.CallRoundTrip.{HasFields}
 use Rattle.avm_call.specs.Places.{HasPlace}
 use Rattle.avm_block.specs.declared.entry.Entry.{Entry}
-use Rattle.avm_block.specs.Blocks.{Block}
+use Rattle.avm_block.specs.Blocks.{Block, most_calls}
 use Rattle.avm_block.specs.BlockSpelling.{block_bytes}
 use Rattle.avm_block.specs.BlockReader.{block_at}
 
@@ -32,7 +32,7 @@ pub record IsHeader (h : Header) : Type 0 where
 pub record IsBlock (accepted : Profile → CallData → Bool) (b : Block) : Type 0 where
   pub base : length b.base ≡ 32
   pub header : IsHeader b.header
-  pub few : length b.entries ≤ 4096
+  pub few : length b.entries ≤ most_calls
   pub entries : AreEntries (accepted b.header.profile) 0 b.entries
   pub after : length b.after ≡ 32
 
