@@ -34,10 +34,13 @@ abbrev pub profile_at : List ℕ → Front BlockFault Profile
 profile_at bytes = number_at Truncated w8 bytes >>= profile_of_format
 
 abbrev pub header_at : Profile → List ℕ → Front BlockFault Header
-header_at in_profile bytes =
-    number_at Truncated w64 bytes >>= λ round. number_at Truncated w64 round.1 >>= λ latest. number_at Truncated w64 latest.1 >>= λ fee.
-    number_at Truncated w64 fee.1 >>= λ balance. number_at Truncated w64 balance.1 >>= λ life.
-    Ok (record { profile = in_profile; round = round.0; latest_timestamp = latest.0; min_fee = fee.0; min_balance = balance.0; max_life = life.0 }, life.1)
+header_at in_profile bytes = do
+  round ← number_at Truncated w64 bytes
+  latest ← number_at Truncated w64 round.1
+  fee ← number_at Truncated w64 latest.1
+  balance ← number_at Truncated w64 fee.1
+  life ← number_at Truncated w64 balance.1
+  Ok (record { profile = in_profile; round = round.0; latest_timestamp = latest.0; min_fee = fee.0; min_balance = balance.0; max_life = life.0 }, life.1)
 
 -- a timestamp above the one before
 abbrev pub timestamp_at : ℕ → List ℕ → Front BlockFault ℕ
@@ -58,26 +61,34 @@ abbrev pub call_in : (CallData → Bool) → List ℕ → Front BlockFault CallD
 call_in accepted bytes = in_block (call_front bytes) >>= λ call. if accepted call.0 then Ok call else Err Field
 
 abbrev pub entry_at : (CallData → Bool) → ℕ → List ℕ → Front BlockFault Entry
-entry_at accepted before bytes =
-    timestamp_at before bytes >>= λ t. call_in accepted t.1 >>= λ call. outcome_at call.1 >>= λ end.
-    Ok (record { timestamp = t.0; call = call.0; outcome = end.0 }, end.1)
+entry_at accepted before bytes = do
+  t ← timestamp_at before bytes
+  call ← call_in accepted t.1
+  end ← outcome_at call.1
+  Ok (record { timestamp = t.0; call = call.0; outcome = end.0 }, end.1)
 
 -- so many entries, behind a timestamp
 abbrev pub entries_at : (CallData → Bool) → ℕ → ℕ → List ℕ → Front BlockFault (List Entry)
 entries_at accepted zero before bytes = Ok ([], bytes)
-entries_at accepted (suc n) before bytes =
-    entry_at accepted before bytes >>= λ e. entries_at accepted n e.0.timestamp e.1 >>= λ es. Ok (e.0 ∷ es.0, es.1)
+entries_at accepted (suc n) before bytes = do
+  e ← entry_at accepted before bytes
+  es ← entries_at accepted n e.0.timestamp e.1
+  Ok (e.0 ∷ es.0, es.1)
 
 abbrev pub count_at : List ℕ → Front BlockFault ℕ
 count_at bytes = number_at Truncated w32 bytes >>= λ n. if nat_le n.0 most_calls then Ok n else Err Field
 
 -- all up to the last digest
 abbrev pub body_at : (Profile → CallData → Bool) → List ℕ → Front BlockFault Block
-body_at accepted bytes =
-    magic_at bytes >>= λ letters. profile_at letters.1 >>= λ in_profile. bytes_at Truncated 32 in_profile.1 >>= λ base.
-    header_at in_profile.0 base.1 >>= λ header. count_at header.1 >>= λ count. entries_at (accepted in_profile.0) count.0 0 count.1 >>= λ entries.
-    bytes_at Truncated 32 entries.1 >>= λ after.
-    Ok (record { base = base.0; header = header.0; entries = entries.0; after = after.0 }, after.1)
+body_at accepted bytes = do
+  letters ← magic_at bytes
+  in_profile ← profile_at letters.1
+  base ← bytes_at Truncated 32 in_profile.1
+  header ← header_at in_profile.0 base.1
+  count ← count_at header.1
+  entries ← entries_at (accepted in_profile.0) count.0 0 count.1
+  after ← bytes_at Truncated 32 entries.1
+  Ok (record { base = base.0; header = header.0; entries = entries.0; after = after.0 }, after.1)
 
 -- The last digest is that of all bytes before it, and nothing follows.
 abbrev pub sealed : List ℕ → Block × List ℕ → Result Block BlockFault

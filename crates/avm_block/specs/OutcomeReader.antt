@@ -16,14 +16,20 @@ use Rattle.avm_block.specs.declared.block_fault.BlockFault.TheVariants.{Truncate
 
 -- one of these values, by its number of one byte
 abbrev pub one_at : {A : Type 0} → (A → ℕ) → List A → List ℕ → Front BlockFault A
-one_at number xs bytes = number_at Truncated w8 bytes >>= λ n. ok_or (numbered number n.0 xs) Field >>= λ x. Ok (x, n.1)
+one_at number xs bytes = do
+  n ← number_at Truncated w8 bytes
+  x ← ok_or (numbered number n.0 xs) Field
+  Ok (x, n.1)
 
 -- a place of a program
 abbrev pub place_at : List ℕ → Front BlockFault ℕ
 place_at bytes = number_at Truncated w16 bytes >>= λ place. if nat_le place.0 1024 then Ok place else Err Field
 
 abbrev pub fault_at : List ℕ → Front BlockFault (Fault × ℕ)
-fault_at bytes = one_at fault_number faults bytes >>= λ f. place_at f.1 >>= λ place. Ok ((f.0, place.0), place.1)
+fault_at bytes = do
+  f ← one_at fault_number faults bytes
+  place ← place_at f.1
+  Ok ((f.0, place.0), place.1)
 
 abbrev pub cause_of_kind : ℕ × List ℕ → Front BlockFault Cause
 cause_of_kind kind =

@@ -18,38 +18,51 @@ completion_of n =
     else if n == 5 then Some completion.DeleteApplication else None
 
 abbrev pub completion_at : List ℕ → Front CallDataFault Completion
-completion_at bytes = number_at Truncated w8 bytes >>= λ n. ok_or (completion_of n.0) Field >>= λ done. Ok (done, n.1)
+completion_at bytes = do
+  n ← number_at Truncated w8 bytes
+  done ← ok_or (completion_of n.0) Field
+  Ok (done, n.1)
 
 -- the call that the bytes begin with
 abbrev pub call_front : List ℕ → Front CallDataFault CallData
-call_front bytes =
-    address_at Truncated bytes >>= λ sender. number_at Truncated w64 sender.1 >>= λ fee. number_at Truncated w64 fee.1 >>= λ first.
-    number_at Truncated w64 first.1 >>= λ last. string_at Truncated last.1 >>= λ note. bytes_at Truncated 32 note.1 >>= λ lease.
-    address_at Truncated lease.1 >>= λ rekey_to. number_at Truncated w64 rekey_to.1 >>= λ application. completion_at application.1 >>= λ done.
-    counted_at Truncated (string_at Truncated) done.1 >>= λ arguments. counted_at Truncated (address_at Truncated) arguments.1 >>= λ accounts.
-    counted_at Truncated (number_at Truncated w64) accounts.1 >>= λ foreign. string_at Truncated foreign.1 >>= λ approval.
-    string_at Truncated approval.1 >>= λ clear. schema_at Truncated clear.1 >>= λ global. schema_at Truncated global.1 >>= λ local.
-    Ok (
-      record {
-        sender = sender.0;
-        fee = fee.0;
-        first_valid = first.0;
-        last_valid = last.0;
-        note = note.0;
-        lease = lease.0;
-        rekey_to = rekey_to.0;
-        application = application.0;
-        completion = done.0;
-        arguments = arguments.0;
-        accounts = accounts.0;
-        foreign_applications = foreign.0;
-        approval = approval.0;
-        clear = clear.0;
-        global_schema = global.0;
-        local_schema = local.0;
-      },
-      local.1,
-    )
+call_front bytes = do
+  sender ← address_at Truncated bytes
+  fee ← number_at Truncated w64 sender.1
+  first ← number_at Truncated w64 fee.1
+  last ← number_at Truncated w64 first.1
+  note ← string_at Truncated last.1
+  lease ← bytes_at Truncated 32 note.1
+  rekey_to ← address_at Truncated lease.1
+  application ← number_at Truncated w64 rekey_to.1
+  done ← completion_at application.1
+  arguments ← counted_at Truncated (string_at Truncated) done.1
+  accounts ← counted_at Truncated (address_at Truncated) arguments.1
+  foreign ← counted_at Truncated (number_at Truncated w64) accounts.1
+  approval ← string_at Truncated foreign.1
+  clear ← string_at Truncated approval.1
+  global ← schema_at Truncated clear.1
+  local ← schema_at Truncated global.1
+  Ok (
+    record {
+      sender = sender.0;
+      fee = fee.0;
+      first_valid = first.0;
+      last_valid = last.0;
+      note = note.0;
+      lease = lease.0;
+      rekey_to = rekey_to.0;
+      application = application.0;
+      completion = done.0;
+      arguments = arguments.0;
+      accounts = accounts.0;
+      foreign_applications = foreign.0;
+      approval = approval.0;
+      clear = clear.0;
+      global_schema = global.0;
+      local_schema = local.0;
+    },
+    local.1,
+  )
 
 -- the call that begins at a place, and the place behind it
 abbrev pub call_from : List ℕ → ℕ → Result (CallData × ℕ) CallDataFault

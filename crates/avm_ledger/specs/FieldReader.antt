@@ -28,14 +28,18 @@ abbrev pub address_at : {F : Type 0} → F → List ℕ → Front F Address
 address_at truncated bytes = bytes_at truncated 32 bytes >>= λ x. Ok (record { 0 = x.0 }, x.1)
 
 abbrev pub schema_at : {F : Type 0} → F → List ℕ → Front F Schema
-schema_at truncated bytes =
-    number_at truncated w8 bytes >>= λ uints. number_at truncated w8 uints.1 >>= λ strings.
-    Ok (record { uints = uints.0; bytes = strings.0 }, strings.1)
+schema_at truncated bytes = do
+  uints ← number_at truncated w8 bytes
+  strings ← number_at truncated w8 uints.1
+  Ok (record { uints = uints.0; bytes = strings.0 }, strings.1)
 
 -- so many values, one after another
 abbrev pub many_at : {A F : Type 0} → (List ℕ → Front F A) → ℕ → List ℕ → Front F (List A)
 many_at one zero bytes = Ok ([], bytes)
-many_at one (suc n) bytes = one bytes >>= λ x. many_at one n x.1 >>= λ xs. Ok (x.0 ∷ xs.0, xs.1)
+many_at one (suc n) bytes = do
+  x ← one bytes
+  xs ← many_at one n x.1
+  Ok (x.0 ∷ xs.0, xs.1)
 
 -- a count of one byte, and so many values
 abbrev pub counted_at : {A F : Type 0} → F → (List ℕ → Front F A) → List ℕ → Front F (List A)

@@ -69,9 +69,11 @@ value_at left bytes = number_at Truncated w8 bytes >>= value_of_kind left
 -- so many entries, behind a key, with so much room left
 abbrev pub entries_at : ℕ → Option (List ℕ) → Schema → List ℕ → Front LedgerFault Entries
 entries_at zero before left bytes = Ok ([], bytes)
-entries_at (suc n) before left bytes =
-    key_at before bytes >>= λ k. value_at left k.1 >>= λ v. entries_at n (Some k.0) (count_without v.0 left) v.1 >>= λ es.
-    Ok ((k.0, v.0) ∷ es.0, es.1)
+entries_at (suc n) before left bytes = do
+  k ← key_at before bytes
+  v ← value_at left k.1
+  es ← entries_at n (Some k.0) (count_without v.0 left) v.1
+  Ok ((k.0, v.0) ∷ es.0, es.1)
 
 abbrev pub state_of_count : Room → ℕ × List ℕ → Front LedgerFault Entries
 state_of_count room n = if nat_le n.0 room.entries then entries_at n.0 None room.kinds n.1 else Err Malformed
@@ -90,17 +92,20 @@ abbrev pub program_at : List ℕ → Front LedgerFault (List ℕ)
 program_at bytes = string_at Truncated bytes >>= λ p. tested (is_ok (checked p.0)) p
 
 abbrev pub stored_application_at : List ℕ → Front LedgerFault StoredApplication
-stored_application_at bytes =
-    address_at Truncated bytes >>= λ creator. program_at creator.1 >>= λ approval. program_at approval.1 >>= λ clear.
-    limited_schema_at most_global_entries clear.1 >>= λ global. limited_schema_at most_local_entries global.1 >>= λ local.
-    state_at (room_of_schema global.0) local.1 >>= λ state.
-    Ok (
-      record {
-        row = record { creator = creator.0; approval = approval.0; clear = clear.0; global_schema = global.0; local_schema = local.0 };
-        state = state.0;
-      },
-      state.1,
-    )
+stored_application_at bytes = do
+  creator ← address_at Truncated bytes
+  approval ← program_at creator.1
+  clear ← program_at approval.1
+  global ← limited_schema_at most_global_entries clear.1
+  local ← limited_schema_at most_local_entries global.1
+  state ← state_at (room_of_schema global.0) local.1
+  Ok (
+    record {
+      row = record { creator = creator.0; approval = approval.0; clear = clear.0; global_schema = global.0; local_schema = local.0 };
+      state = state.0;
+    },
+    state.1,
+  )
 
 -- an id above the one before and below the next id
 abbrev pub id_between : ℕ → ℕ → List ℕ → Front LedgerFault ℕ
@@ -109,9 +114,11 @@ id_between before next bytes = number_at Truncated w64 bytes >>= λ id. tested (
 -- so many applications, behind an id and below the next id
 abbrev pub applications_at : ℕ → ℕ → ℕ → List ℕ → Front LedgerFault (List (ℕ × StoredApplication))
 applications_at zero before next bytes = Ok ([], bytes)
-applications_at (suc n) before next bytes =
-    id_between before next bytes >>= λ id. stored_application_at id.1 >>= λ app. applications_at n id.0 next app.1 >>= λ apps.
-    Ok ((id.0, app.0) ∷ apps.0, apps.1)
+applications_at (suc n) before next bytes = do
+  id ← id_between before next bytes
+  app ← stored_application_at id.1
+  apps ← applications_at n id.0 next app.1
+  Ok ((id.0, app.0) ∷ apps.0, apps.1)
 
 -- ---- local states
 
@@ -133,10 +140,12 @@ local_id_at before next who bytes = id_between 0 next bytes >>= λ id. tested (r
 -- so many local states, behind an account and an id
 abbrev pub local_states_at : ℕ → Option (Address × ℕ) → ℕ → List (ℕ × StoredApplication) → List ℕ → Front LedgerFault (List ((Address × ℕ) × Entries))
 local_states_at zero before next apps bytes = Ok ([], bytes)
-local_states_at (suc n) before next apps bytes =
-    account_at before bytes >>= λ who. local_id_at before next who.0 who.1 >>= λ id.
-    state_at (local_room (stored_in apps id.0)) id.1 >>= λ state. local_states_at n (Some (who.0, id.0)) next apps state.1 >>= λ more.
-    Ok (((who.0, id.0), state.0) ∷ more.0, more.1)
+local_states_at (suc n) before next apps bytes = do
+  who ← account_at before bytes
+  id ← local_id_at before next who.0 who.1
+  state ← state_at (local_room (stored_in apps id.0)) id.1
+  more ← local_states_at n (Some (who.0, id.0)) next apps state.1
+  Ok (((who.0, id.0), state.0) ∷ more.0, more.1)
 
 -- ---- ledgers
 
@@ -145,10 +154,13 @@ next_id_at bytes = number_at Truncated w64 bytes >>= λ n. tested (nat_le 1 n.0)
 
 -- the ledger that the bytes begin with
 abbrev pub ledger_front : List ℕ → Front LedgerFault Ledger
-ledger_front bytes =
-    next_id_at bytes >>= λ next. number_at Truncated w32 next.1 >>= λ count. applications_at count.0 0 next.0 count.1 >>= λ apps.
-    number_at Truncated w32 apps.1 >>= λ states. local_states_at states.0 None next.0 apps.0 states.1 >>= λ locals.
-    Ok (record { next_id = next.0; applications = apps.0; local_states = locals.0 }, locals.1)
+ledger_front bytes = do
+  next ← next_id_at bytes
+  count ← number_at Truncated w32 next.1
+  apps ← applications_at count.0 0 next.0 count.1
+  states ← number_at Truncated w32 apps.1
+  locals ← local_states_at states.0 None next.0 apps.0 states.1
+  Ok (record { next_id = next.0; applications = apps.0; local_states = locals.0 }, locals.1)
 
 -- nothing behind it
 abbrev pub alone : {A : Type 0} → A × List ℕ → Result A LedgerFault
