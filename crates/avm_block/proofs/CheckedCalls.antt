@@ -1,6 +1,6 @@
 -- Of a call that breaks no rule of calls: its fields are within their sizes, and a creation brings programs.
-use Rattle.std.proofs.Common.{◌≡◌, ℕ, ◌^◌, ◌<◌, ◌≤◌, Bool, true, false, ◌&&◌, ◌||◌, ltb, List, [], ◌∷◌, length, All, Option, None, Some, Result, Ok, Err, refl, sym, ap, ◌∙◌, arith}
-use Rattle.std.specs.Prelude.{if◌then◌else◌, is_ok, not}
+use Rattle.std.proofs.Common.{◌≡◌, ℕ, ◌^◌, ◌<◌, ◌≤◌, Bool, true, false, ◌&&◌, ◌||◌, ltb, List, [], ◌∷◌, length, All, None, Result, Ok, Err, refl, sym, ap, ◌∙◌, arith}
+use Rattle.std.specs.Prelude.{if◌then◌else◌, not}
 use Rattle.std.proofs.lemmas.Bool.{eqb-true, ltb-false}
 use Rattle.std.proofs.lemmas.List.Elements.{All-nil, All-cons}
 use Rattle.teal_check.specs.declared.fault.CheckFault.{CheckFault}
@@ -9,10 +9,10 @@ use Rattle.teal_check.proofs.CheckedPrograms.{is_checked}
 use Rattle.avm_items.specs.declared.call_data.CallData.{CallData}
 use Rattle.avm_items.specs.CallFields.{creates}
 use Rattle.avm_items.specs.CallRoundTrip.{IsAddress, IsString, IsWord, HasFields}
-use Rattle.avm_call.specs.declared.call_fault.CallFault.{CallFault}
 use Rattle.avm_call.specs.declared.call_fault.CallFault.TheVariants as fault
 use Rattle.avm_call.specs.Ends.{is_program}
 use Rattle.avm_call.specs.CallRules.{total_length, updates, is_empty, brings_programs, lacks_programs, has_programs, field_fault, program_fault, or_fault, programs_fault, call_fault}
+use Rattle.avm_call.proofs.CallFaults.{no_fault, none_of_both, program_passes}
 
 -- what the types of the fields say
 pub record HasSizes (c : CallData) : Type 0 where
@@ -30,23 +30,11 @@ pub record HasSizes (c : CallData) : Type 0 where
   pub local_uints : c.local_schema.uints < 256
   pub local_strings : c.local_schema.bytes < 256
 
-none_of_both : (o p : Option CallFault) → or_fault o p ≡ None → (o ≡ None) × (p ≡ None)
-none_of_both (Some f) p e = absurd cc
-none_of_both None p e = (refl, e)
-
-no_fault : (b : Bool) (f : CallFault) (rest : Option CallFault) → (if b then Some f else rest) ≡ None → (b ≡ false) × (rest ≡ None)
-no_fault true f rest e = absurd cc
-no_fault false f rest e = (refl, e)
-
 -- ---- programs
 
 program_short : (bytes : List ℕ) (r : Result WellFormed CheckFault) → checked bytes ≡ r → program_fault r ≡ None → length bytes ≤ 1024
 program_short bytes (Ok w) is e = (is_checked bytes w is).short
 program_short bytes (Err f) is e = absurd cc
-
-program_passes : (r : Result WellFormed CheckFault) → program_fault r ≡ None → is_ok r ≡ true
-program_passes (Ok w) e = refl
-program_passes (Err f) e = absurd cc
 
 -- what a creation brings
 pub creation_programs : (c : CallData) → call_fault c ≡ None → creates c ≡ true → (is_program c.approval ≡ true) × (is_program c.clear ≡ true)

@@ -15,13 +15,13 @@ use Rattle.avm_items.proofs.Questions.{question_with_more}
 use Rattle.avm_call.specs.Calls.{call_result}
 use Rattle.avm_call.specs.AskedFor.{AreAskedFor, asked_at, asked_while_known}
 
-err_same : {A : Type 0} {a b : Item} → ◌≡◌ {A = Answer A} (Err a) (Err b) → a ≡ b
+pub err_same : {A : Type 0} {a b : Item} → ◌≡◌ {A = Answer A} (Err a) (Err b) → a ≡ b
 err_same e = cc
 
-on_top : (x : Item) (xs : List Item) → Contains (x ∷ xs) x
+pub on_top : (x : Item) (xs : List Item) → Contains (x ∷ xs) x
 on_top x xs = Contains-append_left (x ∷ []) xs x (Contains-push [] x)
 
-below : (x : Item) (xs : List Item) (y : Item) → Contains xs y → Contains (x ∷ xs) y
+pub below : (x : Item) (xs : List Item) (y : Item) → Contains xs y → Contains (x ∷ xs) y
 below x xs y h = Contains-append_right (x ∷ []) xs y h
 
 record AskedAfter {A : Type 0} (known more : Known) (t : Ask A) (x : Item) : Type 0 where

@@ -2,7 +2,7 @@
 use Rattle.std.proofs.Common.{◌≡◌, ◌<◌, ◌≤◌, ◌+◌, ◌-◌, ◌*◌, ℕ, zero, suc, Bool, true, false, eqb, ltb, if◌then◌else◌, List, [], ◌∷◌, length, drop, Option, None, Some, Result, Ok, Err, refl, sym, ap, ◌∙◌, subst, arith, inl, inr, eq-eqb, length-drop}
 use Rattle.std.specs.Prelude.{◌==◌, ◌||◌, is_ok}
 use Rattle.std.specs.Option.{ok_or, option_map}
-use Rattle.std.proofs.lemmas.Bool.{eqb-true}
+use Rattle.std.proofs.lemmas.Bool.{eqb-true, ltb-false}
 use Rattle.teal_value.specs.Answer.{◌>>=◌}
 use Rattle.teal_value.proofs.Binding.{bind_ok, chosen}
 use Rattle.teal_table.specs.declared.shape.Shape.TheVariants as shape
@@ -145,17 +145,35 @@ ok_or_is : {A E : Type 0} (o : Option A) (f : E) (a : A) → ok_or o f ≡ Ok a 
 ok_or_is None f a e = absurd cc
 ok_or_is (Some b) f a e = let same : b ≡ a = cc in ap (λ z. Some z) same
 
-branch_is_start : (starts : List ℕ) (end place next offset : ℕ) (t : Option ℕ) → check.resolved_target starts end place next offset ≡ Ok t → is_start_or_end starts end (next + offset) ≡ true
-branch_is_start starts end place next offset t e =
+-- a branch that passed its tests has the number of its target
+pub record HasTarget (starts : List ℕ) (end target : ℕ) (t : Option ℕ) : Type 0 where
+  pub number : ℕ
+  pub is : t ≡ Some number
+  pub numbered : number_at starts end target ≡ Some number
+  pub inside : target ≤ end
+
+pub branch_found : (starts : List ℕ) (end place next offset : ℕ) (t : Option ℕ) → check.resolved_target starts end place next offset ≡ Ok t → HasTarget starts end (next + offset) t
+branch_found starts end place next offset t e =
     elim (chosen (ltb 32767 offset) _ _ _ e) [
       | inl (far, bad) ↦ absurd cc
       | inr (near, more) ↦ elim (chosen (ltb end (next + offset)) _ _ _ more) [
         | inl (past, bad) ↦ absurd cc
         | inr (inside, found) ↦
             let (k, numbered, last) = bind_ok (ok_or (number_at starts end (next + offset)) (fault.NotAligned place)) _ _ found in
-            number_is_start starts end (next + offset) k (next + offset == end) (ok_or_is (number_at starts end (next + offset)) (fault.NotAligned place) k numbered)
+            let same : Some k ≡ t = cc in
+            record {
+              number = k;
+              is = sym same;
+              numbered = ok_or_is (number_at starts end (next + offset)) (fault.NotAligned place) k numbered;
+              inside = ltb-false end (next + offset) inside;
+            }
       ]
     ]
+
+branch_is_start : (starts : List ℕ) (end place next offset : ℕ) (t : Option ℕ) → check.resolved_target starts end place next offset ≡ Ok t → is_start_or_end starts end (next + offset) ≡ true
+branch_is_start starts end place next offset t e =
+    let found = branch_found starts end place next offset t e in
+    number_is_start starts end (next + offset) found.number (next + offset == end) found.numbered
 
 offset_at : (bytes : List ℕ) (m : Immediates × List ℕ) → immediates_at shape.Offset bytes ≡ Ok m → (n : ℕ) × (m.0 ≡ is.Offset n) × (length bytes ≡ 2 + length m.1)
 offset_at [] m e = absurd cc

@@ -5,3 +5,4 @@ pub mod Asked
 pub mod Placed
 pub mod Unapproved
 pub mod AskedFor
+pub mod CallFaults

@@ -24,7 +24,7 @@ use Rattle.avm_ops.specs.Frame.{After, Context, Stepped}
 use Rattle.avm_ops.specs.States.{global_delete_of, global_put_over, schema_in}
 use Rattle.avm_ops.specs.Effect.{effect}
 use Rattle.avm_ops.proofs.RowFacts.{OnOk, Row, questions, questions_few, at_most-each, entry_asks, may_put_asks, then_act, then_found, then_test}
-use Rattle.avm_laws.proofs.WrittenItems.{Same, effect_same}
+use Rattle.avm_ops.proofs.WrittenItems.{Same, effect_same}
 use Rattle.avm_items.proofs.OneMore.{is_there, same_or_other}
 
 -- what isn't known from the writes afterwards was not known from those before

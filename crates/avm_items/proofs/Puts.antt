@@ -89,13 +89,13 @@ stays_in_order l x v o = o
 
 -- ---- two ledgers with the same items
 
-key_values : (a b : Option Value) → key_value a ≡ key_value b → a ≡ b
+pub key_values : (a b : Option Value) → key_value a ≡ key_value b → a ≡ b
 key_values None None e = refl
 key_values None (Some w) e = absurd cc
 key_values (Some v) None e = absurd cc
 key_values (Some v) (Some w) e = ap Some (cc)
 
-local_values : (a b : Option Entries) → local_value a ≡ local_value b → a ≡ b
+pub local_values : (a b : Option Entries) → local_value a ≡ local_value b → a ≡ b
 local_values None None e = refl
 local_values None (Some t) e = absurd cc
 local_values (Some s) None e = absurd cc

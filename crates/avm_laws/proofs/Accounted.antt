@@ -33,7 +33,7 @@ use Rattle.avm_call.specs.Runs.{Execution, Position, instruction_at, context_at,
 use Rattle.avm_call.proofs.Paths.{goes_on as path_goes_on}
 use Rattle.avm_laws.proofs.Given.{item_same}
 use Rattle.avm_ops.proofs.RowFacts.{OnOk, questions, writes_items}
-use Rattle.avm_laws.proofs.WrittenItems.{Same, effect_same}
+use Rattle.avm_ops.proofs.WrittenItems.{Same, effect_same}
 use Rattle.avm_laws.proofs.Following.{value_with}
 
 -- ---- what holds of the result where R holds of each item that is asked for

@@ -14,9 +14,9 @@ use Rattle.avm_items.specs.declared.item_value.ItemValue.TheVariants as value
 use Rattle.avm_items.specs.Items.{item_cmp, value_in}
 use Rattle.avm_items.specs.LedgerItems.{at, put_one, put, is_of_gone}
 use Rattle.avm_items.specs.PutLaws.{is_counts, deletes, is_deleted_by, MayPutAll}
-use Rattle.avm_items.proofs.Puts.{stays_in_order}
+use Rattle.avm_items.proofs.Puts.{stays_in_order, item_total}
 use Rattle.avm_laws.specs.Ledgers.{AreDistinct}
-use Rattle.avm_laws.proofs.Given.{gone_row, has_all, item_same, item_total, one_put}
+use Rattle.avm_laws.proofs.Given.{gone_row, has_all, item_same, one_put}
 
 -- ---- an item that stands once
 

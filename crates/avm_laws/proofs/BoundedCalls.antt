@@ -30,12 +30,12 @@ use Rattle.avm_call.proofs.Placed.{program_is_short}
 use Rattle.avm_laws.specs.Rules.{MayCall, IsSound}
 use Rattle.avm_laws.specs.Bounds.{IsShortValue, IsWithinBounds, RunsStayWithinBounds}
 use Rattle.avm_ops.proofs.RowFacts.{OnOk}
-use Rattle.avm_laws.proofs.Along.{along-both, along-each}
-use Rattle.avm_laws.proofs.WrittenItems.{Writes, IsThere}
+use Rattle.avm_ops.proofs.Along.{along-both, along-each}
+use Rattle.avm_ops.proofs.WrittenItems.{Writes, IsThere}
 use Rattle.avm_laws.proofs.FollowedRuns.{StepsKeep, led, row_stands}
 use Rattle.avm_laws.proofs.FollowedCalls.{IsKept}
 use Rattle.avm_laws.proofs.BoundedRows.{IsShort, IsShortCall, Bounds, Good, effect_bounded}
-use Rattle.avm_laws.proofs.RowValues.{Holds}
+use Rattle.avm_ops.proofs.RowValues.{Holds}
 use Rattle.avm_laws.proofs.ProgramValues.{read_short, constants_short}
 use Rattle.avm_laws.proofs.CheckedCalls.{checked_calls_are_short, checked_calls_bring_programs}
 use Rattle.avm_laws.proofs.KeptRules.{SoundAt, sound_kept, stored_row}

@@ -35,10 +35,10 @@ use Rattle.avm_items.specs.LedgerItems.{at}
 use Rattle.avm_items.specs.Asks.{result_over}
 use Rattle.avm_ops.specs.Fields.{global_value}
 use Rattle.avm_ops.proofs.RowFacts.{OnOk}
-use Rattle.avm_laws.proofs.MachineValues.{OkOf, get_fits}
-use Rattle.avm_laws.proofs.Along.{along-each}
-use Rattle.avm_laws.proofs.WrittenItems.{Row, IsThere}
-use Rattle.avm_laws.proofs.RowValues.{IsClosed, Holds, Leaves, creator_holds, row_values}
+use Rattle.avm_ops.proofs.OperandValues.{OkOf, get_fits}
+use Rattle.avm_ops.proofs.Along.{along-each}
+use Rattle.avm_ops.proofs.WrittenItems.{Row, IsThere}
+use Rattle.avm_ops.proofs.RowValues.{IsClosed, Holds, Leaves, creator_holds, row_values}
 
 -- ---- what a row is given, and what it leaves
 

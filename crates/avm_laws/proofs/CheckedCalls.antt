@@ -1,32 +1,19 @@
 -- That a call which breaks no rule of calls brings what it has to.
-use Rattle.std.proofs.Common.{◌≡◌, ℕ, ◌≤◌, Bool, true, false, ◌&&◌, nat_le, nat_lt, if◌then◌else◌, List, [], ◌∷◌, length, Option, None, Some, Result, Ok, Err, refl, sym, ap, ◌∙◌, arith}
-use Rattle.std.specs.Prelude.{◌==◌, ◌||◌, All, is_ok, not}
+use Rattle.std.proofs.Common.{◌≡◌, ℕ, ◌≤◌, Bool, true, false, ◌&&◌, nat_le, nat_lt, if◌then◌else◌, List, [], ◌∷◌, length, None, refl, sym, ap, ◌∙◌, arith}
+use Rattle.std.specs.Prelude.{◌==◌, ◌||◌, All, not}
 use Rattle.std.proofs.lemmas.Bool.{leb-true, ltb-false, eqb-true, and_parts, or_right}
 use Rattle.std.proofs.lemmas.List.Elements.{All-nil, All-cons, All-head, All-tail}
 use Rattle.teal_value.specs.declared.address.Address.{Address}
-use Rattle.teal_check.specs.declared.fault.CheckFault.{CheckFault}
-use Rattle.teal_check.specs.WellFormed.{WellFormed, checked}
+use Rattle.teal_check.specs.WellFormed.{checked}
 use Rattle.avm_items.specs.declared.call_data.CallData.{CallData}
 use Rattle.avm_items.specs.CallFields.{creates}
-use Rattle.avm_call.specs.declared.call_fault.CallFault.{CallFault}
 use Rattle.avm_call.specs.declared.call_fault.CallFault.TheVariants as fault
 use Rattle.avm_call.specs.CallRules.{is_empty, total_length, updates, brings_programs, lacks_programs, has_programs, entries_in, fits_schemas, field_fault, program_fault, or_fault, programs_fault, call_fault}
 use Rattle.avm_call.specs.Ends.{is_program}
 use Rattle.avm_call.proofs.Placed.{program_is_short}
+use Rattle.avm_call.proofs.CallFaults.{no_fault, none_of_both, program_passes}
 use Rattle.avm_laws.specs.Rules.{IsCallOfBytes, BringsPrograms}
 use Rattle.avm_laws.proofs.BoundedRows.{IsShort, IsShortCall}
-
-none_of_both : (o p : Option CallFault) → or_fault o p ≡ None → (o ≡ None) × (p ≡ None)
-none_of_both (Some f) p e = absurd cc
-none_of_both None p e = (refl, e)
-
-no_fault : (b : Bool) (f : CallFault) (rest : Option CallFault) → (if b then Some f else rest) ≡ None → (b ≡ false) × (rest ≡ None)
-no_fault true f rest e = absurd cc
-no_fault false f rest e = (refl, e)
-
-program_passes : (r : Result WellFormed CheckFault) → program_fault r ≡ None → is_ok r ≡ true
-program_passes (Ok w) e = refl
-program_passes (Err f) e = absurd cc
 
 -- ---- programs
 

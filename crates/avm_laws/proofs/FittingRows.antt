@@ -40,14 +40,15 @@ use Rattle.avm_ops.specs.Fields.{txn_value, txn_array_value, scalar_field, array
 use Rattle.avm_ops.specs.Effect.{effect}
 use Rattle.avm_laws.specs.Rules.{AreBytes, IsMachineValue, AreMachineValues, IsRowOfBytes, IsCallOfBytes, HasWords, IsSound}
 use Rattle.avm_ops.proofs.RowFacts.{OnOk}
-use Rattle.avm_laws.proofs.MachineValues.{OkOf, IsWord, get_fits, zeros_fit, flag_fits}
+use Rattle.avm_ops.proofs.OperandValues.{OkOf, get_fits}
+use Rattle.avm_laws.proofs.MachineValues.{IsWord, zeros_fit, flag_fits}
 use Rattle.avm_laws.proofs.Digests.{sha256_fits, sha512_256_fits}
 use Rattle.avm_ledger.proofs.KeptOrder.{application_rules}
 use Rattle.avm_items.specs.Asks.{result_over}
 use Rattle.avm_laws.proofs.MachineValues as values
-use Rattle.avm_laws.proofs.Along.{along-each}
-use Rattle.avm_laws.proofs.WrittenItems.{Row, IsThere}
-use Rattle.avm_laws.proofs.RowValues.{IsClosed, Holds, Leaves, creator_holds, row_values}
+use Rattle.avm_ops.proofs.Along.{along-each}
+use Rattle.avm_ops.proofs.WrittenItems.{Row, IsThere}
+use Rattle.avm_ops.proofs.RowValues.{IsClosed, Holds, Leaves, creator_holds, row_values}
 
 -- ---- what a row is given, and what it leaves
 

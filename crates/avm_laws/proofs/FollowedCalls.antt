@@ -27,7 +27,7 @@ use Rattle.avm_items.specs.Items.{ItemMap, Known, IsInItemOrder, is_global_of, i
 use Rattle.avm_items.specs.LedgerItems.{at, put_one, row_value, entry_value, is_of_gone}
 use Rattle.avm_items.specs.Asks.{Gives, and_then}
 use Rattle.avm_items.specs.Acts.{Act, done, on_ok, test, ◌>>=◌}
-use Rattle.avm_items.proofs.Puts.{has_what_was_put, keeps_others, stays_in_order}
+use Rattle.avm_items.proofs.Puts.{has_what_was_put, keeps_others, stays_in_order, item_total}
 use Rattle.avm_call.specs.declared.outcome.Ended.{Ended}
 use Rattle.avm_call.specs.declared.outcome.Ended.TheVariants as ended
 use Rattle.avm_call.specs.declared.outcome.Why.{Why}
@@ -38,9 +38,9 @@ use Rattle.avm_call.specs.declared.outcome.Outcome.{Outcome}
 use Rattle.avm_call.specs.declared.outcome.Outcome.TheVariants as outcome
 use Rattle.avm_call.specs.Runs.{Position, start, program_result}
 use Rattle.avm_call.specs.Calls.{CallResult, Target, created, new_target, called_target, target, sender_item, is_opted_in, opt_in_test, admitted, new_application, opting_in, prepared, execution, deleted, updated, cleared, ending, runs, runs_on, goes_on, call_result}
-use Rattle.avm_laws.proofs.Given.{item_same, item_total}
-use Rattle.avm_laws.proofs.Along.{Along, along-then}
-use Rattle.avm_laws.proofs.WrittenItems.{IsThere}
+use Rattle.avm_laws.proofs.Given.{item_same}
+use Rattle.avm_ops.proofs.Along.{Along, along-then}
+use Rattle.avm_ops.proofs.WrittenItems.{IsThere}
 use Rattle.avm_laws.proofs.Following.{Has, Follows, same_counts, value_with, has_put, counts_put, follows_local, follows_next, follows_create, follows_row}
 use Rattle.avm_laws.proofs.FollowedRuns.{Over, StepsKeep, result_stands, row_stands}
 

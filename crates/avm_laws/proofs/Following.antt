@@ -21,12 +21,12 @@ use Rattle.avm_items.specs.Items.{ItemMap, Known, IsInItemOrder, item_cmp, value
 use Rattle.avm_items.specs.Items as items
 use Rattle.avm_items.specs.LedgerItems.{at, put_one, row_value, counts_value, entry_value, is_of_gone}
 use Rattle.avm_items.specs.PutLaws.{MaySet, MayPut, is_counts, deletes}
-use Rattle.avm_items.proofs.Puts.{stays_in_order, keeps_others}
+use Rattle.avm_items.proofs.Puts.{stays_in_order, keeps_others, item_total}
 use Rattle.teal_value.specs.declared.address.Address.{Address}
 use Rattle.std.proofs.Common.{eq-eqb}
 use Rattle.std.specs.Cmp.{tied_itself}
-use Rattle.avm_laws.proofs.Given.{item_same, item_total, one_put}
-use Rattle.avm_laws.proofs.WrittenItems.{old_entry, old_counts}
+use Rattle.avm_laws.proofs.Given.{item_same, one_put}
+use Rattle.avm_ops.proofs.WrittenItems.{old_entry, old_counts}
 
 -- ---- the written items, with one more
 

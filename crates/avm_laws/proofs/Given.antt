@@ -4,8 +4,8 @@ use Rattle.std.specs.Prelude.{◌==◌, is_none, unwrap_or}
 use Rattle.std.proofs.lemmas.Bool.{eqb-true, or_from}
 use Rattle.std.specs.Ordering.{is_eq}
 use Rattle.std.specs.declared.cmp.Ordering.TheVariants.{Less}
-use Rattle.std.specs.Cmp.{IsTotalOrder, on_total, tied_itself}
-use Rattle.std.proofs.lemmas.Cmp.{nat_cmp_total, nat_list_cmp_total}
+use Rattle.std.specs.Cmp.{tied_itself}
+use Rattle.std.proofs.lemmas.Cmp.{nat_cmp_total}
 use Rattle.std.specs.FinMap.{nat_cmp-IsAntisymmetric}
 use Rattle.std.specs.Map.{keys_of}
 use Rattle.std.specs.List.{AllByRecursion}
@@ -21,13 +21,10 @@ use Rattle.avm_items.specs.declared.item.Item.{Item}
 use Rattle.avm_items.specs.declared.item.Item.TheVariants as item
 use Rattle.avm_items.specs.declared.item_value.ItemValue.{ItemValue}
 use Rattle.avm_items.specs.declared.item_value.ItemValue.TheVariants as value
-use Rattle.avm_items.specs.Items.{ItemMap, IsInItemOrder, item_cmp, sort_key, value_in, key_value}
+use Rattle.avm_items.specs.Items.{ItemMap, IsInItemOrder, item_cmp, value_in, key_value}
 use Rattle.avm_items.specs.LedgerItems.{at, put_one, put, row_value, entry_value, local_value, is_of_gone, AreChanges}
 use Rattle.avm_items.specs.PutLaws.{MaySet, is_counts, deletes, MayPut}
-use Rattle.avm_items.proofs.Puts.{has_what_was_put_last, stays_in_order, item_same as same_if_equal}
-
-pub item_total : IsTotalOrder item_cmp
-item_total = on_total sort_key nat_list_cmp_total
+use Rattle.avm_items.proofs.Puts.{has_what_was_put_last, stays_in_order, item_same as same_if_equal, item_total, key_values, local_values}
 
 -- ---- items that tie are the same
 
@@ -35,18 +32,6 @@ pub item_same : (x y : Item) → is_eq (item_cmp x y) ≡ true → x ≡ y
 item_same x y e = same_if_equal x y (is_Equal (item_cmp x y) e)
 
 -- ---- two ledgers that agree on all items but counts, and the keys of applications that are gone
-
-key_values : (a b : Option Value) → key_value a ≡ key_value b → a ≡ b
-key_values None None e = refl
-key_values None (Some w) e = absurd cc
-key_values (Some v) None e = absurd cc
-key_values (Some v) (Some w) e = ap Some (cc)
-
-local_values : (a b : Option Entries) → local_value a ≡ local_value b → a ≡ b
-local_values None None e = refl
-local_values None (Some t) e = absurd cc
-local_values (Some s) None e = absurd cc
-local_values (Some s) (Some t) e = ap Some (cc)
 
 next_ids : {n m : ℕ} → value.NextApp n ≡ value.NextApp m → n ≡ m
 next_ids e = cc

@@ -30,9 +30,9 @@ use Rattle.avm_call.specs.Replay.{ledger_after, replayed}
 use Rattle.avm_laws.specs.Calls.{written_after}
 use Rattle.avm_laws.specs.Rules.{AreBytes, IsMachineValue, AreMachineValues, IsRowOfBytes, MayCall, IsSound}
 use Rattle.avm_ops.proofs.RowFacts.{OnOk}
-use Rattle.avm_laws.proofs.Along.{along-free}
+use Rattle.avm_ops.proofs.Along.{along-free}
 use Rattle.avm_laws.proofs.MachineValues.{IsWord}
-use Rattle.avm_laws.proofs.WrittenItems.{Writes, IsThere}
+use Rattle.avm_ops.proofs.WrittenItems.{Writes, IsThere}
 use Rattle.avm_laws.proofs.Following.{the_application}
 use Rattle.avm_laws.proofs.FollowedRuns.{StepsKeep, led, row_stands}
 use Rattle.avm_laws.proofs.FollowedCalls.{IsKept}

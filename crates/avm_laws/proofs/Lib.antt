@@ -1,6 +1,4 @@
 pub mod Given
-pub mod Along
-pub mod WrittenItems
 pub mod Following
 pub mod FollowedRuns
 pub mod FollowedCalls
@@ -8,7 +6,6 @@ pub mod Pruned
 pub mod CallChanges
 pub mod MachineValues
 pub mod Digests
-pub mod RowValues
 pub mod FittingRows
 pub mod BoundedRows
 pub mod ProgramValues

@@ -24,7 +24,8 @@ use Rattle.avm_items.specs.declared.item_value.ItemValue.TheVariants as value
 use Rattle.avm_items.specs.Items.{ItemMap, Look, IsInItemOrder, item_cmp, value_in}
 use Rattle.avm_items.specs.SameValues.{is_same_schema, is_same_application, is_same_value}
 use Rattle.avm_items.specs.LedgerItems.{at, put, AreChanges, pruned}
-use Rattle.avm_laws.proofs.Given.{item_same, item_total, put_gives, puts_changes}
+use Rattle.avm_items.proofs.Puts.{item_total}
+use Rattle.avm_laws.proofs.Given.{item_same, put_gives, puts_changes}
 use Rattle.avm_laws.proofs.FollowedCalls.{Leaves, sorted_filter}
 
 -- ---- the test of two values answers true exactly where they are equal

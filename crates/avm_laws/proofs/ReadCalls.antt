@@ -1,12 +1,12 @@
 -- That what was read decides how a call ends, and what it changes.
-use Rattle.std.proofs.Common.{◌≡◌, Bool, true, false, cond, [], ◌∷◌, Option, None, Some, Ok, refl, sym, ap, ◌∙◌, subst, List, Err}
+use Rattle.std.proofs.Common.{◌≡◌, Bool, true, false, cond, [], ◌∷◌, Option, None, Some, Ok, refl, sym, ap, ◌∙◌, subst, Err}
 use Rattle.std.specs.Prelude.{All, not, unwrap_or}
 use Rattle.std.specs.Ordering.{is_eq}
 use Rattle.std.specs.List.{AllByRecursion, Contains}
 use Rattle.std.specs.List.Sorted.{IsStrictlySortedBy}
 use Rattle.std.specs.Map.{keys_of}
 use Rattle.std.specs.declared.cmp.Ordering.TheVariants.{Less}
-use Rattle.std.proofs.lemmas.List.Elements.{All-nil, All-cons, All-contains, All-head, All-tail, Contains-append_left, Contains-append_right, Contains-push}
+use Rattle.std.proofs.lemmas.List.Elements.{All-nil, All-cons, All-contains, All-head, All-tail}
 use Rattle.avm_ledger.specs.declared.header.Header.{Header}
 use Rattle.avm_ledger.specs.Ledgers.{IsOrderly, Ledger}
 use Rattle.sorted_entries.proofs.Maps.{is_Equal, above_tied, below_none}
@@ -21,8 +21,10 @@ use Rattle.avm_items.specs.SameValues.{is_same_value}
 use Rattle.avm_call.specs.Calls.{CallResult, call_result}
 use Rattle.avm_call.specs.Replay.{changes_on}
 use Rattle.avm_call.specs.AskedFor.{AreAskedFor, asked_at, asked_while_known}
-use Rattle.avm_laws.proofs.Given.{found_itself, item_total}
-use Rattle.avm_laws.proofs.WrittenItems.{IsThere}
+use Rattle.avm_call.proofs.AskedFor.{below, err_same, on_top}
+use Rattle.avm_items.proofs.Puts.{item_total}
+use Rattle.avm_laws.proofs.Given.{found_itself}
+use Rattle.avm_ops.proofs.WrittenItems.{IsThere}
 use Rattle.avm_laws.proofs.Accounted.{Accounted, if-result}
 use Rattle.avm_laws.proofs.AccountedCalls.{call_accounted}
 use Rattle.avm_ledger.proofs.KeptOrder.{next_is_free}
@@ -71,15 +73,6 @@ pub ends_alike : (l : Ledger) (reads : ItemMap) (call : CallData) (header : Head
 ends_alike l reads call header r orderly agrees e = (call_alike l reads call header r orderly agrees e).result
 
 -- ---- questions that are left
-
-err_same : {A : Type 0} {a b : Item} → ◌≡◌ {A = Answer A} (Err a) (Err b) → a ≡ b
-err_same e = cc
-
-on_top : (x : Item) (xs : List Item) → Contains (x ∷ xs) x
-on_top x xs = Contains-append_left (x ∷ []) xs x (Contains-push [] x)
-
-below : (x : Item) (xs : List Item) (y : Item) → Contains xs y → Contains (x ∷ xs) y
-below x xs y h = Contains-append_right (x ∷ []) xs y h
 
 used_at : {A : Type 0} (l : Ledger) (known : Known) (x : Item) (k : ItemValue → Ask A) (y : Item) → HasReads l known → ((v : ItemValue) → All (IsThere l) (items_asked (at l) (k v)) → answer_from known (k v) ≡ Err y → Contains (items_asked (at l) (k v)) y)
     → All (IsThere l) (x ∷ items_asked (at l) (k (at l x))) → (o : Option ItemValue) → known x ≡ o → answer_at x (λ v. answer_from known (k v)) o ≡ Err y → Contains (x ∷ items_asked (at l) (k (at l x))) y

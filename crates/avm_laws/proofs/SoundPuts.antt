@@ -36,7 +36,7 @@ use Rattle.avm_items.proofs.RulesKept.{rules_stay, state_deleted}
 use Rattle.avm_ops.specs.Frame.{Context}
 use Rattle.avm_ops.specs.States.{value_length, schema_in}
 use Rattle.avm_laws.specs.Rules.{IsMachineValue, AreMachineValues, IsRowOfBytes, IsStoredOfBytes, IsLedgerOfBytes, IsSound}
-use Rattle.avm_laws.proofs.WrittenItems.{Writes, Nothing, SameKind, Counted, Deleted, LocalPut, LocalDeleted, IsPut, limit_of}
+use Rattle.avm_ops.proofs.WrittenItems.{Writes, Nothing, SameKind, Counted, Deleted, LocalPut, LocalDeleted, IsPut, limit_of}
 use Rattle.avm_laws.proofs.Following.{the_application, entry_there, counts_there}
 use Rattle.avm_laws.proofs.FollowedRuns.{led}
 use Rattle.avm_laws.proofs.FittingRows.{Fits, stored_fits, local_fits}

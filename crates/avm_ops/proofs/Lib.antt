@@ -1,3 +1,7 @@
 pub mod TakenOperands
 pub mod RowFacts
 pub mod Sets
+pub mod Along
+pub mod WrittenItems
+pub mod OperandValues
+pub mod RowValues

@@ -12,7 +12,8 @@ use Rattle.avm_items.specs.declared.item_value.ItemValue.{ItemValue}
 use Rattle.avm_items.specs.LedgerItems.{at}
 use Rattle.avm_call.specs.declared.outcome.Outcome.{Outcome}
 use Rattle.avm_laws.specs.LedgerLooks.{IsLookOf, IsOfLedger}
-use Rattle.avm_laws.proofs.Given.{item_same, item_total}
+use Rattle.avm_items.proofs.Puts.{item_total}
+use Rattle.avm_laws.proofs.Given.{item_same}
 use Rattle.avm_laws.proofs.LedgerLooks.{ledgers_are_looks}
 use Rattle.mv_history.specs.History.{IsRising, Replays, entries_below, lookup_after, state_below}
 use Rattle.mv_history.specs.World.{Abandon, AllApply, Applies, Begin, Commit, Prune, Read, after_event, after_events, first_world, fresh_attempt}

@@ -37,7 +37,7 @@ use Rattle.avm_ops.specs.States.{value_length, foreign_of, global_entry, may_put
 use Rattle.avm_ops.specs.Effect.{effect}
 use Rattle.avm_items.specs.Counting.{AsksAtMost, Any}
 use Rattle.avm_ops.proofs.RowFacts.{OnOk, FactsOf, questions, writes_items, row_facts, at_most-each}
-use Rattle.avm_laws.proofs.Along.{Along, along-each}
+use Rattle.avm_ops.proofs.Along.{Along, along-each}
 
 -- ---- what may be written
 

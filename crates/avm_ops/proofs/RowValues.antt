@@ -1,5 +1,5 @@
 -- That every row leaves values of a kind that is closed under what rows do: those that a machine may have, and those of
--- bounded length. The one file of this crate that goes through all opcodes.
+-- bounded length.
 use Rattle.std.proofs.Common.{◌≡◌, ℕ, ◌+◌, ◌*◌, ◌/◌, ◌%◌, ◌^◌, ◌≤◌, Bool, true, false, nat_lt, nat_le, if◌then◌else◌, List, [], ◌∷◌, ◌++◌, length, Option, None, Some, Result, Ok, Err, refl, subst, arith, length-drop}
 use Rattle.std.specs.Prelude.{◌==◌, ◌&&◌, ◌||◌, not, All, IfSome, drop, is_none, is_some, slice_get, slice_index, slice_set}
 use Rattle.std.specs.BTreeMap.{is_at}
@@ -43,9 +43,9 @@ use Rattle.avm_ops.specs.Fields.{zero_address_bytes, scalar_field, array_field, 
 use Rattle.avm_ops.specs.States.{value_length, application, application_named, foreign_of, global_entry, may_put, or_zero, the_local_state, global_put_over, global_delete_of, leaves}
 use Rattle.avm_ops.specs.Effect.{effect}
 use Rattle.avm_ops.proofs.RowFacts.{OnOk}
-use Rattle.avm_laws.proofs.MachineValues as operands
-use Rattle.avm_laws.proofs.MachineValues.{OkOf, get_fits, there_fits}
-use Rattle.avm_laws.proofs.WrittenItems.{Row, old_entry, old_counts, limit_of, then_test, then_found, then_found_is, entry_by, stands_if_row, foreign_by, may_put_by}
+use Rattle.avm_ops.proofs.OperandValues as operands
+use Rattle.avm_ops.proofs.OperandValues.{OkOf, get_fits, there_fits}
+use Rattle.avm_ops.proofs.WrittenItems.{Row, old_entry, old_counts, limit_of, then_test, then_found, then_found_is, entry_by, stands_if_row, foreign_by, may_put_by}
 
 -- ---- what a row is given, and what it leaves
 
