@@ -5,3 +5,4 @@ pub mod Instructions
 pub mod Bodies
 pub mod Constants
 pub mod Thinned
+pub mod LineWords

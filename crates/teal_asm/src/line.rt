@@ -4,6 +4,7 @@ ghost use Rattle.std.specs.Prelude.{None, OnOk};
 ghost use Rattle.teal_source.specs.Statements.{appended, labelled, statement, with_label};
 ghost use Rattle.teal_source.specs.Shown.{words};
 ghost use Rattle.teal_asm.specs.Bodies.{IsBody};
+ghost use Rattle.teal_asm.specs.LineWords.{line_words};
 ghost use Rattle.teal_asm.specs.Thinned.{LeavesThinned};
 
 use crate::body::Body;
@@ -14,27 +15,34 @@ use teal_source::{
 use teal_table::Version;
 use teal_value::{ByteString, Failure};
 
-/// Adds the statement of a line's words. After a refusal the body is of no more use.
+/// A line that has words.
+#[derive(Clone, Copy, Debug)]
+pub(crate) struct LineWords<'a> {
+    /// Its number, from 1.
+    pub line: usize,
+    pub first: &'a [u8],
+    pub more: &'a [&'a [u8]],
+}
+
+/// Adds the statement of a line. After a refusal the body is of no more use.
 #[tactic(auto, unfolding(teal_source::specs::Statements::statement))]
 pub(crate) fn add_line(
     alloc: Global,
     version: Version,
-    line: usize,
-    first: &[u8],
-    more: &[&[u8]],
+    line: &LineWords<'_>,
     body: &mut Body,
 ) -> Result<(), LineError>
     requires { IsBody body.old }
     ensures leaves { LeavesThinned result body.new.statements.items
-        (appended body.old.statements.items (statement version body.old.statements.items (record { line = line; first = first.now; more = words more.now }))) }
+        (appended body.old.statements.items (statement version body.old.statements.items (line_words line.now))) }
     ensures kept { OnOk result (IsBody body.new) }
 {
-    if is_pragma(first) {
+    if is_pragma(line.first) {
         return Err(Failure::Fault(AsmFaultKind::Version));
     }
-    match label_name(first) {
-        Some(name) => add_labelled(alloc, version, line, name, more, body),
-        None => add_plain(alloc, version, line, first, more, body),
+    match label_name(line.first) {
+        Some(name) => add_labelled(alloc, version, line, name, body),
+        None => add_plain(alloc, version, line, body),
     }
 }
 
@@ -42,19 +50,17 @@ pub(crate) fn add_line(
 fn add_plain(
     alloc: Global,
     version: Version,
-    line: usize,
-    first: &[u8],
-    more: &[&[u8]],
+    line: &LineWords<'_>,
     body: &mut Body,
 ) -> Result<(), LineError>
     requires { IsBody body.old }
     ensures leaves { LeavesThinned result body.new.statements.items
-        (appended body.old.statements.items (labelled version body.old.statements.items line None first.now (words more.now))) }
+        (appended body.old.statements.items (labelled version body.old.statements.items line.now.line None line.now.first.now (words line.now.more.now))) }
     ensures kept { OnOk result (IsBody body.new) }
 {
-    let command = command_of(alloc, version, first, more)?;
+    let command = command_of(alloc, version, line.first, line.more)?;
     let statement = Statement {
-        line,
+        line: line.line,
         label: None,
         command: Some(command),
     };
@@ -65,22 +71,21 @@ fn add_plain(
 fn add_labelled(
     alloc: Global,
     version: Version,
-    line: usize,
+    line: &LineWords<'_>,
     name: &[u8],
-    more: &[&[u8]],
     body: &mut Body,
 ) -> Result<(), LineError>
     requires { IsBody body.old }
     ensures leaves { LeavesThinned result body.new.statements.items
-        (appended body.old.statements.items (with_label version body.old.statements.items line name.now (words more.now))) }
+        (appended body.old.statements.items (with_label version body.old.statements.items line.now.line name.now (words line.now.more.now))) }
     ensures kept { OnOk result (IsBody body.new) }
 {
     if body.has_label(name) {
         return Err(Failure::Fault(AsmFaultKind::LabelTwice));
     }
-    let command = optional_command(alloc, version, more)?;
+    let command = optional_command(alloc, version, line.more)?;
     let statement = Statement {
-        line,
+        line: line.line,
         label: Some(ByteString::from_slice(alloc, name)?),
         command,
     };

@@ -6,12 +6,13 @@ ghost use Rattle.teal_text.specs.Tokens.{LiesWithin};
 ghost use Rattle.teal_text.specs.Lines.{view};
 ghost use Rattle.teal_source.specs.Statements.{failure_on_line, pragma_in, pragma_of, statements, word_at, words_of_line, words_on};
 ghost use Rattle.teal_asm.specs.Bodies.{IsBody};
+ghost use Rattle.teal_asm.specs.LineWords.{line_words};
 ghost use Rattle.teal_asm.specs.Reading.{FindsFirst, IsLater, IsNext, all_tokens, line_total, unread_statements};
 ghost use Rattle.teal_asm.specs.Thinned.{GivesThinned, LeavesThinned};
 ghost use Rattle.teal_source.specs.Shown.{words};
 
 use crate::body::Body;
-use crate::line::add_line;
+use crate::line::{LineWords, add_line};
 use std::alloc::{AllocError, Global};
 use teal_source::{AsmError, AsmFault, AsmFaultKind, LineError, is_pragma, named_version};
 use teal_table::Version;
@@ -122,25 +123,23 @@ fn add_words(
 {
     match line_words {
         [] => Ok(()),
-        [first, more @ ..] => add_first(alloc, version, line, first, more, body),
+        [first, more @ ..] => add_on_line(alloc, version, &LineWords { line, first, more }, body),
     }
 }
 
-fn add_first(
+fn add_on_line(
     alloc: Global,
     version: Version,
-    line: usize,
-    first: &[u8],
-    more: &[&[u8]],
+    line: &LineWords<'_>,
     body: &mut Body,
 ) -> Result<(), AsmError>
     requires { IsBody body.old }
-    ensures leaves { LeavesThinned result body.new.statements.items (statements version body.old.statements.items (record { line = line; first = first.now; more = words more.now } ∷ [])) }
+    ensures leaves { LeavesThinned result body.new.statements.items (statements version body.old.statements.items (line_words line.now ∷ [])) }
     ensures kept { OnOk result (IsBody body.new) }
 {
-    match add_line(alloc, version, line, first, more, body) {
+    match add_line(alloc, version, line, body) {
         Ok(()) => Ok(()),
-        Err(error) => Err(on_line(line, error)),
+        Err(error) => Err(on_line(line.line, error)),
     }
 }
 
