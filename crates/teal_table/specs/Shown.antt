@@ -1,5 +1,5 @@
 -- A row of the program, without where its texts and lists lie in memory.
-use Rattle.teal_table.specs.declared.entry.Row.{Row as Kept}
+use Rattle.teal_table.specs.declared.table_row.Row.{Row as Kept}
 use Rattle.teal_table.specs.Table.{Row}
 
 abbrev pub shown : Kept → Row

@@ -3,18 +3,18 @@
 //! `specs/Table.antt` and `specs/Fields.antt` are the tables as contracts see them.
 #![tactic(auto)]
 
-mod entry;
 mod global_fields;
 mod opcode;
 mod outside;
 mod shape;
 mod table;
+mod table_row;
 mod txn_fields;
 
-pub use entry::Row;
 pub use global_fields::{GlobalField, global_field, global_field_by_name, global_field_named};
 pub use opcode::Opcode;
 pub use outside::left_out;
 pub use shape::{Shape, ValueKind, Version};
 pub use table::{by_name, opcode_in, opcode_named, row};
+pub use table_row::Row;
 pub use txn_fields::{TxnField, txn_field, txn_field_by_name, txn_field_named};

@@ -7,9 +7,9 @@ ghost use Rattle.std.specs.Str.{bytes_eq};
 ghost use Rattle.teal_table.specs.Table.{two, three, row_of, name_of, opcodes, opcode_at, opcode_in, opcode_named};
 ghost use Rattle.teal_table.specs.Shown.{shown};
 
-use crate::entry::Row;
 use crate::opcode::Opcode;
 use crate::shape::{Shape, ValueKind, Version};
+use crate::table_row::Row;
 
 // The types of operands and results, one letter each: uint64, bytes, any value.
 const NONE: &[ValueKind] = &[];
