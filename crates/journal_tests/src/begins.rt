@@ -3,8 +3,7 @@
 use crate::steps::{Parts, begun, parts_over};
 use avm_ledger::{Header, Ledger};
 use mv_parts::{BeginFault, Journal, SealFault};
-use sample_calls::rows::{HEADER, calls_of};
-use sample_calls::samples::PLAIN;
+use sample_calls::rows::{HEADER, PLAIN, calls_of};
 use std::alloc::Global;
 use std::test::Fail;
 use teal_value::Failure;

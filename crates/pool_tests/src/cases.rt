@@ -1,10 +1,9 @@
 //! Cases of calls that workers run into a block.
 
 use crate::script::Hold;
-use avm_items::Completion;
 use avm_ledger::Profile;
 use avm_pool::GateEvent;
-use sample_calls::rows::{Row, X, Y};
+use sample_calls::rows::{PLAIN, Row, Y};
 use sample_calls::worked::{EARLY, EARLY_AFTER, EARLY_CALLS, SKEW, SKEW_AT_3, SKEW_CALLS};
 
 /// The ledger without applications.
@@ -33,18 +32,6 @@ const EMPTY_BLOCK: &str =
 
 const EMPTY_BLOCK_3: &str =
     "41564d420203783825822a6f9e62da2190e828e4c9d2576e5977e3a0b3620b092dfb9e9996fa0000000000000000000000000000000000000000000000000000000000000000000000000000000000000000783825822a6f9e62da2190e828e4c9d2576e5977e3a0b3620b092dfb9e9996fa88752d2feaf571719c6d2641851b71531c03196281676bff9d8040ff8a960177";
-
-/// A call of application 1.
-const PLAIN: Row = Row {
-    sender: X,
-    application: 1,
-    completion: Completion::NoOp,
-    arguments: 0,
-    account: X,
-    foreign: 1,
-    program: "",
-    uints: 0,
-};
 
 const ONE_CALL: [Row; 1] = [PLAIN];
 

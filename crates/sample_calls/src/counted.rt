@@ -1,8 +1,7 @@
 //! Keys that are counted up, one an account, and what is left of one after prunes. The ledgers are worked out by hand from the
 //! formats and the AVM specification.
 
-use crate::rows::{Row, X, Y};
-use crate::samples::PLAIN;
+use crate::rows::{PLAIN, Row, X, Y};
 use avm_items::{Item, ItemValue};
 use std::test::Fail;
 use teal_value::{StateKey, Value};

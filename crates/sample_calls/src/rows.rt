@@ -45,6 +45,18 @@ pub struct Row {
     pub uints: u8,
 }
 
+/// A call of application 1 by X, with X itself and that application to look at.
+pub const PLAIN: Row = Row {
+    sender: X,
+    application: 1,
+    completion: Completion::NoOp,
+    arguments: 0,
+    account: X,
+    foreign: 1,
+    program: "",
+    uints: 0,
+};
+
 fn arguments_of(alloc: Global, count: usize) -> Result<ByteStrings, Fail> {
     let mut arguments = Vec::new(alloc);
     for _index in 0..count {

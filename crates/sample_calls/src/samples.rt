@@ -1,7 +1,7 @@
 //! Calls of a few applications by a few accounts that touch the same items in many ways, and draws from them.
 
 use crate::random::Random;
-use crate::rows::{Row, X, Y, Z};
+use crate::rows::{PLAIN, Row, X, Y, Z};
 use avm_call::Call;
 use avm_items::Completion;
 use std::alloc::Global;
@@ -24,18 +24,6 @@ pub const MAIN: &str =
 /// `byte "n"; int 1; byte "n"; app_global_get_ex; pop; byte "n"; app_global_get; +; int 1; +; app_global_put; int 1`
 pub const BASE: &str =
     "000000000000000300000002000000000000000100000000000000000000000000000000000000000000000000000000000000000036022004000102032602016e0176311b2312400019282864230867311b2412400009311b25124000042343224300222923296223086623000f022001012601016e282864220867220100010000000000000000000200000000000000000000000000000000000000000000000000000000000000000014022001012601016e28222865482864082208672200020200010001000000000003010101010101010101010101010101010101010101010101010101010101010100000000000000010001010101010101010101010101010101010101010101010101010101010101010000000000000002000202020202020202020202020202020202020202020202020202020202020202000000000000000100";
-
-/// A call of application 1.
-pub const PLAIN: Row = Row {
-    sender: X,
-    application: 1,
-    completion: Completion::NoOp,
-    arguments: 0,
-    account: X,
-    foreign: 1,
-    program: "",
-    uints: 0,
-};
 
 /// What the calls of a list are drawn from: calls that count, that write what they read of one another's states, that
 /// reject or err, creations with and without room for what they put, and calls of each other completion.

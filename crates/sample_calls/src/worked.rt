@@ -1,8 +1,7 @@
 //! Two lists of calls that depend on one another: a write skew, and a call that asks for an application that is not there
 //! yet. The ledgers are worked out by hand from the formats and the AVM specification.
 
-use crate::rows::{Row, X, Y};
-use avm_items::Completion;
+use crate::rows::{PLAIN, Row, Y};
 
 /// Application 1 puts the number under `v` of the call's further account, and 1, under `v` of the sender:
 /// `int 0; byte "v"; int 1; byte "v"; app_local_get; int 1; +; app_local_put; int 1`. X and Y are in, with empty states.
@@ -28,37 +27,18 @@ pub const EARLY_AFTER: &str =
 /// Each of the two accounts reads the other's state and writes its own.
 pub const SKEW_CALLS: [Row; 2] = [
     Row {
-        sender: X,
-        application: 1,
-        completion: Completion::NoOp,
-        arguments: 0,
         account: Y,
-        foreign: 1,
-        program: "",
-        uints: 0,
+        ..PLAIN
     },
-    Row {
-        sender: Y,
-        application: 1,
-        completion: Completion::NoOp,
-        arguments: 0,
-        account: X,
-        foreign: 1,
-        program: "",
-        uints: 0,
-    },
+    Row { sender: Y, ..PLAIN },
 ];
 
 /// A creation whose programs are `int 1`.
 pub const CREATION: Row = Row {
-    sender: X,
     application: 0,
-    completion: Completion::NoOp,
-    arguments: 0,
     account: Y,
-    foreign: 1,
     program: "0220010122",
-    uints: 0,
+    ..PLAIN
 };
 
 /// The creation of application 2, and a call that asks for it.
@@ -66,12 +46,7 @@ pub const EARLY_CALLS: [Row; 2] = [
     CREATION,
     Row {
         sender: Y,
-        application: 1,
-        completion: Completion::NoOp,
-        arguments: 0,
-        account: X,
         foreign: 2,
-        program: "",
-        uints: 0,
+        ..PLAIN
     },
 ];

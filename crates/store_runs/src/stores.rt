@@ -3,10 +3,9 @@
 ghost use Rattle.avm_ops.specs.Objects.{IsFull};
 
 use crate::steps::{Tried, attempted, ended, show_block, show_state};
-use avm_items::Completion;
 use avm_ops::{BoxedOp, Op, OpSet};
 use mv_core::Store;
-use sample_calls::rows::{HEADER, Row, X, Y, calls_of, ledger_of};
+use sample_calls::rows::{HEADER, PLAIN, Row, Y, calls_of, ledger_of};
 use sample_calls::worked::{SKEW, SKEW_CALLS};
 use std::alloc::Global;
 use std::sync::Arc;
@@ -20,14 +19,8 @@ const THREE: &str =
 
 /// A call by X, with the account Y.
 const ONE_CALL: [Row; 1] = [Row {
-    sender: X,
-    application: 1,
-    completion: Completion::NoOp,
-    arguments: 0,
     account: Y,
-    foreign: 1,
-    program: "",
-    uints: 0,
+    ..PLAIN
 }];
 
 /// A store of the calls of rows, over the ledger of these digits.

@@ -8,7 +8,7 @@ use avm_ledger::Ledger;
 use avm_ops::{BoxedOp, Op, OpSet};
 use avm_run::call_plain;
 use mv_core::{Event, Store, run_events};
-use sample_calls::rows::{HEADER, Row, X, call_of, calls_of, ledger_of};
+use sample_calls::rows::{HEADER, PLAIN, Row, call_of, calls_of, ledger_of};
 use sample_calls::worked::{SKEW, SKEW_CALLS};
 use std::alloc::{AllocError, Global};
 use std::sync::Arc;
@@ -32,22 +32,10 @@ const COUNTER: &str = "022001012601016e28286422086722";
 
 /// A creation by X of that application, with room for its number.
 const CREATION: Row = Row {
-    sender: X,
     application: 0,
-    completion: Completion::NoOp,
-    arguments: 0,
-    account: X,
-    foreign: 1,
     program: COUNTER,
     uints: 1,
-};
-
-/// A further call of application 1.
-const CALL: Row = Row {
-    application: 1,
-    program: "",
-    uints: 0,
-    ..CREATION
+    ..PLAIN
 };
 
 /// Ledgers, and calls on them: a creation, one without room, an opting in that is rejected, and a clear state program that
@@ -65,14 +53,14 @@ const CALLS: [(&str, Row); 4] = [
         REJECTS,
         Row {
             completion: Completion::OptIn,
-            ..CALL
+            ..PLAIN
         },
     ),
     (
         CLEARS,
         Row {
             completion: Completion::ClearState,
-            ..CALL
+            ..PLAIN
         },
     ),
 ];
