@@ -4,7 +4,7 @@ ghost use Rattle.std.specs.Prelude.{◌≡◌, ◌++◌, IfOk, IfSome, Some};
 ghost use Rattle.avm_arith.specs.Families.{joined_opcode};
 
 use crate::of_bytes::range_of;
-use avm_cpu::{Cpu, Flow};
+use avm_cpu::{Cpu, Flow, MAX_BYTES};
 use avm_items::Env;
 use avm_ops::{Op, Stop};
 use std::alloc::{AllocError, Global};
@@ -71,7 +71,7 @@ impl Op for Joined {
         match self {
             Joined::Concat => {
                 let (first, second) = cpu.two_bytes()?;
-                if first.len() > 4096 || second.len() > 4096 - first.len() {
+                if first.len() > MAX_BYTES || second.len() > MAX_BYTES - first.len() {
                     return Err(Stop::Fault(Fault::TooLong));
                 }
                 let bytes = concatenated(alloc, first, second)?;

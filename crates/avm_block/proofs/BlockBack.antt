@@ -15,13 +15,13 @@ use Rattle.avm_ledger.specs.Spellings.{u32_bytes, u64_bytes, header_bytes}
 use Rattle.avm_ledger.specs.FieldReader.{bytes_at}
 use Rattle.avm_ledger.proofs.FieldsBack.{then, bytes_back, byte_back, u32_back, u64_back}
 use Rattle.avm_items.specs.declared.call_data.CallData.{CallData}
-use Rattle.avm_items.specs.CallSpelling.{call_bytes}
-use Rattle.avm_items.specs.CallRoundTrip.{HasFields}
-use Rattle.avm_items.proofs.CallBack.{call_back}
+use Rattle.avm_call_codec.specs.CallSpelling.{call_bytes}
+use Rattle.avm_call_codec.specs.CallRoundTrip.{HasFields}
+use Rattle.avm_call_codec.proofs.CallBack.{call_back}
 use Rattle.avm_call.specs.OutcomeSpelling.{outcome_bytes}
 use Rattle.avm_block.specs.declared.block_fault.BlockFault.TheVariants.{Truncated, Digest}
 use Rattle.avm_block.specs.declared.entry.Entry.{Entry}
-use Rattle.avm_block.specs.Blocks.{Block}
+use Rattle.avm_block.specs.Blocks.{Block, most_calls}
 use Rattle.avm_block.specs.BlockSpelling.{magic, format_bytes, entry_bytes, body_bytes, block_bytes}
 use Rattle.avm_block.specs.BlockReader.{magic_at, profile_at, header_at, timestamp_at, in_block, call_in, entry_at, entries_at, count_at, body_at, sealed, block_at}
 use Rattle.avm_block.specs.BlockRoundTrip.{IsEntry, AreEntries, IsHeader, IsBlock}
@@ -81,9 +81,9 @@ entries_back accepted (e ∷ es) before rest are =
     ∙ then (entry_at accepted before (entry_bytes e ++ behind)) (e, behind) (λ x. entries_at accepted (length es) x.0.timestamp x.1 >>= λ more. Ok (x.0 ∷ more.0, more.1)) (Ok (e ∷ es, rest)) (entry_back accepted before e behind are.0)
     (then (entries_at accepted (length es) e.timestamp behind) (es, rest) (λ more. Ok (e ∷ more.0, more.1)) (Ok (e ∷ es, rest)) (entries_back accepted es e.timestamp rest are.1) refl)
 
-count_back : (n : ℕ) (rest : List ℕ) → n ≤ 4096 → count_at (u32_bytes n ++ rest) ≡ Ok (n, rest)
+count_back : (n : ℕ) (rest : List ℕ) → n ≤ most_calls → count_at (u32_bytes n ++ rest) ≡ Ok (n, rest)
 count_back n rest few =
-    let test : leb n 4096 ≡ true = le-leb n 4096 few in
+    let test : leb n most_calls ≡ true = le-leb n most_calls few in
     then _ _ _ _ (u32_back Truncated n rest (omega arith)) (rw test refl)
 
 body_chain : (m f b h n es a rest : List ℕ) → (m ++ f ++ b ++ h ++ (n ++ es) ++ a) ++ rest ≡ m ++ (f ++ (b ++ (h ++ (n ++ (es ++ (a ++ rest))))))

@@ -2,7 +2,7 @@
 use Rattle.std.proofs.Common.{◌≡◌, ℕ, ◌^◌, ◌<◌, true, Bool, List, [], ◌∷◌, All}
 use Rattle.std.proofs.lemmas.List.Elements.{All-head, All-tail}
 use Rattle.avm_items.specs.declared.call_data.CallData.{CallData}
-use Rattle.avm_items.specs.CallRoundTrip.{HasFields}
+use Rattle.avm_call_codec.specs.CallRoundTrip.{HasFields}
 use Rattle.avm_block.specs.declared.entry.Entry.{Entry}
 use Rattle.avm_block.specs.Blocks.{RisesAbove}
 use Rattle.avm_call.specs.Places.{HasPlace}

@@ -17,16 +17,16 @@ use Rattle.avm_ledger.specs.Spellings.{u32_bytes, u64_bytes, header_bytes}
 use Rattle.avm_ledger.specs.FieldReader.{Front, bytes_at, number_at}
 use Rattle.avm_ledger.proofs.FieldsSpelled.{from, same_value, IsSpelled, spelled, join, bytes_spelled, byte_spelled, u32_spelled, u64_spelled}
 use Rattle.avm_ledger.proofs.FieldsFit.{u64_fits}
-use Rattle.avm_items.specs.declared.call_fault.CallDataFault.{CallDataFault}
+use Rattle.avm_call_codec.specs.declared.call_data_fault.CallDataFault.{CallDataFault}
 use Rattle.avm_items.specs.declared.call_data.CallData.{CallData}
-use Rattle.avm_items.specs.CallSpelling.{call_bytes}
-use Rattle.avm_items.specs.CallReader.{call_front}
-use Rattle.avm_items.specs.CallRoundTrip.{HasFields}
-use Rattle.avm_items.proofs.CallSpelled.{front_spells}
+use Rattle.avm_call_codec.specs.CallSpelling.{call_bytes}
+use Rattle.avm_call_codec.specs.CallReader.{call_front}
+use Rattle.avm_call_codec.specs.CallRoundTrip.{HasFields}
+use Rattle.avm_call_codec.proofs.CallSpelled.{front_spells}
 use Rattle.avm_block.specs.declared.block_fault.BlockFault.{BlockFault}
 use Rattle.avm_block.specs.declared.block_fault.BlockFault.TheVariants.{Magic, Format, Truncated, Rest, Order, Field, Digest}
 use Rattle.avm_block.specs.declared.entry.Entry.{Entry}
-use Rattle.avm_block.specs.Blocks.{Block}
+use Rattle.avm_block.specs.Blocks.{Block, most_calls}
 use Rattle.avm_block.specs.BlockSpelling.{magic, format_bytes, entry_bytes, body_bytes, block_bytes}
 use Rattle.avm_block.specs.OutcomeReader.{outcome_at}
 use Rattle.avm_block.specs.BlockReader.{magic_at, profile_of_format, profile_at, header_at, timestamp_at, in_block, call_in, entry_at, entries_at, count_at, body_at, sealed, block_at}
@@ -157,13 +157,13 @@ entries_spelled accepted (suc n) before bytes x all e =
 
 record CountRead (bytes : List ℕ) (x : ℕ × List ℕ) : Type 0 where
   spelled : IsSpelled bytes (u32_bytes x.0) x.1
-  few : x.0 ≤ 4096
+  few : x.0 ≤ most_calls
 
 count_spelled : (bytes : List ℕ) (x : ℕ × List ℕ) → AllBytes bytes → count_at bytes ≡ Ok x → CountRead bytes x
 count_spelled bytes x all e =
     from (number_at Truncated w32 bytes) _ x e (λ n en e1.
-    let rule = kept (λ z. leb z.0 4096) Field n x e1 in
-    record { spelled = subst (λ p. IsSpelled bytes (u32_bytes p.0) p.1) rule.1 (u32_spelled Truncated bytes n all en); few = leb-true x.0 4096 rule.0 })
+    let rule = kept (λ z. leb z.0 most_calls) Field n x e1 in
+    record { spelled = subst (λ p. IsSpelled bytes (u32_bytes p.0) p.1) rule.1 (u32_spelled Truncated bytes n all en); few = leb-true x.0 most_calls rule.0 })
 
 pub record BodyRead (accepted : Profile → CallData → Bool) (bytes : List ℕ) (x : Block × List ℕ) : Type 0 where
   pub spelled : IsSpelled bytes (body_bytes x.0) x.1
@@ -197,7 +197,7 @@ body_spelled accepted bytes x all e =
       block = record {
         base = (bytes_spelled Truncated 32 p.1 d ed).1;
         header = s4.fits;
-        few = subst (λ k. k ≤ 4096) (sym s6.count) s5.few;
+        few = subst (λ k. k ≤ most_calls) (sym s6.count) s5.few;
         entries = subst (λ q. AreEntries (accepted q) 0 es.0) (sym s4.profile) s6.entries;
         after = (bytes_spelled Truncated 32 es.1 a ea).1;
       };

@@ -9,9 +9,9 @@ use Rattle.avm_ledger.specs.FieldReader.{bytes_at}
 use Rattle.avm_ledger.proofs.FieldsBack.{then}
 use Rattle.avm_ledger.proofs.FieldsSpelled.{same_value, bytes_spelled}
 use Rattle.avm_items.specs.declared.call_data.CallData.{CallData}
-use Rattle.avm_items.specs.CallReader.{call_front, call_from}
-use Rattle.avm_items.proofs.CallBack.{call_back}
-use Rattle.avm_items.proofs.CallSpelled.{place_spells}
+use Rattle.avm_call_codec.specs.CallReader.{call_front, call_from}
+use Rattle.avm_call_codec.proofs.CallBack.{call_back}
+use Rattle.avm_call_codec.proofs.CallSpelled.{place_spells}
 use Rattle.avm_block.specs.declared.block_fault.BlockFault.{BlockFault}
 use Rattle.avm_block.specs.declared.block_fault.BlockFault.TheVariants.{Field}
 use Rattle.avm_block.specs.BlockReader.{in_block, call_in}

@@ -3,15 +3,16 @@ use Rattle.std.proofs.Common.{◌≡◌, ℕ, ◌^◌, ◌<◌, ◌≤◌, Bool,
 use Rattle.std.specs.Prelude.{if◌then◌else◌, not}
 use Rattle.std.proofs.lemmas.Bool.{eqb-true, ltb-false}
 use Rattle.std.proofs.lemmas.List.Elements.{All-nil, All-cons}
+use Rattle.teal_code.specs.Limits.{most_program_bytes}
 use Rattle.teal_check.specs.declared.fault.CheckFault.{CheckFault}
 use Rattle.teal_check.specs.WellFormed.{WellFormed, checked}
 use Rattle.teal_check.proofs.CheckedPrograms.{is_checked}
 use Rattle.avm_items.specs.declared.call_data.CallData.{CallData}
 use Rattle.avm_items.specs.CallFields.{creates}
-use Rattle.avm_items.specs.CallRoundTrip.{IsAddress, IsString, IsWord, HasFields}
+use Rattle.avm_call_codec.specs.CallRoundTrip.{IsAddress, IsString, IsWord, HasFields}
 use Rattle.avm_call.specs.declared.call_fault.CallFault.TheVariants as fault
 use Rattle.avm_call.specs.Ends.{is_program}
-use Rattle.avm_call.specs.CallRules.{total_length, updates, is_empty, brings_programs, lacks_programs, has_programs, field_fault, program_fault, or_fault, programs_fault, call_fault}
+use Rattle.avm_call.specs.CallRules.{total_length, updates, is_empty, brings_programs, lacks_programs, has_programs, field_fault, program_fault, or_fault, programs_fault, call_fault, most_note_bytes, most_arguments, most_argument_bytes, most_accounts, most_foreign_applications}
 use Rattle.avm_call.proofs.CallFaults.{no_fault, none_of_both, program_passes}
 
 -- what the types of the fields say
@@ -32,7 +33,7 @@ pub record HasSizes (c : CallData) : Type 0 where
 
 -- ---- programs
 
-program_short : (bytes : List ℕ) (r : Result WellFormed CheckFault) → checked bytes ≡ r → program_fault r ≡ None → length bytes ≤ 1024
+program_short : (bytes : List ℕ) (r : Result WellFormed CheckFault) → checked bytes ≡ r → program_fault r ≡ None → length bytes ≤ most_program_bytes
 program_short bytes (Ok w) is e = (is_checked bytes w is).short
 program_short bytes (Err f) is e = absurd cc
 
@@ -50,11 +51,11 @@ both_empty true true e = (refl, refl)
 both_empty true false e = absurd cc
 both_empty false b e = absurd cc
 
-empty_short : (bytes : List ℕ) → is_empty bytes ≡ true → length bytes ≤ 1024
+empty_short : (bytes : List ℕ) → is_empty bytes ≡ true → length bytes ≤ most_program_bytes
 empty_short bytes e = let none : length bytes ≡ 0 = eqb-true (length bytes) 0 e in omega arith
 
 programs_short : (c : CallData) (b : Bool) → brings_programs c ≡ b → (not b && has_programs c) ≡ false → (if b then or_fault (program_fault (checked c.approval)) (program_fault (checked c.clear)) else None) ≡ None
-    → (length c.approval ≤ 1024) × (length c.clear ≤ 1024)
+    → (length c.approval ≤ most_program_bytes) × (length c.clear ≤ most_program_bytes)
 programs_short c true is given pass =
     let parts = none_of_both (program_fault (checked c.approval)) (program_fault (checked c.clear)) pass in
     (program_short c.approval (checked c.approval) refl parts.0, program_short c.clear (checked c.clear) refl parts.1)
@@ -73,11 +74,11 @@ each_short (s ∷ ss) most within small = All-cons IsString s ss (omega arith) (
 pub fields_fit : (c : CallData) → call_fault c ≡ None → HasSizes c → HasFields c
 fields_fit c e sizes =
     let parts = none_of_both (field_fault c) (programs_fault c) e in
-    let accounts = no_fault (ltb 4 (length c.accounts)) fault.Accounts _ parts.0 in
-    let arguments = no_fault (ltb 16 (length c.arguments)) fault.Args _ accounts.1 in
-    let bytes = no_fault (ltb 2048 (total_length c.arguments)) fault.ArgBytes _ arguments.1 in
-    let foreign = no_fault (ltb 2 (length c.foreign_applications)) fault.Foreign _ bytes.1 in
-    let note = no_fault (ltb 1024 (length c.note)) fault.Note _ foreign.1 in
+    let accounts = no_fault (ltb most_accounts (length c.accounts)) fault.Accounts _ parts.0 in
+    let arguments = no_fault (ltb most_arguments (length c.arguments)) fault.Args _ accounts.1 in
+    let bytes = no_fault (ltb most_argument_bytes (total_length c.arguments)) fault.ArgBytes _ arguments.1 in
+    let foreign = no_fault (ltb most_foreign_applications (length c.foreign_applications)) fault.Foreign _ bytes.1 in
+    let note = no_fault (ltb most_note_bytes (length c.note)) fault.Note _ foreign.1 in
     let missing = no_fault (brings_programs c && lacks_programs c) fault.ProgramsMissing _ note.1 in
     let given = no_fault (not (brings_programs c) && has_programs c) fault.ProgramsGiven _ missing.1 in
     let programs = programs_short c (brings_programs c) refl given.0 parts.1 in
@@ -86,15 +87,15 @@ fields_fit c e sizes =
       fee = sizes.fee;
       first_valid = sizes.first_valid;
       last_valid = sizes.last_valid;
-      note = omega (arith, ltb-false 1024 (length c.note) note.0);
+      note = omega (arith, ltb-false most_note_bytes (length c.note) note.0);
       lease = sizes.lease;
       rekey_to = sizes.rekey_to;
       application = sizes.application;
-      argument_count = omega (arith, ltb-false 16 (length c.arguments) arguments.0);
-      arguments = each_short c.arguments 2048 (ltb-false 2048 (total_length c.arguments) bytes.0) (omega arith);
-      account_count = omega (arith, ltb-false 4 (length c.accounts) accounts.0);
+      argument_count = omega (arith, ltb-false most_arguments (length c.arguments) arguments.0);
+      arguments = each_short c.arguments most_argument_bytes (ltb-false most_argument_bytes (total_length c.arguments) bytes.0) (omega arith);
+      account_count = omega (arith, ltb-false most_accounts (length c.accounts) accounts.0);
       accounts = sizes.accounts;
-      foreign_count = omega (arith, ltb-false 2 (length c.foreign_applications) foreign.0);
+      foreign_count = omega (arith, ltb-false most_foreign_applications (length c.foreign_applications) foreign.0);
       foreign_applications = sizes.foreign_applications;
       approval = omega (arith, programs.0);
       clear = omega (arith, programs.1);

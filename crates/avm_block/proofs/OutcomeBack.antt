@@ -7,6 +7,7 @@ use Rattle.teal_value.specs.Answer.{◌>>=◌}
 use Rattle.teal_value.specs.FaultNumbers.{fault_number, faults}
 use Rattle.teal_value.proofs.FaultsNumbered.{fault_of_number, small_fault}
 use Rattle.teal_value.specs.declared.fault.Fault.{Fault}
+use Rattle.teal_code.specs.Limits.{most_program_bytes}
 use Rattle.avm_ledger.specs.Spellings.{u8_bytes, u16_bytes}
 use Rattle.avm_ledger.specs.FieldReader.{number_at}
 use Rattle.avm_ledger.proofs.FieldsBack.{then, byte_back, u16_back}
@@ -25,16 +26,16 @@ use Rattle.avm_call.specs.Places.{HasCausePlace, HasPlace}
 pub byte_as_it_is : (n : ℕ) (rest : List ℕ) → n < 256 → n ∷ rest ≡ u8_bytes n ++ rest
 byte_as_it_is n rest small = let same : n ≡ n % 256 = omega arith in ap (λ m. m ∷ rest) same
 
-place_back : (place : ℕ) (rest : List ℕ) → place ≤ 1024 → place_at (u16_bytes place ++ rest) ≡ Ok (place, rest)
+place_back : (place : ℕ) (rest : List ℕ) → place ≤ most_program_bytes → place_at (u16_bytes place ++ rest) ≡ Ok (place, rest)
 place_back place rest within =
-    let test : leb place 1024 ≡ true = le-leb place 1024 within in
+    let test : leb place most_program_bytes ≡ true = le-leb place most_program_bytes within in
     then _ _ _ _ (u16_back Truncated place rest (omega arith)) (rw test refl)
 
 number_back : (f : Fault) (rest : List ℕ) → one_at fault_number faults (u8_bytes (fault_number f) ++ rest) ≡ Ok (f, rest)
 number_back f rest =
     then _ _ _ _ (byte_back Truncated (fault_number f) rest (small_fault f)) (ap (λ o. ok_or o Field >>= λ x. Ok (x, rest)) (fault_of_number f))
 
-fault_back : (f : Fault) (place : ℕ) (rest : List ℕ) → place ≤ 1024 → fault_at (fault_number f ∷ (u16_bytes place ++ rest)) ≡ Ok ((f, place), rest)
+fault_back : (f : Fault) (place : ℕ) (rest : List ℕ) → place ≤ most_program_bytes → fault_at (fault_number f ∷ (u16_bytes place ++ rest)) ≡ Ok ((f, place), rest)
 fault_back f place rest within =
     ap fault_at (byte_as_it_is (fault_number f) (u16_bytes place ++ rest) (small_fault f))
     ∙ then _ _ _ _ (number_back f (u16_bytes place ++ rest)) (then _ _ _ _ (place_back place rest within) refl)

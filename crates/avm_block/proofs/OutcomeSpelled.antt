@@ -9,6 +9,7 @@ use Rattle.teal_value.proofs.FaultsNumbered.{small_fault}
 use Rattle.teal_value.specs.declared.fault.Fault.{Fault}
 use Rattle.teal_value.proofs.Binding.{chosen}
 use Rattle.teal_code.proofs.Bytes.{AllBytes}
+use Rattle.teal_code.specs.Limits.{most_program_bytes}
 use Rattle.avm_ledger.specs.Spellings.{u8_bytes, u16_bytes}
 use Rattle.avm_ledger.specs.FieldReader.{Front, number_at}
 use Rattle.avm_ledger.proofs.FieldsSpelled.{from, same_value, IsSpelled, join, byte_spelled, u16_spelled}
@@ -51,23 +52,23 @@ one_spelled {A} number xs small bytes x all e =
     let num : n.0 ≡ number a = numbered_is number n.0 xs a (some _ a ea) in
     subst (λ p. IsSpelled bytes (number p.0 ∷ []) p.1) is (subst (λ s. IsSpelled bytes s n.1) (ap u8_bytes num ∙ small a) (byte_spelled Truncated bytes n all en))))
 
-place_spelled : (bytes : List ℕ) (x : ℕ × List ℕ) → AllBytes bytes → place_at bytes ≡ Ok x → IsSpelled bytes (u16_bytes x.0) x.1 × (x.0 ≤ 1024)
+place_spelled : (bytes : List ℕ) (x : ℕ × List ℕ) → AllBytes bytes → place_at bytes ≡ Ok x → IsSpelled bytes (u16_bytes x.0) x.1 × (x.0 ≤ most_program_bytes)
 place_spelled bytes x all e =
     from (number_at Truncated w16 bytes) _ x e (λ p ep e1.
-    let rule = kept (λ z. leb z.0 1024) Field p x e1 in
-    (subst (λ q. IsSpelled bytes (u16_bytes q.0) q.1) rule.1 (u16_spelled Truncated bytes p all ep), leb-true x.0 1024 rule.0))
+    let rule = kept (λ z. leb z.0 most_program_bytes) Field p x e1 in
+    (subst (λ q. IsSpelled bytes (u16_bytes q.0) q.1) rule.1 (u16_spelled Truncated bytes p all ep), leb-true x.0 most_program_bytes rule.0))
 
 one_fault : (f : Fault) → u8_bytes (fault_number f) ≡ fault_number f ∷ []
 one_fault f = sym (byte_as_it_is (fault_number f) [] (small_fault f))
 
-fault_spelled : (bytes : List ℕ) (x : (Fault × ℕ) × List ℕ) → AllBytes bytes → fault_at bytes ≡ Ok x → IsSpelled bytes (fault_number x.0.0 ∷ u16_bytes x.0.1) x.1 × (x.0.1 ≤ 1024)
+fault_spelled : (bytes : List ℕ) (x : (Fault × ℕ) × List ℕ) → AllBytes bytes → fault_at bytes ≡ Ok x → IsSpelled bytes (fault_number x.0.0 ∷ u16_bytes x.0.1) x.1 × (x.0.1 ≤ most_program_bytes)
 fault_spelled bytes x all e =
     from (one_at fault_number faults bytes) _ x e (λ f ef e1.
     let first = one_spelled fault_number faults one_fault bytes f all ef in
     from (place_at f.1) _ x e1 (λ p ep e2.
     let second = place_spelled f.1 p first.rest_are_bytes ep in
     let is : ◌≡◌ {A = (Fault × ℕ) × List ℕ} ((f.0, p.0), p.1) x = same_value _ _ e2 in
-    subst (λ q. IsSpelled bytes (fault_number q.0.0 ∷ u16_bytes q.0.1) q.1 × (q.0.1 ≤ 1024)) is (join bytes _ f.1 _ p.1 first second.0, second.1)))
+    subst (λ q. IsSpelled bytes (fault_number q.0.0 ∷ u16_bytes q.0.1) q.1 × (q.0.1 ≤ most_program_bytes)) is (join bytes _ f.1 _ p.1 first second.0, second.1)))
 
 -- a kind of this number
 pub of_kind : (k : ℕ) (bytes : List ℕ) (n : ℕ × List ℕ) → IsSpelled bytes (u8_bytes n.0) n.1 → eqb n.0 k ≡ true → IsSpelled bytes (u8_bytes k) n.1

@@ -9,10 +9,10 @@ use Rattle.avm_ledger.specs.declared.header.Header.{Header}
 use Rattle.avm_ledger.specs.declared.header.Profile.{Profile}
 use Rattle.avm_ledger.specs.declared.header.Profile.TheVariants as profile
 use Rattle.avm_ledger.specs.FieldReader.{Front, bytes_at, number_at}
-use Rattle.avm_items.specs.declared.call_fault.CallDataFault.{CallDataFault}
-use Rattle.avm_items.specs.declared.call_fault.CallDataFault.TheVariants as call_fault
+use Rattle.avm_call_codec.specs.declared.call_data_fault.CallDataFault.{CallDataFault}
+use Rattle.avm_call_codec.specs.declared.call_data_fault.CallDataFault.TheVariants as call_fault
 use Rattle.avm_items.specs.declared.call_data.CallData.{CallData}
-use Rattle.avm_items.specs.CallReader.{call_front}
+use Rattle.avm_call_codec.specs.CallReader.{call_front}
 use Rattle.avm_block.specs.declared.block_fault.BlockFault.{BlockFault}
 use Rattle.avm_block.specs.declared.block_fault.BlockFault.TheVariants.{Magic, Format, Truncated, Rest, Order, Field, Digest}
 use Rattle.avm_block.specs.declared.entry.Entry.{Entry}

@@ -3,7 +3,7 @@ use Rattle.std.specs.Prelude.{◌≡◌, ℕ, ◌^◌, ◌<◌, ◌≤◌, Bool,
 use Rattle.avm_ledger.specs.declared.header.Header.{Header}
 use Rattle.avm_ledger.specs.declared.header.Profile.{Profile}
 use Rattle.avm_items.specs.declared.call_data.CallData.{CallData}
-use Rattle.avm_items.specs.CallRoundTrip.{HasFields}
+use Rattle.avm_call_codec.specs.CallRoundTrip.{HasFields}
 use Rattle.avm_call.specs.Places.{HasPlace}
 use Rattle.avm_block.specs.declared.entry.Entry.{Entry}
 use Rattle.avm_block.specs.Blocks.{Block, most_calls}

@@ -4,7 +4,7 @@ use Rattle.sha2.specs.Sha256.{sha256}
 use Rattle.avm_ledger.specs.declared.header.Profile.{Profile}
 use Rattle.avm_ledger.specs.declared.header.Profile.TheVariants as profile
 use Rattle.avm_ledger.specs.Spellings.{u32_bytes, u64_bytes, counted_bytes, header_bytes}
-use Rattle.avm_items.specs.CallSpelling.{call_bytes}
+use Rattle.avm_call_codec.specs.CallSpelling.{call_bytes}
 use Rattle.avm_call.specs.OutcomeSpelling.{outcome_bytes}
 use Rattle.avm_block.specs.declared.entry.Entry.{Entry}
 use Rattle.avm_block.specs.Blocks.{Block}

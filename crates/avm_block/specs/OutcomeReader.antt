@@ -5,6 +5,7 @@ use Rattle.std.specs.Int.{w8, w16}
 use Rattle.teal_value.specs.Answer.{◌>>=◌}
 use Rattle.teal_value.specs.declared.fault.Fault.{Fault}
 use Rattle.teal_value.specs.FaultNumbers.{fault_number, faults, numbered}
+use Rattle.teal_code.specs.Limits.{most_program_bytes}
 use Rattle.avm_ledger.specs.FieldReader.{Front, number_at}
 use Rattle.avm_call.specs.declared.outcome.Cause.{Cause}
 use Rattle.avm_call.specs.declared.outcome.Cause.TheVariants as cause
@@ -23,7 +24,7 @@ one_at number xs bytes = do
 
 -- a place of a program
 abbrev pub place_at : List ℕ → Front BlockFault ℕ
-place_at bytes = number_at Truncated w16 bytes >>= λ place. if nat_le place.0 1024 then Ok place else Err Field
+place_at bytes = number_at Truncated w16 bytes >>= λ place. if nat_le place.0 most_program_bytes then Ok place else Err Field
 
 abbrev pub fault_at : List ℕ → Front BlockFault (Fault × ℕ)
 fault_at bytes = do

@@ -1,7 +1,7 @@
 //! That the fields of calls are within the sizes that their bytes have room for. What stands here does no work.
 
 ghost use Rattle.std.specs.Prelude.{◌≡◌, ◌<◌, length, None, All};
-ghost use Rattle.avm_items.specs.CallRoundTrip.{HasFields, IsAddress, IsWord};
+ghost use Rattle.avm_call_codec.specs.CallRoundTrip.{HasFields, IsAddress, IsWord};
 ghost use Rattle.avm_call.specs.CallRules.{call_fault};
 
 use crate::entry::Entry;

@@ -2,7 +2,7 @@
 
 ghost use Rattle.std.specs.Prelude.{◌≡◌, if◌then◌else◌, Ok, Err, IfOk};
 ghost use Rattle.teal_value.specs.Answer.{Gives};
-ghost use Rattle.avm_items.specs.CallReader.{call_front};
+ghost use Rattle.avm_call_codec.specs.CallReader.{call_front};
 ghost use Rattle.avm_block.specs.declared.block_fault.BlockFault.TheVariants.{Field};
 ghost use Rattle.avm_block.specs.AcceptedCalls.{is_accepted};
 ghost use Rattle.avm_block.specs.Blocks.{Block as BlockRecord};
@@ -18,8 +18,8 @@ use crate::entry::Entry;
 use crate::header_codec::{header_of, profile_of};
 use crate::outcome_codec::outcome_of;
 use avm_call::Call;
-use avm_call_codec::CallCodec;
-use avm_items::{CallData, CallDataFault};
+use avm_call_codec::{CallCodec, CallDataFault};
+use avm_items::CallData;
 use avm_ledger::{Fields, Profile};
 use sha2::{Digest, Sha256};
 use std::alloc::Global;

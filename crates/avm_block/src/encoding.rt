@@ -11,7 +11,7 @@ use crate::entry::Entry;
 use crate::header_codec::{put_format, put_header};
 use crate::outcome_codec::put_outcome;
 use avm_call_codec::CallCodec;
-use avm_ledger::spelling::{put_u32, put_u64};
+use avm_ledger::spelling::{put_long_count, put_u64};
 use sha2::{Digest, Sha256};
 use std::alloc::{AllocError, Global};
 
@@ -48,7 +48,7 @@ fn put_body(bytes: &mut Vec<u8>, block: &Block) -> Result<(), AllocError>
 fn put_entries(bytes: &mut Vec<u8>, entries: &[Entry]) -> Result<(), AllocError>
     ensures { OnOk result (bytes.new.items ≡ bytes.old.items ++ counted_bytes u32_bytes entry_bytes entries.now) }
 {
-    put_u32(bytes, entries.len())?;
+    put_long_count(bytes, entries.len())?;
     for entry in entries {
         put_entry(bytes, entry)?;
     }

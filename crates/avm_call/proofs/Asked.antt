@@ -1,6 +1,7 @@
 -- A call asks for at most two items before its program, and three a step.
 use Rattle.std.proofs.Common.{◌≡◌, ◌+◌, ◌-◌, ◌*◌, ◌^◌, ℕ, Bool, true, false, Option, None, Some, Result, Ok, Err, refl, arith, List}
 use Rattle.std.specs.Prelude.{◌==◌, ◌||◌, ◌&&◌, not, IsTrue, is_some}
+use Rattle.teal_code.specs.Limits.{most_cost}
 use Rattle.avm_ledger.specs.declared.application.Application.{Application}
 use Rattle.avm_ledger.specs.declared.header.Header.{Header}
 use Rattle.avm_items.specs.declared.call_data.Completion.{Completion}
@@ -18,7 +19,7 @@ use Rattle.avm_call.specs.declared.outcome.Why.{Why}
 use Rattle.avm_call.specs.declared.outcome.Why.TheVariants as why
 use Rattle.avm_call.specs.Runs.{Execution, whole_path, program_result, ended_at}
 use Rattle.avm_call.specs.Calls.{Target, created, new_target, called_target, target, is_opted_in, opt_in_test, admitted, prepared, program_of, execution, ending, runs, runs_on, goes_on, call_result}
-use Rattle.avm_call.specs.Ends.{HasEnded, is_program, has_programs}
+use Rattle.avm_call.specs.Ends.{HasEnded, is_program, has_programs, most_items}
 use Rattle.teal_check.specs.WellFormed.{checked}
 use Rattle.avm_items.specs.Items.{ItemMap}
 use Rattle.avm_call.proofs.LaidOut.{program_asks}
@@ -136,5 +137,5 @@ call_asks fits n paths call header new =
 -- ---- checked programs
 
 pub calls_ask_little : (call : CallData) (header : Header) → (creates call ≡ true → (is_program call.approval ≡ true) × (is_program call.clear ≡ true))
-    → AsksAtMost (λ v. IsTrue (has_programs v)) (2 + 3 * 700) Any (call_result call header)
-calls_ask_little call header new = call_asks is_program (3 * 700) (λ e writes h. program_asks e writes (checked e.program) refl h) call header new
+    → AsksAtMost (λ v. IsTrue (has_programs v)) most_items Any (call_result call header)
+calls_ask_little call header new = call_asks is_program (3 * most_cost) (λ e writes h. program_asks e writes (checked e.program) refl h) call header new

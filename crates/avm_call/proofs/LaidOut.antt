@@ -16,6 +16,7 @@ use Rattle.teal_code.specs.declared.instr.Immediates.{Immediates}
 use Rattle.teal_code.specs.declared.instr.Immediates.TheVariants as is
 use Rattle.teal_code.specs.declared.instr.Instr.{Instr}
 use Rattle.teal_code.specs.Reader.{Read, varuint_at, instr_at, with_opcode, immediates_at, read_at}
+use Rattle.teal_code.specs.Limits.{most_cost}
 use Rattle.teal_check.specs.declared.fault.CheckFault.{CheckFault}
 use Rattle.teal_check.specs.declared.fault.CheckFault.TheVariants as fault
 use Rattle.teal_check.specs.declared.program.Placed.{Placed}
@@ -301,7 +302,7 @@ count_below_cost (p ∷ ps) =
 
 -- how long a checked program is, in instructions and in bytes
 record IsFew (bytes : List ℕ) (w : WellFormed) : Type 0 where
-  instructions : length w.placed ≤ 700
+  instructions : length w.placed ≤ most_cost
   in_bytes : length w.placed ≤ length bytes
 
 few : (bytes : List ℕ) (w : WellFormed) → checked bytes ≡ Ok w → IsFew bytes w
@@ -310,10 +311,10 @@ few bytes w e =
     let rises = placed_rises (length bytes) w.version bytes c.start c.bare c.within c.placed in
     record { instructions = omega (arith, count_below_cost w.placed, c.cost, c.cheap); in_bytes = omega (arith, c.same_count, rises.1) }
 
-pub program_asks : (e : Execution) (writes : ItemMap) (r : Result WellFormed CheckFault) → checked e.program ≡ r → is_ok r ≡ true → AsksAtMost Any (3 * 700) HasEnded (whole_path e writes)
+pub program_asks : (e : Execution) (writes : ItemMap) (r : Result WellFormed CheckFault) → checked e.program ≡ r → is_ok r ≡ true → AsksAtMost Any (3 * most_cost) HasEnded (whole_path e writes)
 program_asks e writes (Err f) is h = absurd cc
 program_asks e writes (Ok w) is h =
     let short = few e.program w is in
     let count = length-places w.placed in
-    at_most-more Any (3 * length (places w.placed)) (3 * 700) HasEnded (whole_path e writes) (omega (arith, short.instructions, count))
+    at_most-more Any (3 * length (places w.placed)) (3 * most_cost) HasEnded (whole_path e writes) (omega (arith, short.instructions, count))
     (whole_path_steps e writes (places w.placed) (laid_out e.program w is) (omega (arith, short.in_bytes, count)))

@@ -6,6 +6,7 @@ use Rattle.teal_value.specs.declared.value.Value.{Value}
 use Rattle.teal_value.specs.declared.value.Value.TheVariants.{Uint, Bytes}
 use Rattle.teal_value.proofs.Binding.{bind_ok, chosen}
 use Rattle.teal_table.specs.declared.shape.Version.{Version}
+use Rattle.teal_code.specs.Limits.{most_program_bytes}
 use Rattle.teal_check.specs.declared.fault.CheckFault.{CheckFault}
 use Rattle.teal_check.specs.declared.program.Placed.{Placed}
 use Rattle.teal_check.specs.WellFormed.{WellFormed, placed_at, placed_from, places, checked}
@@ -67,8 +68,8 @@ placed_within (suc n) version bytes place ps within e x there =
 
 -- the places of a program are few
 record IsShort (bytes : List ℕ) (w : WellFormed) : Type 0 where
-  short : length bytes ≤ 1024
-  within : (x : ℕ) → is_start_or_end (places w.placed) (length bytes) x ≡ true → x ≤ 1024
+  short : length bytes ≤ most_program_bytes
+  within : (x : ℕ) → is_start_or_end (places w.placed) (length bytes) x ≡ true → x ≤ most_program_bytes
 
 is_short : (bytes : List ℕ) (w : WellFormed) → checked bytes ≡ Ok w → IsShort bytes w
 is_short bytes w e =
@@ -77,21 +78,21 @@ is_short bytes w e =
     λ x there. placed_within (length bytes) w.version bytes c.start c.bare c.within c.placed x (subst (λ ss. is_start ss x ≡ true) c.same_places there) in
     record {
       short = c.short;
-      within = λ x h. one_within x (length bytes) 1024 (x == length bytes) (is_start (places w.placed) x) refl c.short (λ there. omega (arith, low x there, c.short)) h;
+      within = λ x h. one_within x (length bytes) most_program_bytes (x == length bytes) (is_start (places w.placed) x) refl c.short (λ there. omega (arith, low x there, c.short)) h;
     }
 
 -- a program has few bytes
-pub program_is_short : (bytes : List ℕ) → is_program bytes ≡ true → length bytes ≤ 1024
+pub program_is_short : (bytes : List ℕ) → is_program bytes ≡ true → length bytes ≤ most_program_bytes
 program_is_short bytes passes = by (checked bytes) refl passes
   where
-    by : (r : Result WellFormed CheckFault) → checked bytes ≡ r → is_ok r ≡ true → length bytes ≤ 1024
+    by : (r : Result WellFormed CheckFault) → checked bytes ≡ r → is_ok r ≡ true → length bytes ≤ most_program_bytes
     by (Ok w) is pass = (is_short bytes w is).short
     by (Err f) is pass = absurd cc
 
 -- ---- the path of a program
 
 abbrev EndHasPlace : Ended → Type 0
-EndHasPlace (ended.Faulted f place) = place ≤ 1024
+EndHasPlace (ended.Faulted f place) = place ≤ most_program_bytes
 EndHasPlace ended.Approved = Unit {0}
 EndHasPlace ended.Rejected = Unit {0}
 
@@ -107,7 +108,7 @@ weaker : {A : Type 0} (F : ItemValue → Type 0) (n : ℕ) (P Q : A → Type 0) 
 weaker F n P Q (Gives a) f h = f a h
 weaker F n P Q (Asks x k) f h = (h.0, λ v comes. weaker F (n - 1) P Q (k v) f (h.1 v comes))
 
-result_at_end_within : (n : ℕ) (stack : List Value) → n ≤ 1024 → EndHasPlace (result_at_end n stack)
+result_at_end_within : (n : ℕ) (stack : List Value) → n ≤ most_program_bytes → EndHasPlace (result_at_end n stack)
 result_at_end_within n [] short = short
 result_at_end_within n (Uint zero ∷ []) short = tt
 result_at_end_within n (Uint (suc m) ∷ []) short = tt
@@ -116,19 +117,19 @@ result_at_end_within n (Uint zero ∷ w ∷ vs) short = short
 result_at_end_within n (Uint (suc m) ∷ w ∷ vs) short = short
 result_at_end_within n (Bytes s ∷ w ∷ vs) short = short
 
-laid_stands : (starts : List ℕ) (e : Execution) (p : Position) → p.place ≤ 1024 → (r : Result Position Ended) → LaidOn starts e p r → StandsOn starts e r
+laid_stands : (starts : List ℕ) (e : Execution) (p : Position) → p.place ≤ most_program_bytes → (r : Result Position Ended) → LaidOn starts e p r → StandsOn starts e r
 laid_stands starts e p within (Ok q) h = h.1
 laid_stands starts e p within (Err (ended.Faulted f place)) h = omega (arith, h)
 laid_stands starts e p within (Err ended.Approved) h = tt
 laid_stands starts e p within (Err ended.Rejected) h = tt
 
-step_by : (e : Execution) (starts : List ℕ) → IsLaidOut e.program starts → length e.program ≤ 1024 → (p : Position) → p.place ≤ 1024 → (b : Bool) → (b || is_start starts p.place) ≡ true
+step_by : (e : Execution) (starts : List ℕ) → IsLaidOut e.program starts → length e.program ≤ most_program_bytes → (p : Position) → p.place ≤ most_program_bytes → (b : Bool) → (b || is_start starts p.place) ≡ true
     → AsksAtMost Any 3 (StandsOn starts e) (if b then Gives (Err (result_at_end (length e.program) p.stack)) else executed e p (instruction_at e.program p.place))
 step_by e starts laid short p within true h = result_at_end_within (length e.program) p.stack short
 step_by e starts laid short p within false h =
     weaker Any 3 (LaidOn starts e p) (StandsOn starts e) (executed e p (instruction_at e.program p.place)) (laid_stands starts e p within) (executed_laid e starts laid p h (instruction_at e.program p.place) refl)
 
-run_placed : (e : Execution) (starts : List ℕ) → IsLaidOut e.program starts → length e.program ≤ 1024 → ((x : ℕ) → is_start_or_end starts (length e.program) x ≡ true → x ≤ 1024)
+run_placed : (e : Execution) (starts : List ℕ) → IsLaidOut e.program starts → length e.program ≤ most_program_bytes → ((x : ℕ) → is_start_or_end starts (length e.program) x ≡ true → x ≤ most_program_bytes)
     → (n : ℕ) (p : Position) → is_start_or_end starts (length e.program) p.place ≡ true → AsksAtMost Any (3 * n) PathHasPlace (run_from e n p)
 run_placed e starts laid short within zero p here = tt
 run_placed e starts laid short within (suc n) p here =

@@ -54,14 +54,30 @@ program_and_schema_fault call =
     else if creates call && clears call.completion then Some fault.ClearOnCreate
     else None
 
+-- what the lists of a call hold at most, and its note
+abbrev pub most_accounts : ℕ
+most_accounts = 4
+
+abbrev pub most_arguments : ℕ
+most_arguments = 16
+
+abbrev pub most_argument_bytes : ℕ
+most_argument_bytes = 2048
+
+abbrev pub most_foreign_applications : ℕ
+most_foreign_applications = 2
+
+abbrev pub most_note_bytes : ℕ
+most_note_bytes = 1024
+
 -- the first rule that the fields break, but for those of programs
 abbrev pub field_fault : CallData → Option CallFault
 field_fault call =
-    if nat_lt 4 (length call.accounts) then Some fault.Accounts
-    else if nat_lt 16 (length call.arguments) then Some fault.Args
-    else if nat_lt 2048 (total_length call.arguments) then Some fault.ArgBytes
-    else if nat_lt 2 (length call.foreign_applications) then Some fault.Foreign
-    else if nat_lt 1024 (length call.note) then Some fault.Note
+    if nat_lt most_accounts (length call.accounts) then Some fault.Accounts
+    else if nat_lt most_arguments (length call.arguments) then Some fault.Args
+    else if nat_lt most_argument_bytes (total_length call.arguments) then Some fault.ArgBytes
+    else if nat_lt most_foreign_applications (length call.foreign_applications) then Some fault.Foreign
+    else if nat_lt most_note_bytes (length call.note) then Some fault.Note
     else program_and_schema_fault call
 
 abbrev pub program_fault : Result WellFormed CheckFault → Option CallFault

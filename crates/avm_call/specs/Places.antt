@@ -1,5 +1,6 @@
 -- Where the faults of calls are.
 use Rattle.std.specs.Prelude.{◌≡◌, ◌≤◌, true, IsTrue}
+use Rattle.teal_code.specs.Limits.{most_program_bytes}
 use Rattle.avm_ledger.specs.declared.header.Header.{Header}
 use Rattle.avm_ledger.specs.Ledgers.{Ledger}
 use Rattle.avm_items.specs.declared.call_data.CallData.{CallData}
@@ -15,11 +16,11 @@ use Rattle.avm_call.specs.Replay.{outcome_on}
 
 -- a fault's place is one of a program, or its end
 abbrev pub HasCausePlace : Cause → Type 0
-HasCausePlace (cause.Faulted f place) = place ≤ 1024
+HasCausePlace (cause.Faulted f place) = place ≤ most_program_bytes
 HasCausePlace _ = Unit {0}
 
 abbrev pub HasPlace : Outcome → Type 0
-HasPlace (outcome.Faulted f place) = place ≤ 1024
+HasPlace (outcome.Faulted f place) = place ≤ most_program_bytes
 HasPlace (outcome.ClearedAnyway c) = HasCausePlace c
 HasPlace _ = Unit {0}
 

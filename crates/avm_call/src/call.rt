@@ -12,7 +12,7 @@ ghost use Rattle.avm_items.specs.CallFields.{clears, creates};
 use crate::call_fault::{CallError, CallFault};
 use avm_items::{CallData, Completion};
 use avm_ledger::{Application, Profile, StoredProgram};
-use avm_states::Schema;
+use avm_states::{MAX_GLOBAL_ENTRIES, MAX_LOCAL_ENTRIES, Schema};
 use std::alloc::{AllocError, Global};
 use std::marker::Model;
 use std::sync::Arc;
@@ -21,19 +21,19 @@ use teal_table::Version;
 use teal_value::{ByteString, Failure};
 
 /// The most accounts of a call.
-const MOST_ACCOUNTS: usize = 4;
+const MAX_ACCOUNTS: usize = 4;
 
 /// The most arguments of a call.
-const MOST_ARGUMENTS: usize = 16;
+const MAX_ARGUMENTS: usize = 16;
 
 /// The most bytes of all arguments of a call.
-const MOST_ARGUMENT_BYTES: usize = 2048;
+const MAX_ARGUMENT_BYTES: usize = 2048;
 
 /// The most foreign applications of a call.
-const MOST_FOREIGN_APPLICATIONS: usize = 2;
+const MAX_FOREIGN_APPLICATIONS: usize = 2;
 
 /// The most bytes of a note.
-const MOST_NOTE_BYTES: usize = 1024;
+const MAX_NOTE_BYTES: usize = 1024;
 
 /// The programs that a creation or an update brings.
 #[derive(Drop)]
@@ -198,19 +198,19 @@ fn program_of(alloc: Global, bytes: &[u8]) -> Result<StoredProgram, CallError>
 fn field_fault(fields: &CallData) -> Option<CallFault>
     ensures { result ≡ field_fault fields.now }
 {
-    if fields.accounts.as_slice().len() > MOST_ACCOUNTS {
+    if fields.accounts.as_slice().len() > MAX_ACCOUNTS {
         return Some(CallFault::Accounts);
     }
-    if fields.arguments.as_slice().len() > MOST_ARGUMENTS {
+    if fields.arguments.as_slice().len() > MAX_ARGUMENTS {
         return Some(CallFault::Args);
     }
-    if are_longer(fields.arguments.as_slice(), MOST_ARGUMENT_BYTES) {
+    if are_longer(fields.arguments.as_slice(), MAX_ARGUMENT_BYTES) {
         return Some(CallFault::ArgBytes);
     }
-    if fields.foreign_applications.as_slice().len() > MOST_FOREIGN_APPLICATIONS {
+    if fields.foreign_applications.as_slice().len() > MAX_FOREIGN_APPLICATIONS {
         return Some(CallFault::Foreign);
     }
-    if fields.note.len() > MOST_NOTE_BYTES {
+    if fields.note.len() > MAX_NOTE_BYTES {
         return Some(CallFault::Note);
     }
     program_and_schema_fault(fields)
@@ -252,7 +252,7 @@ fn fits_schemas(fields: &CallData) -> bool
     let global = entries_in(fields.global_schema);
     let local = entries_in(fields.local_schema);
     if fields.application == 0 {
-        global <= 64 && local <= 16
+        global <= MAX_GLOBAL_ENTRIES && local <= MAX_LOCAL_ENTRIES
     } else {
         global == 0 && local == 0
     }

@@ -1,2 +1,3 @@
-pub mod CallParts
-mod Groups
+pub mod CallBack
+pub mod CallSpelled
+pub mod CallRead

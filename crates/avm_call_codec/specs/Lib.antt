@@ -1,2 +1,5 @@
-pub mod CallParts
-pub mod CallGroups
+pub mod CallSpelling
+pub mod CallReader
+pub mod CallRoundTrip
+pub mod WorkedCallBytes
+pub mod FaultNames

@@ -3,13 +3,14 @@
 ghost use Rattle.std.specs.Prelude.{◌≡◌, ◌++◌, ◌<◌, ◌≤◌, length, Ok, IfOk, OnErr, OnOk};
 ghost use Rattle.teal_value.specs.Answer.{Gives};
 ghost use Rattle.avm_items.specs.declared.call_data.CallData.{CallData as CallFields};
-ghost use Rattle.avm_items.specs.CallReader.{call_at, call_from};
-ghost use Rattle.avm_items.specs.CallRoundTrip.{HasFields};
-ghost use Rattle.avm_items.specs.CallSpelling.{call_bytes};
+ghost use Rattle.avm_call_codec.specs.CallReader.{call_at, call_from};
+ghost use Rattle.avm_call_codec.specs.CallRoundTrip.{HasFields};
+ghost use Rattle.avm_call_codec.specs.CallSpelling.{call_bytes};
 
-use crate::reading::{call_of, front_of};
+use crate::call_data_fault::{CallDataError, CallDataFault};
+use crate::reading::{call_alone, front_of};
 use crate::writing::put_call;
-use avm_items::{CallData, CallDataError, CallDataFault};
+use avm_items::CallData;
 use avm_ledger::Fields;
 use std::alloc::{AllocError, Global};
 use teal_value::Failure;
@@ -38,7 +39,7 @@ impl CallCodec for CallData {
         // A call is read from its spelling, unless memory runs out.
         ensures only { (call : CallFields) → HasFields call → bytes.now ≡ call_bytes call → Gives (λ x. x) result (Ok call) }
     {
-        call_of(alloc, bytes)
+        call_alone(alloc, bytes)
     }
 
     fn front(alloc: Global, bytes: &[u8], place: usize) -> Result<(CallData, usize), CallDataError>

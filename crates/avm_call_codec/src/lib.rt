@@ -1,10 +1,13 @@
 //! The bytes of calls: [`CallCodec`] reads and writes the fields of an application call. What the bytes are stands in
-//! `avm_items`, `specs/CallSpelling.antt` and `specs/CallReader.antt`, with their laws in `avm_items::reading_laws`.
+//! `specs/CallSpelling.antt` and `specs/CallReader.antt`, their laws are the contracts of `reading_laws`.
 #![tactic(auto)]
 
+mod call_data_fault;
 mod codec;
-mod parts;
+mod groups;
 mod reading;
+pub mod reading_laws;
 mod writing;
 
+pub use call_data_fault::{CallDataError, CallDataFault};
 pub use codec::CallCodec;

@@ -3,18 +3,18 @@
 ghost use Rattle.std.specs.Int.{w64};
 ghost use Rattle.teal_value.specs.Answer.{Gives};
 ghost use Rattle.avm_ledger.specs.FieldReader.{address_at, counted_at, many_at, number_at, string_at};
-ghost use Rattle.avm_items.specs.declared.call_fault.CallDataFault.TheVariants.{Truncated};
-ghost use Rattle.avm_items.specs.CallReader.{call_at, call_front, completion_at};
-ghost use Rattle.avm_call_codec.specs.CallParts.{call_in_parts, front_fields, list_fields, program_fields};
+ghost use Rattle.avm_call_codec.specs.declared.call_data_fault.CallDataFault.TheVariants.{Truncated};
+ghost use Rattle.avm_call_codec.specs.CallReader.{call_at, call_front, completion_at, lists_at, programs_at, target_at, terms_at};
 
-use crate::parts::{FrontFields, ListFields, ProgramFields, call_of_parts};
-use avm_items::{Addresses, CallData, CallDataError, CallDataFault, Completion};
+use crate::call_data_fault::{CallDataError, CallDataFault};
+use crate::groups::{Lists, Programs, Target, Terms, call_of};
+use avm_items::{Addresses, CallData, Completion};
 use avm_ledger::Fields;
 use std::alloc::Global;
 use teal_value::{Address, ByteString, ByteStrings, Failure, Uints};
 
 /// The call that the bytes are.
-pub(crate) fn call_of(alloc: Global, bytes: &[u8]) -> Result<CallData, CallDataError>
+pub(crate) fn call_alone(alloc: Global, bytes: &[u8]) -> Result<CallData, CallDataError>
     ensures { Gives (λ call. call) result (call_at bytes.now) }
 {
     let (call, rest) = front_of(alloc, Fields::new(bytes))?;
@@ -31,28 +31,15 @@ pub(crate) fn front_of(
 ) -> Result<(CallData, Fields<'_>), CallDataError>
     ensures { Gives (λ x. x) result (call_front fields.entry) }
 {
-    front_in_parts(alloc, fields)
+    let (terms, rest) = terms_of(alloc, fields)?;
+    let (target, rest) = target_of(rest)?;
+    let (lists, rest) = lists_of(alloc, rest)?;
+    let (programs, rest) = programs_of(alloc, rest)?;
+    Ok((call_of(terms, target, lists, programs), rest))
 }
 
-/// The same, one group of fields after another.
-fn front_in_parts(
-    alloc: Global,
-    fields: Fields<'_>,
-) -> Result<(CallData, Fields<'_>), CallDataError>
-    ensures { Gives (λ x. x) result (call_in_parts fields.entry) }
-{
-    let (front, rest) = front_fields_of(alloc, fields)?;
-    let (lists, rest) = list_fields_of(alloc, rest)?;
-    let (programs, rest) = program_fields_of(alloc, rest)?;
-    Ok((call_of_parts(front, lists, programs), rest))
-}
-
-/// The sender up to the completion.
-fn front_fields_of(
-    alloc: Global,
-    fields: Fields<'_>,
-) -> Result<(FrontFields, Fields<'_>), CallDataError>
-    ensures { Gives (λ x. x) result (front_fields fields.entry) }
+fn terms_of(alloc: Global, fields: Fields<'_>) -> Result<(Terms, Fields<'_>), CallDataError>
+    ensures { Gives (λ x. x) result (terms_at fields.entry) }
 {
     let truncated = CallDataFault::Truncated;
     let (sender, rest) = fields.address(truncated)?;
@@ -60,35 +47,40 @@ fn front_fields_of(
     let (first_valid, rest) = rest.u64(truncated)?;
     let (last_valid, rest) = rest.u64(truncated)?;
     let (note, rest) = string_of(alloc, rest)?;
-    let (lease, rest) = rest.array(truncated)?;
-    let (rekey_to, rest) = rest.address(truncated)?;
-    let (application, rest) = rest.u64(truncated)?;
-    let (completion, rest) = completion_of(rest)?;
-    let front = FrontFields {
+    let terms = Terms {
         sender,
         fee,
         first_valid,
         last_valid,
         note,
+    };
+    Ok((terms, rest))
+}
+
+fn target_of(fields: Fields<'_>) -> Result<(Target, Fields<'_>), CallDataError>
+    ensures { Gives (λ x. x) result (target_at fields.entry) }
+{
+    let truncated = CallDataFault::Truncated;
+    let (lease, rest) = fields.array(truncated)?;
+    let (rekey_to, rest) = rest.address(truncated)?;
+    let (application, rest) = rest.u64(truncated)?;
+    let (completion, rest) = completion_of(rest)?;
+    let target = Target {
         lease,
         rekey_to,
         application,
         completion,
     };
-    Ok((front, rest))
+    Ok((target, rest))
 }
 
-/// The arguments, accounts and foreign applications.
-fn list_fields_of(
-    alloc: Global,
-    fields: Fields<'_>,
-) -> Result<(ListFields, Fields<'_>), CallDataError>
-    ensures { Gives (λ x. x) result (list_fields fields.entry) }
+fn lists_of(alloc: Global, fields: Fields<'_>) -> Result<(Lists, Fields<'_>), CallDataError>
+    ensures { Gives (λ x. x) result (lists_at fields.entry) }
 {
     let (arguments, rest) = strings_of(alloc, fields)?;
     let (accounts, rest) = addresses_of(alloc, rest)?;
     let (foreign_applications, rest) = uints_of(alloc, rest)?;
-    let lists = ListFields {
+    let lists = Lists {
         arguments,
         accounts,
         foreign_applications,
@@ -96,18 +88,14 @@ fn list_fields_of(
     Ok((lists, rest))
 }
 
-/// The programs and schemas.
-fn program_fields_of(
-    alloc: Global,
-    fields: Fields<'_>,
-) -> Result<(ProgramFields, Fields<'_>), CallDataError>
-    ensures { Gives (λ x. x) result (program_fields fields.entry) }
+fn programs_of(alloc: Global, fields: Fields<'_>) -> Result<(Programs, Fields<'_>), CallDataError>
+    ensures { Gives (λ x. x) result (programs_at fields.entry) }
 {
     let (approval, rest) = string_of(alloc, fields)?;
     let (clear, rest) = string_of(alloc, rest)?;
     let (global_schema, rest) = rest.schema(CallDataFault::Truncated)?;
     let (local_schema, rest) = rest.schema(CallDataFault::Truncated)?;
-    let programs = ProgramFields {
+    let programs = Programs {
         approval,
         clear,
         global_schema,

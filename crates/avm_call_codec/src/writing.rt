@@ -3,11 +3,10 @@
 ghost use Rattle.std.specs.Prelude.{◌≡◌, ◌++◌, OnErr, OnOk};
 ghost use Rattle.teal_code.specs.Spelling.{Continues};
 ghost use Rattle.avm_ledger.specs.Spellings.{counted_bytes, string_bytes, u64_bytes, u8_bytes};
-ghost use Rattle.avm_items.specs.CallSpelling.{address_bytes, call_bytes};
-ghost use Rattle.avm_call_codec.specs.CallGroups.{lists_bytes, programs_bytes, target_bytes, terms_bytes};
+ghost use Rattle.avm_call_codec.specs.CallSpelling.{address_bytes, call_bytes, lists_bytes, programs_bytes, target_bytes, terms_bytes};
 
 use avm_items::CallData;
-use avm_ledger::spelling::{cut_if_refused, put_schema, put_string, put_u8, put_u64};
+use avm_ledger::spelling::{cut_if_refused, put_schema, put_short_count, put_string, put_u64};
 use std::alloc::AllocError;
 use teal_value::{Address, ByteString};
 
@@ -51,7 +50,8 @@ fn push_target(bytes: &mut Vec<u8>, call: &CallData) -> Result<(), AllocError>
     bytes.extend_from_slice(&call.lease)?;
     bytes.extend_from_slice(&call.rekey_to.0)?;
     put_u64(bytes, call.application)?;
-    put_u8(bytes, usize::from(call.completion.number()))
+    bytes.push(call.completion.number())?;
+    Ok(())
 }
 
 fn push_lists(bytes: &mut Vec<u8>, call: &CallData) -> Result<(), AllocError>
@@ -77,7 +77,7 @@ fn push_strings(bytes: &mut Vec<u8>, strings: &[ByteString]) -> Result<(), Alloc
     ensures written { OnOk result (bytes.new.items ≡ bytes.old.items ++ counted_bytes u8_bytes string_bytes strings.now) }
     ensures kept { Continues bytes.old.items bytes.new.items }
 {
-    put_u8(bytes, strings.len())?;
+    put_short_count(bytes, strings.len())?;
     for string in strings {
         put_string(bytes, string.as_slice())?;
     }
@@ -88,7 +88,7 @@ fn push_addresses(bytes: &mut Vec<u8>, addresses: &[Address]) -> Result<(), Allo
     ensures written { OnOk result (bytes.new.items ≡ bytes.old.items ++ counted_bytes u8_bytes address_bytes addresses.now) }
     ensures kept { Continues bytes.old.items bytes.new.items }
 {
-    put_u8(bytes, addresses.len())?;
+    put_short_count(bytes, addresses.len())?;
     for address in addresses {
         bytes.extend_from_slice(&address.0)?;
     }
@@ -99,7 +99,7 @@ fn push_uints(bytes: &mut Vec<u8>, numbers: &[u64]) -> Result<(), AllocError>
     ensures written { OnOk result (bytes.new.items ≡ bytes.old.items ++ counted_bytes u8_bytes u64_bytes numbers.now) }
     ensures kept { Continues bytes.old.items bytes.new.items }
 {
-    put_u8(bytes, numbers.len())?;
+    put_short_count(bytes, numbers.len())?;
     for number in numbers {
         put_u64(bytes, *number)?;
     }

@@ -13,16 +13,25 @@ use std::alloc::{AllocError, Global};
 use std::marker::Model;
 use teal_value::{ByteString, Fault, Value, write_over};
 
-/// The machine of one run. At most 1000 values stand on the stack (AVM specification, "The Stack").
+/// The most values that stand on the stack (AVM specification, "The Stack").
+const MAX_VALUES: usize = 1000;
+
+/// The places of the scratch space (AVM specification, "Scratch Space").
+const PLACES: usize = 256;
+
+/// The most bytes of a byte string (AVM specification, "The Stack").
+pub const MAX_BYTES: usize = 4096;
+
+/// The machine of one run.
 ///
 /// A program's instruction reads its operands by `&self`, computes and tests, and then changes the machine: so a fault
 /// leaves it as it was. The stack and the scratch space lie in boxes: a machine is moved by a few words, and is made once
 /// for many runs, by [`Cpu::reset`]. The memory for constants stays with it from run to run.
 #[derive(Drop)]
 pub struct Cpu {
-    stack: Box<ArrayVec<Value, 1000>>,
+    stack: Box<ArrayVec<Value, MAX_VALUES>>,
     /// The values of the scratch space up to the last that was written; the others are 0.
-    scratch: Box<ArrayVec<Value, 256>>,
+    scratch: Box<ArrayVec<Value, PLACES>>,
     /// The value of a place that was not written, to be lent.
     zero: Value,
     uint_constants: Vec<u64>,
@@ -55,7 +64,7 @@ fn nth_from_last(values: &[Value], depth: usize) -> Option<&Value>
 
 /// A stack without values. It is made out of line, since no caller is to have room for one among its own variables.
 #[inline(never)]
-fn empty_stack(alloc: Global) -> Result<Box<ArrayVec<Value, 1000>>, AllocError>
+fn empty_stack(alloc: Global) -> Result<Box<ArrayVec<Value, MAX_VALUES>>, AllocError>
     ensures { IfOk result (λ stack. stack.value.items ≡ []) }
 {
     Ok(Box::new(alloc, ArrayVec::new())?)
@@ -63,14 +72,14 @@ fn empty_stack(alloc: Global) -> Result<Box<ArrayVec<Value, 1000>>, AllocError>
 
 /// A scratch space without a value that was written, made out of line as the stack is.
 #[inline(never)]
-fn empty_scratch(alloc: Global) -> Result<Box<ArrayVec<Value, 256>>, AllocError>
+fn empty_scratch(alloc: Global) -> Result<Box<ArrayVec<Value, PLACES>>, AllocError>
     ensures { IfOk result (λ scratch. scratch.value.items ≡ []) }
 {
     Ok(Box::new(alloc, ArrayVec::new())?)
 }
 
 /// Writes the zeros of a scratch space out, up to a place and with it.
-fn fill(scratch: &mut ArrayVec<Value, 256>, place: usize)
+fn fill(scratch: &mut ArrayVec<Value, PLACES>, place: usize)
     requires place { place < 256 }
     requires fits { length scratch.old.items ≤ 256 }
     ensures same { filled scratch.new.items ≡ filled scratch.old.items }
@@ -84,7 +93,7 @@ fn fill(scratch: &mut ArrayVec<Value, 256>, place: usize)
 
 /// Writes a value to an index of a scratch space.
 #[tactic(auto, using(crate::proofs::Scratch::written_over))]
-fn write(scratch: &mut ArrayVec<Value, 256>, index: u8, value: Value)
+fn write(scratch: &mut ArrayVec<Value, PLACES>, index: u8, value: Value)
     requires fits { length scratch.old.items ≤ 256 }
     ensures written { filled scratch.new.items ≡ slice_set (filled scratch.old.items) index value }
     ensures fits { length scratch.new.items ≤ 256 }
@@ -95,7 +104,7 @@ fn write(scratch: &mut ArrayVec<Value, 256>, index: u8, value: Value)
 }
 
 /// Puts a value in the place of the last ones, so many, of which there is at least one.
-fn put_over(values: &mut ArrayVec<Value, 1000>, count: usize, value: Value)
+fn put_over(values: &mut ArrayVec<Value, MAX_VALUES>, count: usize, value: Value)
     requires some { 0 < count }
     requires there { count ≤ length values.old.items }
     ensures put { reverse values.new.items ≡ value ∷ drop count (reverse values.old.items) }
@@ -107,7 +116,7 @@ fn put_over(values: &mut ArrayVec<Value, 1000>, count: usize, value: Value)
 }
 
 /// Exchanges the last two values.
-fn swap_last(values: &mut ArrayVec<Value, 1000>)
+fn swap_last(values: &mut ArrayVec<Value, MAX_VALUES>)
     requires { 2 ≤ length values.old.items }
     ensures { IfOk (two_values (reverse values.old.items)) (λ p. reverse values.new.items ≡ p.0 ∷ p.1 ∷ drop 2 (reverse values.old.items)) }
 {
@@ -414,7 +423,7 @@ impl Cpu {
             (λ _. (length self.old.stack + 2 ≤ most_values) × (self.new ≡ with_stack self.old (top ∷ below ∷ self.old.stack)))
             (λ f. (most_values < length self.old.stack + 2) × (f ≡ StackFull) × (self.new ≡ self.old)) }
     {
-        if self.depth() + 2 > 1000 {
+        if self.depth() + 2 > MAX_VALUES {
             return Err(Fault::StackFull);
         }
         self.stack.push(below);

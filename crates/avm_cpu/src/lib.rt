@@ -6,5 +6,5 @@ mod constants;
 mod cpu;
 mod flow;
 
-pub use cpu::Cpu;
+pub use cpu::{Cpu, MAX_BYTES};
 pub use flow::Flow;

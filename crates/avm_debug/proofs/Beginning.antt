@@ -17,9 +17,10 @@ use Rattle.avm_call.specs.declared.outcome.Why.{Why}
 use Rattle.avm_call.specs.Runs.{Position}
 use Rattle.avm_call.specs.Calls.{Target, admitted}
 use Rattle.avm_call.specs.CallPaths.{call_path, path_of_row, path_of_target}
+use Rattle.avm_call.specs.Ends.{most_items}
 use Rattle.avm_run.specs.declared.call_run.Step.TheVariants as step
 use Rattle.avm_run.specs.Advances.{AsksFor, MakesStep, Steps}
-use Rattle.avm_run.specs.Progress.{HasNoStep, HasStep, IsOutcomeAt, most_items, next_step}
+use Rattle.avm_run.specs.Progress.{HasNoStep, HasStep, IsOutcomeAt, next_step}
 use Rattle.avm_run.specs.Results.{CallRecord}
 use Rattle.avm_run.specs.RunState.{Progress}
 use Rattle.avm_debug.specs.declared.opening.Begun.{Begun}

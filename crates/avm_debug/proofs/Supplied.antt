@@ -10,8 +10,8 @@ use Rattle.avm_items.specs.Locality.{Agrees, Extends}
 use Rattle.avm_items.proofs.Questions.{result_with_more}
 use Rattle.avm_call.specs.Calls.{admitted}
 use Rattle.avm_call.specs.CallPaths.{call_path}
+use Rattle.avm_call.specs.Ends.{most_items}
 use Rattle.avm_run.specs.Advances.{AsksFor}
-use Rattle.avm_run.specs.Progress.{most_items}
 use Rattle.avm_run.specs.RunState.{Progress}
 use Rattle.avm_run.specs.Showing.{ShowsPath, Sight}
 use Rattle.avm_items.proofs.OneMore.{agrees_after, one_longer, still_known}

@@ -5,11 +5,8 @@ pub mod SameItems
 pub mod Orders
 pub mod PutBack
 pub mod Passes
-pub mod CallBack
-pub mod CallSpelled
 pub mod RulesKept
 pub mod InPlace
 pub mod MapOrders
-pub mod CallRead
 pub mod Appending
 pub mod OneMore

@@ -6,13 +6,8 @@ pub mod Asks
 pub mod Acts
 pub mod Locality
 pub mod Counting
-pub mod CallSpelling
-pub mod CallReader
-pub mod CallRoundTrip
-pub mod WorkedCallBytes
 pub mod LedgerItems
 pub mod PutLaws
 pub mod RuleLaws
 pub mod Environments
 pub mod Putting
-pub mod FaultNames

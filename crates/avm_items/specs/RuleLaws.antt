@@ -1,8 +1,9 @@
 -- What may be put into a ledger that keeps the rules, so that it keeps them.
 use Rattle.std.specs.Prelude.{◌≡◌, ℕ, ◌^◌, ◌<◌, ◌≤◌, true, List, [], ◌∷◌, length, All, Some}
 use Rattle.teal_value.specs.declared.value.Value.{Value}
+use Rattle.teal_value.specs.Keys.{most_key_bytes}
 use Rattle.avm_ledger.specs.declared.application.Application.{Application}
-use Rattle.avm_states.specs.Entries.{value_of_key, most_key_bytes}
+use Rattle.avm_states.specs.Entries.{value_of_key}
 use Rattle.avm_ledger.specs.declared.application.StoredApplication.{StoredApplication}
 use Rattle.avm_ledger.specs.Ledgers.{Ledger, application_at, with_row, empty_ledger}
 use Rattle.avm_states.specs.Schemas.{counts_in, counts_after, is_within}

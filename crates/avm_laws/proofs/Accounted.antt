@@ -7,12 +7,13 @@ use Rattle.teal_value.specs.declared.address.Address.{Address}
 use Rattle.teal_value.specs.declared.value.Value.{Value}
 use Rattle.teal_value.specs.declared.fault.Fault.{Fault}
 use Rattle.teal_value.specs.declared.fault.Fault.TheVariants as fault
+use Rattle.teal_value.specs.Keys.{most_key_bytes}
 use Rattle.teal_table.specs.declared.opcode.Opcode.{Opcode}
 use Rattle.teal_table.specs.declared.opcode.Opcode.TheVariants as op
 use Rattle.teal_code.specs.declared.decode.CodeFault.{CodeFault}
 use Rattle.teal_code.specs.declared.instr.Immediates.{Immediates}
 use Rattle.teal_code.specs.declared.instr.Instr.{Instr}
-use Rattle.avm_states.specs.Entries.{Entries, value_of_key, with_entry, without_entry}
+use Rattle.avm_states.specs.Entries.{Entries, value_of_key, with_entry, without_entry, most_value_bytes}
 use Rattle.avm_states.specs.Schemas.{no_entries, counts_in, counts_after, is_within, keeps_kind}
 use Rattle.avm_items.specs.declared.item.Item.{Item}
 use Rattle.avm_items.specs.declared.item.Item.TheVariants as item
@@ -32,6 +33,7 @@ use Rattle.avm_call.specs.declared.outcome.Ended.{Ended}
 use Rattle.avm_call.specs.Runs.{Execution, Position, instruction_at, context_at, known_itself, result_at_end, stepped, executed, step, start, run_from, whole_path, ended_at, program_result}
 use Rattle.avm_call.proofs.Paths.{goes_on as path_goes_on}
 use Rattle.avm_laws.proofs.Given.{item_same}
+use Rattle.avm_ops.proofs.ActParts as part
 use Rattle.avm_ops.proofs.RowFacts.{OnOk, questions, writes_items}
 use Rattle.avm_ops.proofs.WrittenItems.{Same, effect_same}
 use Rattle.avm_laws.proofs.Following.{value_with}
@@ -91,36 +93,13 @@ Writing R after = Accounted R after.writes
 abbrev Row : Look → (Item → Type 0) → Act Fault After → Type 0
 Row look R t = If look R (OnOk (Writing R)) t
 
-then_act : {A : Type 0} (look : Look) (R : Item → Type 0) (r : Result A Fault) (f : A → Act Fault After) → ((a : A) → Row look R (f a)) → Row look R (on_ok f r)
-then_act look R (Ok a) f h = h a
-then_act look R (Err e) f h = tt
-
-then_found : {A : Type 0} (look : Look) (R : Item → Type 0) (o : Option A) (e : Fault) (f : A → Act Fault After) → ((a : A) → Row look R (f a)) → Row look R (and_then (found o e) (on_ok f))
-then_found look R None e f h = tt
-then_found look R (Some a) e f h = h a
-
-then_test : (look : Look) (R : Item → Type 0) (b : Bool) (e : Fault) (f : Unit {0} → Act Fault After) → Row look R (f tt) → Row look R (and_then (test b e) (on_ok f))
-then_test look R true e f h = h
-then_test look R false e f h = tt
-
-entry_by : (look : Look) (R : Item → Type 0) (id : ℕ) (key : List ℕ) (f : Option Value → Act Fault After) (b : Bool) → (b ≡ true → R (item.Key id key) → (o : Option Value) → Row look R (f o)) → (b ≡ false → Row look R (f None))
-    → Row look R (and_then (if b then reads entry_in (item.Key id key) else Gives (Ok None)) (on_ok f))
-entry_by look R id key f true h g = λ r. h refl r (entry_in (look (item.Key id key)))
-entry_by look R id key f false h g = g refl
-
-may_put_by : (look : Look) (R : Item → Type 0) (f : Unit {0} → Act Fault After) → (b d : Bool) → (b ≡ true → Row look R (f tt))
-    → Row look R (and_then (and_then (test b fault.KeyLength) (on_ok (λ _. test d fault.TooLong))) (on_ok f))
-may_put_by look R f true true h = h refl
-may_put_by look R f true false h = tt
-may_put_by look R f false d h = tt
-
 put_over : (look : Look) (R : Item → Type 0) (c : Context) → Accounted R c.writes → (key : List ℕ) (v : Value) (old : Option Value) (b : Bool) → R (item.Key c.current key) → Row look R (global_put_over c key v old b)
 put_over look R c all key v old true r = accounted_with R c.writes (item.Key c.current key) (value.Key v) all r
 put_over look R c all key v old false r =
     λ counted limited.
     let n = counts_after old (Some v) (unwrap_or (items.counts_in (look (item.Counts c.current))) no_entries) in
-    then_test look R (is_within n (schema_in (λ row. row.global_schema) (application_in (look (item.App c.current))))) fault.Schema _
-    (accounted_with R (with_item c.writes (item.Key c.current key) (value.Key v)) (item.Counts c.current) (value.Counts n) (accounted_with R c.writes (item.Key c.current key) (value.Key v) all r) counted)
+    part.then_test (Row look R) (is_within n (schema_in (λ row. row.global_schema) (application_in (look (item.App c.current))))) fault.Schema _ tt
+    (λ _. accounted_with R (with_item c.writes (item.Key c.current key) (value.Key v)) (item.Counts c.current) (value.Counts n) (accounted_with R c.writes (item.Key c.current key) (value.Key v) all r) counted)
 
 delete_of : (look : Look) (R : Item → Type 0) (c : Context) → Accounted R c.writes → (key : List ℕ) (old : Option Value) → R (item.Key c.current key) → Row look R (global_delete_of c key old)
 delete_of look R c all key None r = all
@@ -140,22 +119,26 @@ effect_by look R c all o i false quiet = if-at_most look R (questions o) (OnOk (
     same (Ok after) e = subst (Accounted R) (sym e) all
     same (Err f) e = tt
 effect_by look R c all op.AppGlobalPut i true loud =
-    then_act look R (bytes_and_value c.machine.stack) _ (λ a.
-    may_put_by look R _ (nat_le (length a.0) 64) (nat_le (value_length a.1) 64) (λ short.
-    entry_by look R c.current a.0 _ (nat_le (length a.0) 64) (λ _ r old. put_over look R c all a.0 a.1 old (keeps_kind old (Some a.1)) r) (λ long. let no : true ≡ false = sym short ∙ long in absurd cc)))
+    part.then_act (Row look R) (λ e. tt) (bytes_and_value c.machine.stack) _ (λ a _.
+    part.may_put_by (Row look R) (λ e. tt) _ (nat_le (length a.0) most_key_bytes) (nat_le (value_length a.1) most_value_bytes) (λ short _.
+    part.entry_by (Row look R) (item.Key c.current a.0) _ (nat_le (length a.0) most_key_bytes)
+    (λ _ r. let old = entry_in (look (item.Key c.current a.0)) in put_over look R c all a.0 a.1 old (keeps_kind old (Some a.1)) r) (λ long. let no : true ≡ false = sym short ∙ long in absurd cc)))
 effect_by look R c all op.AppGlobalDel i true loud =
-    then_act look R (one_bytes c.machine.stack) _ (λ key. entry_by look R c.current key _ (nat_le (length key) 64) (λ _ r old. delete_of look R c all key old r) (λ long. all))
+    part.then_act (Row look R) (λ e. tt) (one_bytes c.machine.stack) _ (λ key _.
+    part.entry_by (Row look R) (item.Key c.current key) _ (nat_le (length key) most_key_bytes) (λ _ r. delete_of look R c all key (entry_in (look (item.Key c.current key))) r) (λ long. all))
 effect_by look R c all op.AppLocalPut i true loud =
-    then_act look R (uint_bytes_and_value c.machine.stack) _ (λ a.
-    then_found look R (account c.call a.0) fault.NoAccount _ (λ who.
-    λ r. then_found look R (local_state_in (look (item.Local who c.current))) fault.NotOptedIn _ (λ state.
-    may_put_by look R _ (nat_le (length a.1) 64) (nat_le (value_length a.2) 64) (λ short.
-    λ limited. then_test look R (keeps_kind (value_of_key state a.1) (Some a.2) || is_within (counts_in (with_entry state a.1 a.2)) (schema_in (λ row. row.local_schema) (application_in (look (item.App c.current))))) fault.Schema _
-    (accounted_with R c.writes (item.Local who c.current) (value.Local (with_entry state a.1 a.2)) all r)))))
+    part.then_act (Row look R) (λ e. tt) (uint_bytes_and_value c.machine.stack) _ (λ a _.
+    part.then_found (Row look R) (account c.call a.0) fault.NoAccount _ tt (λ who _.
+    λ r. part.then_found (Row look R) (local_state_in (look (item.Local who c.current))) fault.NotOptedIn _ tt (λ state _.
+    part.may_put_by (Row look R) (λ e. tt) _ (nat_le (length a.1) most_key_bytes) (nat_le (value_length a.2) most_value_bytes) (λ short _.
+    λ limited.
+    let limit = schema_in (λ row. row.local_schema) (application_in (look (item.App c.current))) in
+    part.then_test (Row look R) (keeps_kind (value_of_key state a.1) (Some a.2) || is_within (counts_in (with_entry state a.1 a.2)) limit) fault.Schema _ tt
+    (λ _. accounted_with R c.writes (item.Local who c.current) (value.Local (with_entry state a.1 a.2)) all r)))))
 effect_by look R c all op.AppLocalDel i true loud =
-    then_act look R (uint_and_bytes c.machine.stack) _ (λ a.
-    then_found look R (account c.call a.0) fault.NoAccount _ (λ who.
-    λ r. then_found look R (local_state_in (look (item.Local who c.current))) fault.NotOptedIn _ (λ state.
+    part.then_act (Row look R) (λ e. tt) (uint_and_bytes c.machine.stack) _ (λ a _.
+    part.then_found (Row look R) (account c.call a.0) fault.NoAccount _ tt (λ who _.
+    λ r. part.then_found (Row look R) (local_state_in (look (item.Local who c.current))) fault.NotOptedIn _ tt (λ state _.
     local_delete_by R c all who (without_entry state a.1) r (is_some (value_of_key state a.1)))))
 effect_by look R c all o i true loud = absurd cc
 

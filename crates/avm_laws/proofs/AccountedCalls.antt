@@ -17,6 +17,7 @@ use Rattle.avm_items.specs.Items.{ItemMap, value_in, with_item, application_in, 
 use Rattle.avm_items.specs.LedgerItems.{at, row_value, counts_value}
 use Rattle.avm_items.specs.Asks.{Gives, and_then}
 use Rattle.avm_items.specs.Acts.{Act, done, on_ok, test, ◌>>=◌}
+use Rattle.avm_ops.proofs.ActParts as part
 use Rattle.avm_call.specs.declared.outcome.Ended.{Ended}
 use Rattle.avm_call.specs.declared.outcome.Ended.TheVariants as ended
 use Rattle.avm_call.specs.declared.outcome.Why.{Why}
@@ -48,10 +49,6 @@ SenderRead R x _ = Unit {0}
 abbrev Touched : (Item → Type 0) → Ledger → CallData → Target → Type 0
 Touched R l call t = Named R l call t × SenderRead R (sender_item call t.id) call.completion
 
-then_test : {A : Type 0} (l : Ledger) (R : Item → Type 0) (P : Result A Why → Type 0) (b : Bool) (w : Why) (f : Unit {0} → Act Why A) → (b ≡ true → If (at l) R P (f tt)) → P (Err w) → If (at l) R P (and_then (test b w) (on_ok f))
-then_test l R P true w f h g = h refl
-then_test l R P false w f h g = g
-
 -- items of an application that isn't there are accounted for
 abbrev Absents : (Item → Type 0) → Ledger → Type 0
 Absents R l = (x : Item) → at l x ≡ value.Absent → R x
@@ -59,12 +56,12 @@ Absents R l = (x : Item) → at l x ≡ value.Absent → R x
 target_by : (l : Ledger) (R : Item → Type 0) → Absents R l → application_at l l.next_id ≡ None → (call : CallData) (b : Bool) → creates call ≡ b
     → If (at l) R (OnTarget (Named R l call)) (elim b [ true ↦ new_target call | false ↦ called_target call ])
 target_by l R absent none call true new =
-    λ r. then_test l R (OnTarget (Named R l call)) (not (l.next_id == 2 ^ 64 - 1)) why.IdsEnd (λ _. done (record { id = l.next_id; row = Some (created call) }))
-    (λ few. record { next = λ e. r; row = absent (item.App l.next_id) (ap row_value none); id = λ e. refl; there = refl }) tt
+    λ r. part.then_test (If (at l) R (OnTarget (Named R l call))) (not (l.next_id == 2 ^ 64 - 1)) why.IdsEnd (λ _. done (record { id = l.next_id; row = Some (created call) })) tt
+    (λ few. record { next = λ e. r; row = absent (item.App l.next_id) (ap row_value none); id = λ e. refl; there = refl })
 target_by l R absent none call false old =
-    λ r. then_test l R (OnTarget (Named R l call)) (is_some (application_in (at l (item.App call.application))) || clears call.completion) why.NoApp
-    (λ _. done (record { id = call.application; row = application_in (at l (item.App call.application)) }))
-    (λ there. record { next = λ e. let no : true ≡ false = sym e ∙ old in absurd cc; row = r; id = λ e. let no : true ≡ false = sym e ∙ old in absurd cc; there = there }) tt
+    λ r. part.then_test (If (at l) R (OnTarget (Named R l call))) (is_some (application_in (at l (item.App call.application))) || clears call.completion) why.NoApp
+    (λ _. done (record { id = call.application; row = application_in (at l (item.App call.application)) })) tt
+    (λ there. record { next = λ e. let no : true ≡ false = sym e ∙ old in absurd cc; row = r; id = λ e. let no : true ≡ false = sym e ∙ old in absurd cc; there = there })
 
 abbrev Tested : (Item → Type 0) → Item → Completion → Result (Unit {0}) Why → Type 0
 Tested R x c (Ok u) = SenderRead R x c

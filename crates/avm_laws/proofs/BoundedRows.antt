@@ -33,6 +33,7 @@ use Rattle.avm_ledger.specs.Ledgers.{Ledger, application_at}
 use Rattle.avm_items.specs.declared.item.Item.{Item}
 use Rattle.avm_items.specs.LedgerItems.{at}
 use Rattle.avm_items.specs.Asks.{result_over}
+use Rattle.avm_cpu.specs.Machine.{most_bytes}
 use Rattle.avm_ops.specs.Fields.{global_value}
 use Rattle.avm_ops.proofs.RowFacts.{OnOk}
 use Rattle.avm_ops.proofs.OperandValues.{OkOf, get_fits}
@@ -43,7 +44,7 @@ use Rattle.avm_ops.proofs.RowValues.{IsClosed, Holds, Leaves, creator_holds, row
 -- ---- what a row is given, and what it leaves
 
 abbrev pub IsShort : List ℕ → Type 0
-IsShort s = length s ≤ 4096
+IsShort s = length s ≤ most_bytes
 
 pub record IsShortCall (c : CallData) : Type 0 where
   pub sender : IsShort c.sender.0
@@ -118,7 +119,7 @@ short_closed = record {
   size = λ s h. tt;
   short_digest = λ s. omega (arith, length-sha256 s);
   long_digest = λ s. omega (arith, length-sha512_256 s);
-  joined = λ s t few h k. omega (arith, length-append s t, leb-true (length s + length t) 4096 few);
+  joined = λ s t few h k. omega (arith, length-append s t, leb-true (length s + length t) most_bytes few);
   range = λ s start end h. range_short s start end h;
   byte = λ s k h. tt;
   with_byte = λ s k b inside h. omega (arith, length-set s k b, h);

@@ -8,7 +8,7 @@ use Rattle.teal_check.specs.WellFormed.{checked}
 use Rattle.avm_items.specs.declared.call_data.CallData.{CallData}
 use Rattle.avm_items.specs.CallFields.{creates}
 use Rattle.avm_call.specs.declared.call_fault.CallFault.TheVariants as fault
-use Rattle.avm_call.specs.CallRules.{is_empty, total_length, updates, brings_programs, lacks_programs, has_programs, entries_in, fits_schemas, field_fault, program_fault, or_fault, programs_fault, call_fault}
+use Rattle.avm_call.specs.CallRules.{is_empty, total_length, updates, brings_programs, lacks_programs, has_programs, entries_in, fits_schemas, field_fault, program_fault, or_fault, programs_fault, call_fault, most_note_bytes, most_arguments, most_argument_bytes, most_accounts, most_foreign_applications}
 use Rattle.avm_call.specs.Ends.{is_program}
 use Rattle.avm_call.proofs.Placed.{program_is_short}
 use Rattle.avm_call.proofs.CallFaults.{no_fault, none_of_both, program_passes}
@@ -28,24 +28,24 @@ both_pass c e true is brings =
 
 -- what the fields of a call keep to, but for its programs
 record KeepsFieldRules (c : CallData) : Type 0 where
-  arguments : total_length c.arguments ≤ 2048
-  note : length c.note ≤ 1024
+  arguments : total_length c.arguments ≤ most_argument_bytes
+  note : length c.note ≤ most_note_bytes
   given : (not (brings_programs c) && has_programs c) ≡ false
   schemas : fits_schemas c ≡ true
 
 field_rules : (c : CallData) → field_fault c ≡ None → KeepsFieldRules c
 field_rules c e =
-    let accounts = no_fault (nat_lt 4 (length c.accounts)) fault.Accounts _ e in
-    let arguments = no_fault (nat_lt 16 (length c.arguments)) fault.Args _ accounts.1 in
-    let bytes = no_fault (nat_lt 2048 (total_length c.arguments)) fault.ArgBytes _ arguments.1 in
-    let foreign = no_fault (nat_lt 2 (length c.foreign_applications)) fault.Foreign _ bytes.1 in
-    let note = no_fault (nat_lt 1024 (length c.note)) fault.Note _ foreign.1 in
+    let accounts = no_fault (nat_lt most_accounts (length c.accounts)) fault.Accounts _ e in
+    let arguments = no_fault (nat_lt most_arguments (length c.arguments)) fault.Args _ accounts.1 in
+    let bytes = no_fault (nat_lt most_argument_bytes (total_length c.arguments)) fault.ArgBytes _ arguments.1 in
+    let foreign = no_fault (nat_lt most_foreign_applications (length c.foreign_applications)) fault.Foreign _ bytes.1 in
+    let note = no_fault (nat_lt most_note_bytes (length c.note)) fault.Note _ foreign.1 in
     let missing = no_fault (brings_programs c && lacks_programs c) fault.ProgramsMissing _ note.1 in
     let given = no_fault (not (brings_programs c) && has_programs c) fault.ProgramsGiven _ missing.1 in
     let size = no_fault (not (fits_schemas c)) fault.SchemaSize _ given.1 in
     record {
-      arguments = ltb-false 2048 (total_length c.arguments) bytes.0;
-      note = ltb-false 1024 (length c.note) note.0;
+      arguments = ltb-false most_argument_bytes (total_length c.arguments) bytes.0;
+      note = ltb-false most_note_bytes (length c.note) note.0;
       given = given.0;
       schemas = passes (fits_schemas c) size.0;
     }
@@ -76,7 +76,7 @@ checked_calls_bring_programs c e =
 
 -- ---- lengths
 
-arguments_short : (ss : List (List ℕ)) → total_length ss ≤ 2048 → All IsShort ss
+arguments_short : (ss : List (List ℕ)) → total_length ss ≤ most_argument_bytes → All IsShort ss
 arguments_short [] few = All-nil IsShort
 arguments_short (s ∷ ss) few = All-cons IsShort s ss (omega (arith, few)) (arguments_short ss (omega (arith, few)))
 

@@ -39,6 +39,7 @@ use Rattle.avm_call.specs.declared.outcome.Outcome.TheVariants as outcome
 use Rattle.avm_call.specs.Runs.{Position, start, program_result}
 use Rattle.avm_call.specs.Calls.{CallResult, Target, created, new_target, called_target, target, sender_item, is_opted_in, opt_in_test, admitted, new_application, opting_in, prepared, execution, deleted, updated, cleared, ending, runs, runs_on, goes_on, call_result}
 use Rattle.avm_laws.proofs.Given.{item_same}
+use Rattle.avm_ops.proofs.ActParts as part
 use Rattle.avm_ops.proofs.Along.{Along, along-then}
 use Rattle.avm_ops.proofs.WrittenItems.{IsThere}
 use Rattle.avm_laws.proofs.Following.{Has, Follows, same_counts, value_with, has_put, counts_put, follows_local, follows_next, follows_create, follows_row}
@@ -279,17 +280,13 @@ abbrev pub OnTarget : (Target → Type 0) → Result Target Why → Type 0
 OnTarget P (Ok t) = P t
 OnTarget P (Err w) = Unit {0}
 
-then_test : {A : Type 0} (l : Ledger) (P : Result A Why → Type 0) (b : Bool) (w : Why) (f : Unit {0} → Act Why A) → (b ≡ true → Along (at l) (IsThere l) P (f tt)) → P (Err w) → Along (at l) (IsThere l) P (and_then (test b w) (on_ok f))
-then_test l P true w f h g = h refl
-then_test l P false w f h g = g
-
 target_by : (l : Ledger) (call : CallData) (b : Bool) → Along (at l) (IsThere l) (OnTarget (IsTarget l call b)) (elim b [ true ↦ new_target call | false ↦ called_target call ])
 target_by l call true =
-    (refl, then_test l (OnTarget (IsTarget l call true)) (not (l.next_id == 2 ^ 64 - 1)) why.IdsEnd (λ _. done (record { id = l.next_id; row = Some (created call) })) (λ few. (refl, refl, not-true (l.next_id == 2 ^ 64 - 1) few)) tt)
+    (refl, part.then_test (Along (at l) (IsThere l) (OnTarget (IsTarget l call true))) (not (l.next_id == 2 ^ 64 - 1)) why.IdsEnd (λ _. done (record { id = l.next_id; row = Some (created call) })) tt (λ few. (refl, refl, not-true (l.next_id == 2 ^ 64 - 1) few)))
 target_by l call false = (
   refl,
-  then_test l (OnTarget (IsTarget l call false)) (is_some (application_in (at l (item.App call.application))) || clears call.completion) why.NoApp
-      (λ _. done (record { id = call.application; row = application_in (at l (item.App call.application)) })) (λ there. refl) tt,
+  part.then_test (Along (at l) (IsThere l) (OnTarget (IsTarget l call false))) (is_some (application_in (at l (item.App call.application))) || clears call.completion) why.NoApp
+      (λ _. done (record { id = call.application; row = application_in (at l (item.App call.application)) })) tt (λ there. refl),
 )
 
 test_any : (l : Ledger) (b : Bool) (w : Why) → Along (at l) (IsThere l) (λ r. Unit {0}) (test b w)

@@ -13,6 +13,7 @@ use Rattle.teal_value.specs.declared.value.Value.{Value}
 use Rattle.teal_value.specs.declared.value.Value.TheVariants.{Uint, Bytes}
 use Rattle.teal_value.specs.declared.fault.Fault.{Fault}
 use Rattle.teal_value.specs.declared.fault.Fault.TheVariants as fault
+use Rattle.avm_cpu.specs.Machine.{most_bytes}
 use Rattle.avm_ops.specs.Frame.{flag}
 use Rattle.avm_ops.specs.Numbers.{sum_of, difference_of, product_of, quotient_of, remainder_of, bits_or, bits_and, bits_xor, inverted}
 use Rattle.avm_ops.specs.ByteStrings.{big_endian, number_of_bytes, bytes_of_number, range_of, bit_of, with_bit, bit_count, bit_of_value, value_with_bit}
@@ -135,9 +136,9 @@ number_by s all false e = tt
 pub number_fits : (s : List ℕ) → IsMachineValue (Bytes s) → OkOf IsMachineValue (number_of_bytes s)
 number_fits s h = number_by s h.1 (nat_le (length s) 8) refl
 
-pub joined_fits : (s t : List ℕ) → nat_le (length s + length t) 4096 ≡ true → IsMachineValue (Bytes s) → IsMachineValue (Bytes t) → IsMachineValue (Bytes (s ++ t))
+pub joined_fits : (s t : List ℕ) → nat_le (length s + length t) most_bytes ≡ true → IsMachineValue (Bytes s) → IsMachineValue (Bytes t) → IsMachineValue (Bytes (s ++ t))
 joined_fits s t few h g =
-    (omega (arith, length-append s t, leb-true (length s + length t) 4096 few), All-append (λ b. b < 256) s t h.1 g.1)
+    (omega (arith, length-append s t, leb-true (length s + length t) most_bytes few), All-append (λ b. b < 256) s t h.1 g.1)
 
 part_shorter : (n m : ℕ) (s : List ℕ) → length (take n (drop m s)) ≤ length s
 part_shorter n m s = omega (arith, length-take n (drop m s), length-drop m s)

@@ -16,9 +16,9 @@ use Rattle.avm_ledger.proofs.LedgerSpelled.{ledger_spelled}
 use Rattle.avm_ledger.proofs.LedgerKept.{ledger_kept}
 use Rattle.avm_items.specs.declared.call_data.CallData.{CallData}
 use Rattle.avm_items.specs.CallFields.{completion_number}
-use Rattle.avm_items.specs.CallReader.{call_front}
-use Rattle.avm_items.specs.CallSpelling.{address_bytes, call_bytes}
-use Rattle.avm_items.proofs.CallSpelled.{front_spells}
+use Rattle.avm_call_codec.specs.CallReader.{call_front}
+use Rattle.avm_call_codec.specs.CallSpelling.{address_bytes, call_bytes}
+use Rattle.avm_call_codec.proofs.CallSpelled.{front_spells}
 use Rattle.avm_items.proofs.RulesKept.{empty_keeps}
 use Rattle.avm_laws.specs.Rules.{AreBytes, IsMachineValue, AreMachineValues, IsStoredOfBytes, IsCallOfBytes, IsSound}
 use Rattle.avm_laws.proofs.ProgramValues.{front_all, rest_all}

@@ -13,8 +13,8 @@ use Rattle.avm_ledger.specs.LedgerRules.{KeepsRules}
 use Rattle.avm_items.specs.declared.call_data.Completion.TheVariants as completion
 use Rattle.avm_items.specs.declared.call_data.CallData.{CallData}
 use Rattle.avm_items.specs.CallFields.{creates}
-use Rattle.avm_items.specs.CallReader.{call_front}
-use Rattle.avm_items.specs.CallRoundTrip.{HasFields}
+use Rattle.avm_call_codec.specs.CallReader.{call_front}
+use Rattle.avm_call_codec.specs.CallRoundTrip.{HasFields}
 use Rattle.avm_items.specs.LedgerItems.{at, put}
 use Rattle.avm_items.specs.Asks.{result_over}
 use Rattle.avm_call.specs.CallRules.{call_fault}

@@ -24,6 +24,7 @@ use Rattle.avm_states.specs.Entries.{Entries, byte_cmp}
 use Rattle.avm_ledger.specs.declared.application.StoredApplication.{StoredApplication}
 use Rattle.avm_ledger.specs.Ledgers.{Ledger, account_cmp}
 use Rattle.avm_states.specs.Schemas.{count_with, count_without, counts_in}
+use Rattle.teal_code.specs.Limits.{most_program_bytes}
 use Rattle.avm_ledger.specs.Spellings.{string_bytes, schema_bytes, counted_bytes, u8_bytes, u16_bytes, u32_bytes, u64_bytes, application_bytes, local_state_bytes, ledger_bytes, value_bytes, entry_bytes, state_bytes}
 use Rattle.avm_ledger.specs.FieldReader.{number_at, short_string_at}
 use Rattle.avm_ledger.specs.LedgerReader.{tested, Room, local_room, room_of_schema, stored_in, limited_schema_at, program_at, stored_application_at, id_between, applications_at, is_no_lower, rises_from_pair, account_at, local_id_at, local_states_at, next_id_at, ledger_front, alone, ledger_at, rises_from_key, key_at, value_of_kind, value_at, entries_at, state_of_count, state_at}
@@ -112,13 +113,13 @@ short_if false true f r e = absurd cc
 short_if false false f r e = refl
 
 -- a checked program has at most 1024 bytes
-program_short : (p : List ℕ) → is_ok (checked p) ≡ true → length p ≤ 1024
+program_short : (p : List ℕ) → is_ok (checked p) ≡ true → length p ≤ most_program_bytes
 unfolding checked
-program_short p ok = ltb-false 1024 (length p) (short_if _ _ _ _ ok)
+program_short p ok = ltb-false most_program_bytes (length p) (short_if _ _ _ _ ok)
 
 program_back : (p rest : List ℕ) → is_ok (checked p) ≡ true → program_at (u16_bytes (length p) ++ (p ++ rest)) ≡ Ok (p, rest)
 program_back p rest ok =
-    let short : length p ≤ 1024 = program_short p ok in
+    let short : length p ≤ most_program_bytes = program_short p ok in
     then _ _ _ _ (string_back Truncated p rest (omega arith)) (rw ok refl)
 
 stored_parts : StoredApplication → List ℕ → List ℕ

@@ -9,11 +9,12 @@ use Rattle.teal_value.specs.Answer.{◌>>=◌}
 use Rattle.teal_value.specs.declared.address.Address.{Address}
 use Rattle.teal_value.specs.declared.value.Value.{Value}
 use Rattle.teal_value.specs.declared.value.Value.TheVariants.{Uint, Bytes}
+use Rattle.teal_value.specs.Keys.{most_key_bytes}
 use Rattle.teal_check.specs.WellFormed.{checked}
 use Rattle.avm_ledger.specs.declared.ledger_fault.LedgerFault.{LedgerFault}
 use Rattle.avm_ledger.specs.declared.ledger_fault.LedgerFault.TheVariants.{Malformed, Truncated, Rest}
 use Rattle.avm_states.specs.declared.schema.Schema.{Schema}
-use Rattle.avm_states.specs.Entries.{Entries, byte_cmp, most_key_bytes, most_value_bytes}
+use Rattle.avm_states.specs.Entries.{Entries, byte_cmp, most_value_bytes}
 use Rattle.avm_ledger.specs.declared.application.StoredApplication.{StoredApplication}
 use Rattle.avm_ledger.specs.Ledgers.{Ledger, account_cmp}
 use Rattle.avm_states.specs.Schemas.{count_without, most_global_entries, most_local_entries}

@@ -6,8 +6,9 @@ use Rattle.std.specs.List.Sorted.{IsStrictlySortedBy}
 use Rattle.teal_value.specs.declared.address.Address.{Address}
 use Rattle.teal_value.specs.declared.value.Value.{Value}
 use Rattle.teal_value.specs.declared.value.Value.TheVariants.{Uint, Bytes}
+use Rattle.teal_value.specs.Keys.{most_key_bytes}
 use Rattle.teal_check.specs.WellFormed.{checked}
-use Rattle.avm_states.specs.Entries.{Entries, IsInKeyOrder, most_key_bytes, most_value_bytes}
+use Rattle.avm_states.specs.Entries.{Entries, IsInKeyOrder, most_value_bytes}
 use Rattle.avm_ledger.specs.declared.application.StoredApplication.{StoredApplication}
 use Rattle.avm_ledger.specs.Ledgers.{Ledger, account_cmp}
 use Rattle.avm_states.specs.Schemas.{counts_in, most_global_entries, most_local_entries}

@@ -11,7 +11,7 @@ use crate::application::StoredApplication;
 use crate::ledger::Ledger;
 use crate::ledger_fault::LedgerError;
 use crate::ledger_reading::parts_of;
-use crate::spelling::{put_schema, put_state, put_string, put_u32, put_u64};
+use crate::spelling::{put_long_count, put_schema, put_state, put_string, put_u64};
 use avm_states::State;
 use sha2::{Digest, Sha256};
 use std::alloc::{AllocError, Global};
@@ -64,7 +64,7 @@ fn ledger_of(alloc: Global, bytes: &[u8]) -> Result<Ledger, LedgerError>
 fn put_applications(bytes: &mut Vec<u8>, ledger: &Ledger) -> Result<(), AllocError>
     ensures { OnOk result (bytes.new.items ≡ bytes.old.items ++ counted_bytes u32_bytes application_bytes ledger.now.applications) }
 {
-    put_u32(bytes, ledger.application_count())?;
+    put_long_count(bytes, ledger.application_count())?;
     for (id, application) in ledger.applications() {
         put_application(bytes, *id, application)?;
     }
@@ -91,7 +91,7 @@ fn put_application(
 fn put_local_states(bytes: &mut Vec<u8>, ledger: &Ledger) -> Result<(), AllocError>
     ensures { OnOk result (bytes.new.items ≡ bytes.old.items ++ counted_bytes u32_bytes local_state_bytes ledger.now.local_states) }
 {
-    put_u32(bytes, ledger.local_state_count())?;
+    put_long_count(bytes, ledger.local_state_count())?;
     for (key, state) in ledger.local_states() {
         put_local_state(bytes, key, state)?;
     }

@@ -11,18 +11,12 @@ use crate::ledger_fault::{LedgerError, LedgerFault};
 use crate::sorted_map::map_of;
 use crate::state_reading::state_of;
 use crate::stored_program::StoredProgram;
-use avm_states::{Schema, State};
+use avm_states::{MAX_GLOBAL_ENTRIES, MAX_LOCAL_ENTRIES, Schema, State};
 use std::alloc::Global;
 use std::cmp::Ordering;
 use std::collections::BTreeMap;
 use teal_check::check;
 use teal_value::{Address, Failure};
-
-/// The most entries that a global schema may allow.
-const MAX_GLOBAL_ENTRIES: u16 = 64;
-
-/// The most entries that a local schema may allow, and those of a local state whose application is gone.
-const MAX_LOCAL_ENTRIES: u16 = 16;
 
 /// The parts of a ledger, before their rules are kept in one type.
 #[derive(Debug, Drop)]

@@ -8,28 +8,28 @@ use avm_states::{Schema, State};
 use std::alloc::AllocError;
 use teal_value::{StateKey, Value};
 
-/// Appends the low byte of a number.
-pub fn put_u8(bytes: &mut Vec<u8>, number: usize) -> Result<(), AllocError>
-    ensures written { OnOk result (bytes.new.items ≡ bytes.old.items ++ u8_bytes number) }
+/// Appends the low byte of a count.
+pub fn put_short_count(bytes: &mut Vec<u8>, count: usize) -> Result<(), AllocError>
+    ensures written { OnOk result (bytes.new.items ≡ bytes.old.items ++ u8_bytes count) }
     ensures unchanged { OnErr result (bytes.new.items ≡ bytes.old.items) }
 {
-    bytes.extend_from_slice(&(number as u64).to_be_bytes()[7..])
+    bytes.extend_from_slice(&(count as u64).to_be_bytes()[7..])
 }
 
-/// Appends the two low bytes of a number.
-pub fn put_u16(bytes: &mut Vec<u8>, number: usize) -> Result<(), AllocError>
-    ensures written { OnOk result (bytes.new.items ≡ bytes.old.items ++ u16_bytes number) }
+/// Appends the two low bytes of a count.
+pub fn put_count(bytes: &mut Vec<u8>, count: usize) -> Result<(), AllocError>
+    ensures written { OnOk result (bytes.new.items ≡ bytes.old.items ++ u16_bytes count) }
     ensures unchanged { OnErr result (bytes.new.items ≡ bytes.old.items) }
 {
-    bytes.extend_from_slice(&(number as u64).to_be_bytes()[6..])
+    bytes.extend_from_slice(&(count as u64).to_be_bytes()[6..])
 }
 
-/// Appends the four low bytes of a number.
-pub fn put_u32(bytes: &mut Vec<u8>, number: usize) -> Result<(), AllocError>
-    ensures written { OnOk result (bytes.new.items ≡ bytes.old.items ++ u32_bytes number) }
+/// Appends the four low bytes of a count.
+pub fn put_long_count(bytes: &mut Vec<u8>, count: usize) -> Result<(), AllocError>
+    ensures written { OnOk result (bytes.new.items ≡ bytes.old.items ++ u32_bytes count) }
     ensures unchanged { OnErr result (bytes.new.items ≡ bytes.old.items) }
 {
-    bytes.extend_from_slice(&(number as u64).to_be_bytes()[4..])
+    bytes.extend_from_slice(&(count as u64).to_be_bytes()[4..])
 }
 
 /// Appends a number of eight bytes.
@@ -46,7 +46,7 @@ pub fn put_short_string(bytes: &mut Vec<u8>, string: &[u8]) -> Result<(), AllocE
     ensures unchanged { OnErr result (bytes.new.items ≡ bytes.old.items) }
 {
     let start = bytes.len();
-    put_u8(bytes, string.len())?;
+    put_short_count(bytes, string.len())?;
     let appended = bytes.extend_from_slice(string);
     cut_if_refused(bytes, start, appended)
 }
@@ -57,7 +57,7 @@ pub fn put_string(bytes: &mut Vec<u8>, string: &[u8]) -> Result<(), AllocError>
     ensures unchanged { OnErr result (bytes.new.items ≡ bytes.old.items) }
 {
     let start = bytes.len();
-    put_u16(bytes, string.len())?;
+    put_count(bytes, string.len())?;
     let appended = bytes.extend_from_slice(string);
     cut_if_refused(bytes, start, appended)
 }
@@ -101,7 +101,7 @@ fn push_state(bytes: &mut Vec<u8>, state: &State) -> Result<(), AllocError>
     ensures written { OnOk result (bytes.new.items ≡ bytes.old.items ++ state_bytes state.now) }
     ensures kept { Continues bytes.old.items bytes.new.items }
 {
-    put_u8(bytes, state.len())?;
+    put_short_count(bytes, state.len())?;
     for (key, value) in state.as_slice() {
         push_entry(bytes, key, value)?;
     }

@@ -8,16 +8,10 @@ ghost use Rattle.avm_ledger.specs.LedgerReader.{bytes_value_at, entries_at, key_
 
 use crate::fields::Fields;
 use crate::ledger_fault::{LedgerError, LedgerFault};
-use avm_states::{Schema, State};
+use avm_states::{MAX_VALUE_BYTES, Schema, State};
 use std::alloc::Global;
 use std::cmp::Ordering;
-use teal_value::{ByteString, Failure, StateKey, Value};
-
-/// The most bytes of a byte string in a state.
-const MAX_VALUE_BYTES: usize = 64;
-
-/// The most bytes of a key.
-const MAX_KEY_BYTES: usize = 64;
+use teal_value::{ByteString, Failure, MAX_KEY_BYTES, StateKey, Value};
 
 /// The state that the bytes begin with, of at most so many entries, and so many of each kind.
 pub(crate) fn state_of(

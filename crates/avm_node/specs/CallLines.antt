@@ -2,9 +2,9 @@
 use Rattle.std.specs.Prelude.{ℕ, List, Option, Some, None, Result, Ok, Err}
 use Rattle.teal_value.specs.Answer.{◌>>=◌}
 use Rattle.avm_items.specs.declared.call_data.CallData.{CallData}
-use Rattle.avm_items.specs.declared.call_fault.CallDataFault.{CallDataFault}
-use Rattle.avm_items.specs.CallReader.{call_at}
-use Rattle.avm_items.specs.FaultNames.{call_data_fault_name}
+use Rattle.avm_call_codec.specs.declared.call_data_fault.CallDataFault.{CallDataFault}
+use Rattle.avm_call_codec.specs.CallReader.{call_at}
+use Rattle.avm_call_codec.specs.FaultNames.{call_data_fault_name}
 use Rattle.avm_call.specs.declared.call_fault.CallFault.{CallFault}
 use Rattle.avm_call.specs.CallRules.{call_fault}
 use Rattle.avm_call.specs.FaultNames.{call_fault_name}

@@ -2,13 +2,13 @@
 
 ghost use Rattle.std.specs.Prelude.{◌≡◌};
 ghost use Rattle.teal_value.specs.Answer.{Gives};
-ghost use Rattle.avm_items.specs.CallReader.{call_at};
+ghost use Rattle.avm_call_codec.specs.CallReader.{call_at};
 ghost use Rattle.avm_call.specs.CallRules.{call_fault};
 ghost use Rattle.avm_node.specs.CallLines.{call_line_name, checked_call, on_bytes, unless_broken};
 
 use avm_call::{Call, CallFault};
-use avm_call_codec::CallCodec;
-use avm_items::{CallData, CallDataFault};
+use avm_call_codec::{CallCodec, CallDataFault};
+use avm_items::CallData;
 use std::alloc::Global;
 use teal_value::Failure;
 use thiserror::Error;

@@ -1,4 +1,5 @@
 pub mod TakenOperands
+pub mod ActParts
 pub mod RowFacts
 pub mod Sets
 pub mod Along

@@ -8,6 +8,8 @@ use Rattle.teal_value.specs.declared.value.Value.{Value}
 use Rattle.teal_value.specs.declared.value.Value.TheVariants.{Uint, Bytes}
 use Rattle.teal_value.specs.declared.fault.Fault.{Fault}
 use Rattle.teal_value.specs.declared.fault.Fault.TheVariants as fault
+use Rattle.teal_value.specs.Keys.{most_key_bytes}
+use Rattle.avm_states.specs.Entries.{most_value_bytes}
 use Rattle.teal_table.specs.declared.shape.ValueKind.{ValueKind}
 use Rattle.teal_table.specs.declared.shape.ValueKind.TheVariants as kind
 use Rattle.teal_table.specs.declared.opcode.Opcode.{Opcode}
@@ -25,6 +27,7 @@ use Rattle.avm_items.specs.Counting.{AsksAtMost, Any}
 use Rattle.avm_items.proofs.Counting.{at_most-more}
 use Rattle.avm_cpu.specs.declared.flow.Flow.TheVariants as flow
 use Rattle.avm_cpu.specs.Operands.{one_uint, one_bytes, one_value, bytes_and_two_uints}
+use Rattle.avm_cpu.specs.Machine.{most_values}
 use Rattle.avm_ops.specs.Frame.{Context, After, Stepped, pushes, pushes_pair, next_with_stack, flag}
 use Rattle.avm_ops.specs.Immediates.{index_of, field_of, start_of, end_of, uint_of, bytes_of}
 use Rattle.avm_ops.specs.ByteStrings.{big_endian, number_of_bytes, range_of}
@@ -35,6 +38,7 @@ use Rattle.avm_ops.specs.Effect.{effect}
 use Rattle.avm_ops.specs.Steps.{branch_target, uints_after, strings_after, IsFlowTo, RunsOn, AsksLittle}
 use Rattle.avm_ops.specs.TakenOperands.{Underflows, TestsTypes, is_kind}
 use Rattle.avm_ops.specs.LeftValues.{Leaves, LeavesItsRow}
+use Rattle.avm_ops.proofs.ActParts as part
 use Rattle.avm_ops.proofs.TakenOperands as takes
 use Rattle.avm_ops.proofs.TakenOperands.{TestsFirst, takes_none, takes_ok, takes_act}
 
@@ -122,16 +126,16 @@ either R true x y h g = h
 either R false x y h g = g
 
 pushed : (c : Context) (target : Option ℕ) (k : ValueKind) (v : Value) → is_kind k v ≡ true → OnOk (Plain c target false [] (k ∷ [])) (pushes c v)
-pushed c target k v is = either (Plain c target false [] (k ∷ [])) (nat_lt (length c.machine.stack) 1000) _ _ (replaced c target [] k v is) tt
+pushed c target k v is = either (Plain c target false [] (k ∷ [])) (nat_lt (length c.machine.stack) most_values) _ _ (replaced c target [] k v is) tt
 
 doubled : (c : Context) (target : Option ℕ) (a : Value) → OnOk (Plain c target false (kind.Any ∷ []) (kind.Any ∷ kind.Any ∷ [])) (pushes c a)
 doubled c target a =
-    either (Plain c target false (kind.Any ∷ []) (kind.Any ∷ kind.Any ∷ [])) (nat_lt (length c.machine.stack) 1000) _ _
+    either (Plain c target false (kind.Any ∷ []) (kind.Any ∷ kind.Any ∷ [])) (nat_lt (length c.machine.stack) most_values) _ _
     (restacked c target (kind.Any ∷ []) (kind.Any ∷ kind.Any ∷ []) (a ∷ c.machine.stack) (one_above c.machine.stack a)) tt
 
 doubled_pair : (c : Context) (target : Option ℕ) (a b : Value) → OnOk (Plain c target false (kind.Any ∷ kind.Any ∷ []) (kind.Any ∷ kind.Any ∷ kind.Any ∷ kind.Any ∷ [])) (pushes_pair c a b)
 doubled_pair c target a b =
-    either (Plain c target false (kind.Any ∷ kind.Any ∷ []) (kind.Any ∷ kind.Any ∷ kind.Any ∷ kind.Any ∷ [])) (nat_le (length c.machine.stack + 2) 1000) _ _
+    either (Plain c target false (kind.Any ∷ kind.Any ∷ []) (kind.Any ∷ kind.Any ∷ kind.Any ∷ kind.Any ∷ [])) (nat_le (length c.machine.stack + 2) most_values) _ _
     (restacked c target (kind.Any ∷ kind.Any ∷ []) (kind.Any ∷ kind.Any ∷ kind.Any ∷ kind.Any ∷ []) (b ∷ a ∷ c.machine.stack) (two_above c.machine.stack a b)) tt
 
 branched : (c : Context) (offset : ℕ) (b : Bool) → Plain c (Some (c.machine.place + 3 + offset)) false (kind.Uint ∷ []) [] (if b then record (next_with_stack c (drop 1 c.machine.stack)) { flow = jump_by c offset } else next_with_stack c (drop 1 c.machine.stack))
@@ -174,35 +178,23 @@ abbrev pub Row : ℕ → (After → Type 0) → Act Fault After → Type 0
 Row n R t = AsksAtMost Any n (OnOk R) t
 
 pub then_act : {A : Type 0} (n : ℕ) (R : After → Type 0) (r : Result A Fault) (f : A → Act Fault After) → ((a : A) → Row n R (f a)) → Row n R (on_ok f r)
-then_act n R (Ok a) f h = h a
-then_act n R (Err e) f h = tt
+then_act n R r f h = part.then_act (Row n R) (λ e. tt) r f (λ a _. h a)
 
 pub then_found : {A : Type 0} (n : ℕ) (R : After → Type 0) (o : Option A) (e : Fault) (f : A → Act Fault After) → ((a : A) → Row n R (f a)) → Row n R (and_then (found o e) (on_ok f))
-then_found n R None e f h = tt
-then_found n R (Some a) e f h = h a
+then_found n R o e f h = part.then_found (Row n R) o e f tt (λ a _. h a)
 
 pub then_test : (n : ℕ) (R : After → Type 0) (b : Bool) (e : Fault) (f : Unit {0} → Act Fault After) → Row n R (f tt) → Row n R (and_then (test b e) (on_ok f))
-then_test n R true e f h = h
-then_test n R false e f h = tt
-
-entry_by : (n : ℕ) (R : After → Type 0) (id : ℕ) (key : List ℕ) (f : Option Value → Act Fault After) → 0 < n → ((v : Option Value) → Row (n - 1) R (f v)) → (b : Bool)
-    → Row n R (and_then (if b then reads entry_in (item.Key id key) else Gives (Ok None)) (on_ok f))
-entry_by n R id key f some h true = (some, λ v _. h (entry_in v))
-entry_by n R id key f some h false = at_most-more Any (n - 1) n (OnOk R) (f None) (omega arith) (h None)
+then_test n R b e f h = part.then_test (Row n R) b e f tt (λ _. h)
 
 pub entry_asks : (n : ℕ) (R : After → Type 0) (id : ℕ) (key : List ℕ) (f : Option Value → Act Fault After) → 0 < n → ((v : Option Value) → Row (n - 1) R (f v)) → Row n R (and_then (global_entry id key) (on_ok f))
-entry_asks n R id key f some h = entry_by n R id key f some h (nat_le (length key) 64)
+entry_asks n R id key f some h =
+    part.entry_by (Row n R) (item.Key id key) f (nat_le (length key) most_key_bytes) (λ _. (some, λ v _. h (entry_in v))) (λ _. at_most-more Any (n - 1) n (OnOk R) (f None) (omega arith) (h None))
 
 foreign_asks : (n : ℕ) (R : After → Type 0) (c : Context) (i : ℕ) (f : ℕ → Act Fault After) → ((id : ℕ) → Row n R (f id)) → Row n R (and_then (foreign_application c i) (on_ok f))
 foreign_asks n R c i f h = then_act n R (foreign_of c.call c.current i) f h
 
-may_put_by : (n : ℕ) (R : After → Type 0) (f : Unit {0} → Act Fault After) → Row n R (f tt) → (b d : Bool) → Row n R (and_then (and_then (test b fault.KeyLength) (on_ok (λ _. test d fault.TooLong))) (on_ok f))
-may_put_by n R f h true true = h
-may_put_by n R f h true false = tt
-may_put_by n R f h false d = tt
-
 pub may_put_asks : (n : ℕ) (R : After → Type 0) (key : List ℕ) (v : Value) (f : Unit {0} → Act Fault After) → Row n R (f tt) → Row n R (and_then (may_put key v) (on_ok f))
-may_put_asks n R key v f h = may_put_by n R f h (nat_le (length key) 64) (nat_le (value_length v) 64)
+may_put_asks n R key v f h = part.may_put_by (Row n R) (λ e. tt) f (nat_le (length key) most_key_bytes) (nat_le (value_length v) most_value_bytes) (λ _ _. h)
 
 put_over_asks : (c : Context) (target : Option ℕ) (key : List ℕ) (v : Value) (old : Option Value) (b : Bool) → Row 2 (Plain c target true (kind.Bytes ∷ kind.Any ∷ []) []) (global_put_over c key v old b)
 put_over_asks c target key v old true = written c target (kind.Bytes ∷ kind.Any ∷ []) _

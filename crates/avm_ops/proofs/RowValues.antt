@@ -14,6 +14,7 @@ use Rattle.teal_value.specs.declared.value.Value.{Value}
 use Rattle.teal_value.specs.declared.value.Value.TheVariants.{Uint, Bytes}
 use Rattle.teal_value.specs.declared.fault.Fault.{Fault}
 use Rattle.teal_value.specs.declared.fault.Fault.TheVariants as fault
+use Rattle.teal_value.specs.Keys.{most_key_bytes}
 use Rattle.teal_table.specs.declared.opcode.Opcode.{Opcode}
 use Rattle.teal_table.specs.declared.opcode.Opcode.TheVariants as op
 use Rattle.teal_table.specs.declared.global_fields.GlobalField.{GlobalField}
@@ -21,7 +22,7 @@ use Rattle.teal_table.specs.declared.global_fields.GlobalField.TheVariants as gl
 use Rattle.teal_table.specs.Fields.{global_field_at}
 use Rattle.teal_code.specs.declared.instr.Immediates.{Immediates}
 use Rattle.avm_ledger.specs.declared.application.Application.{Application}
-use Rattle.avm_states.specs.Entries.{Entries, byte_cmp, value_of_key, with_entry}
+use Rattle.avm_states.specs.Entries.{Entries, byte_cmp, value_of_key, with_entry, most_value_bytes}
 use Rattle.avm_states.specs.Schemas.{counts_in, counts_after, is_within, keeps_kind}
 use Rattle.avm_ledger.specs.Ledgers.{Ledger, application_at}
 use Rattle.avm_items.specs.declared.item.Item.{Item}
@@ -34,6 +35,7 @@ use Rattle.avm_items.specs.LedgerItems.{at}
 use Rattle.avm_items.specs.Asks.{Gives, and_then, result_over}
 use Rattle.avm_items.specs.Acts.{Act, on_ok, test}
 use Rattle.avm_cpu.specs.Operands.{one_uint, one_bytes, one_value, two_uints, two_bytes, two_values, uint_and_bytes, bytes_and_uint, bytes_and_value, value_and_uint, value_below, bytes_and_two_uints, value_and_two_uints, two_values_and_uint, two_uints_and_bytes, uint_bytes_and_value}
+use Rattle.avm_cpu.specs.Machine.{most_values, most_bytes}
 use Rattle.avm_ops.specs.Frame.{Context, After, Stepped, pushes, pushes_pair, must, there, flag, next_with_stack}
 use Rattle.avm_ops.specs.Immediates.{index_of, offset_of, field_of, group_index_of, start_of, end_of, uint_of, bytes_of}
 use Rattle.avm_ops.specs.Numbers.{of_two_uints, is_less, is_greater, is_at_most, is_at_least, are_both_nonzero, is_either_nonzero, is_nonzero, if_equal, is_zero, inverted, sum_of, difference_of, product_of, quotient_of, remainder_of, bits_or, bits_and, bits_xor, compares, are_equal, equality, wide, wide_product, wide_sum, of_one_uint}
@@ -45,7 +47,8 @@ use Rattle.avm_ops.specs.Effect.{effect}
 use Rattle.avm_ops.proofs.RowFacts.{OnOk}
 use Rattle.avm_ops.proofs.OperandValues as operands
 use Rattle.avm_ops.proofs.OperandValues.{OkOf, get_fits, there_fits}
-use Rattle.avm_ops.proofs.WrittenItems.{Row, old_entry, old_counts, limit_of, then_test, then_found, then_found_is, entry_by, stands_if_row, foreign_by, may_put_by}
+use Rattle.avm_ops.proofs.ActParts as part
+use Rattle.avm_ops.proofs.WrittenItems.{Row, old_entry, old_counts, limit_of, then_found, stands_if_row, foreign_by}
 
 -- ---- what a row is given, and what it leaves
 
@@ -68,7 +71,7 @@ pub record IsClosed (V : Value → Type 0) : Type 0 where
   pub size : (s : List ℕ) → V (Bytes s) → V (Uint (length s))
   pub short_digest : (s : List ℕ) → V (Bytes (sha256 s))
   pub long_digest : (s : List ℕ) → V (Bytes (sha512_256 s))
-  pub joined : (s t : List ℕ) → nat_le (length s + length t) 4096 ≡ true → V (Bytes s) → V (Bytes t) → V (Bytes (s ++ t))
+  pub joined : (s t : List ℕ) → nat_le (length s + length t) most_bytes ≡ true → V (Bytes s) → V (Bytes t) → V (Bytes (s ++ t))
   pub range : (s : List ℕ) (start end : ℕ) → V (Bytes s) → OkOf V (range_of s start end)
   pub byte : (s : List ℕ) (k : ℕ) → V (Bytes s) → V (Uint (slice_index s k))
   pub with_byte : (s : List ℕ) (k b : ℕ) → (nat_lt k (length s) && nat_lt b 256) ≡ true → V (Bytes s) → V (Bytes (slice_set s k b))
@@ -97,7 +100,7 @@ pub record IsGiven (V : Value → Type 0) (m : Ledger) (c : Context) (i : Immedi
   pub stands : is_none (application_at m c.current) ≡ false
 
 pub record Leaves (V : Value → Type 0) (c : Context) (after : After) : Type 0 where
-  pub height : length c.machine.stack ≤ 1000 → length after.machine.stack ≤ 1000
+  pub height : length c.machine.stack ≤ most_values → length after.machine.stack ≤ most_values
   pub stack : All V after.machine.stack
   pub scratch : All V after.machine.scratch
 
@@ -142,18 +145,18 @@ replaced_pair {V} {m} {c} g count v top some h k = record {
 }
 
 pushed : {V : Value → Type 0} {m : Ledger} {c : Context} {i : Immediates} → IsGiven V m c i → (v : Value) → V v → OnOk (Leaves V c) (pushes c v)
-pushed {V} {m} {c} g v h = by (nat_lt (length c.machine.stack) 1000) refl
+pushed {V} {m} {c} g v h = by (nat_lt (length c.machine.stack) most_values) refl
   where
-    by : (room : Bool) → nat_lt (length c.machine.stack) 1000 ≡ room → OnOk (Leaves V c) (if room then Ok (next_with_stack c (v ∷ c.machine.stack)) else Err fault.StackFull)
-    by true is = record { height = λ few. omega (arith, ltb-true (length c.machine.stack) 1000 is); stack = All-cons V v c.machine.stack h g.stack; scratch = g.scratch }
+    by : (room : Bool) → nat_lt (length c.machine.stack) most_values ≡ room → OnOk (Leaves V c) (if room then Ok (next_with_stack c (v ∷ c.machine.stack)) else Err fault.StackFull)
+    by true is = record { height = λ few. omega (arith, ltb-true (length c.machine.stack) most_values is); stack = All-cons V v c.machine.stack h g.stack; scratch = g.scratch }
     by false is = tt
 
 pushed_pair : {V : Value → Type 0} {m : Ledger} {c : Context} {i : Immediates} → IsGiven V m c i → (v top : Value) → V v → V top → OnOk (Leaves V c) (pushes_pair c v top)
-pushed_pair {V} {m} {c} g v top h k = by (nat_le (length c.machine.stack + 2) 1000) refl
+pushed_pair {V} {m} {c} g v top h k = by (nat_le (length c.machine.stack + 2) most_values) refl
   where
-    by : (room : Bool) → nat_le (length c.machine.stack + 2) 1000 ≡ room → OnOk (Leaves V c) (if room then Ok (next_with_stack c (top ∷ v ∷ c.machine.stack)) else Err fault.StackFull)
+    by : (room : Bool) → nat_le (length c.machine.stack + 2) most_values ≡ room → OnOk (Leaves V c) (if room then Ok (next_with_stack c (top ∷ v ∷ c.machine.stack)) else Err fault.StackFull)
     by true is = record {
-      height = λ few. omega (arith, leb-true (length c.machine.stack + 2) 1000 is);
+      height = λ few. omega (arith, leb-true (length c.machine.stack + 2) most_values is);
       stack = All-cons V top (v ∷ c.machine.stack) k (All-cons V v c.machine.stack h g.stack);
       scratch = g.scratch;
     }
@@ -268,7 +271,8 @@ value_at V state key all = All-lookup V (is_at (byte_cmp key)) state all
 read_entry : {V : Value → Type 0} {m : Ledger} {c : Context} {i : Immediates} → IsGiven V m c i → (id : ℕ) (key : List ℕ) (f : Option Value → Act Fault After) → is_none (application_at m id) ≡ false → ((o : Option Value) → IfSome o V → Row m (Leaves V c) (f o))
     → Row m (Leaves V c) (and_then (global_entry id key) (on_ok f))
 read_entry {V} {m} {c} g id key f stands h =
-    entry_by m (Leaves V c) id key f stands (nat_le (length key) 64) (λ _. h (old_entry m id key) (entry_holds V (at m (item.Key id key)) (g.items (item.Key id key)))) (λ _. h None tt)
+    part.entry_by (Row m (Leaves V c)) (item.Key id key) f (nat_le (length key) most_key_bytes)
+    (λ _. (stands, h (old_entry m id key) (entry_holds V (at m (item.Key id key)) (g.items (item.Key id key))))) (λ _. h None tt)
 
 own_entry : {V : Value → Type 0} {m : Ledger} {c : Context} {i : Immediates} → IsGiven V m c i → (key : List ℕ) (f : Option Value → Act Fault After) → ((o : Option Value) → IfSome o V → Row m (Leaves V c) (f o)) → Row m (Leaves V c) (and_then (global_entry c.current key) (on_ok f))
 own_entry {V} {m} {c} g key f h = read_entry g c.current key f g.stands h
@@ -276,15 +280,15 @@ own_entry {V} {m} {c} g key f h = read_entry g c.current key f g.stands h
 local_row : {V : Value → Type 0} {m : Ledger} {c : Context} {i : Immediates} → IsGiven V m c i → (who : Address) (id : ℕ) (f : Entries → Act Fault After) → ((state : Entries) → All (λ e. V e.1) state → Row m (Leaves V c) (f state))
     → Row m (Leaves V c) (and_then (the_local_state who id) (on_ok f))
 local_row {V} {m} {c} g who id f h =
-    (refl, then_found_is m (Leaves V c) (local_state_in (at m (item.Local who id))) fault.NotOptedIn f (λ state is. h state (state_holds V (at m (item.Local who id)) state (g.items (item.Local who id)) is)))
+    (refl, part.then_found (Row m (Leaves V c)) (local_state_in (at m (item.Local who id))) fault.NotOptedIn f tt (λ state is. h state (state_holds V (at m (item.Local who id)) state (g.items (item.Local who id)) is)))
 
 foreign_row : {V : Value → Type 0} {m : Ledger} {c : Context} {i : Immediates} → IsGiven V m c i → (key : List ℕ) (f : Option Value → Act Fault After) → ((o : Option Value) → IfSome o V → Row m (Leaves V c) (f o)) → (id : ℕ)
     → Row m (Leaves V c) (and_then (application id) (on_ok (λ row. and_then (test (is_some row) fault.NoSuchApp) (on_ok (λ _. and_then (global_entry id key) (on_ok f))))))
 foreign_row {V} {m} {c} g key f h id =
-    (refl, then_test m (Leaves V c) (is_some (application_in (at m (item.App id)))) fault.NoSuchApp _ (λ there. read_entry g id key f (stands_if_row m id (application_at m id) there) h))
+    (refl, part.then_test (Row m (Leaves V c)) (is_some (application_in (at m (item.App id)))) fault.NoSuchApp _ tt (λ there. read_entry g id key f (stands_if_row m id (application_at m id) there) h))
 
 may_put_row : {V : Value → Type 0} {m : Ledger} {c : Context} {i : Immediates} → IsGiven V m c i → (key : List ℕ) (v : Value) (f : Unit {0} → Act Fault After) → Row m (Leaves V c) (f tt) → Row m (Leaves V c) (and_then (may_put key v) (on_ok f))
-may_put_row {V} {m} {c} g key v f h = may_put_by m (Leaves V c) f (nat_le (length key) 64) (nat_le (value_length v) 64) (λ short small. h)
+may_put_row {V} {m} {c} g key v f h = part.may_put_by (Row m (Leaves V c)) (λ e. tt) f (nat_le (length key) most_key_bytes) (nat_le (value_length v) most_value_bytes) (λ short small. h)
 
 -- so many operands go, and items are written
 written : {V : Value → Type 0} {m : Ledger} {c : Context} {i : Immediates} → IsGiven V m c i → (count : ℕ) (w : ItemMap) → Leaves V c (leaves c count w)
@@ -293,7 +297,7 @@ written g count w = let d = dropped g count in record { height = d.height; stack
 put_over : {V : Value → Type 0} {m : Ledger} {c : Context} {i : Immediates} → IsGiven V m c i → (key : List ℕ) (v : Value) (old : Option Value) (b : Bool) → Row m (Leaves V c) (global_put_over c key v old b)
 put_over g key v old true = written g 2 _
 put_over {V} {m} {c} g key v old false =
-    (g.stands, (refl, then_test m (Leaves V c) (is_within (counts_after old (Some v) (old_counts m c.current)) (limit_of (λ row. row.global_schema) m c.current)) fault.Schema _ (λ room. written g 2 _)))
+    (g.stands, (refl, part.then_test (Row m (Leaves V c)) (is_within (counts_after old (Some v) (old_counts m c.current)) (limit_of (λ row. row.global_schema) m c.current)) fault.Schema _ tt (λ room. written g 2 _)))
 
 delete_of : {V : Value → Type 0} {m : Ledger} {c : Context} {i : Immediates} → IsGiven V m c i → (key : List ℕ) (old : Option Value) → Row m (Leaves V c) (global_delete_of c key old)
 delete_of g key None = written g 1 _
@@ -363,7 +367,7 @@ row_values V m c op.Swap i g = then_of _ (Leaves V c) (two_values c.machine.stac
 row_values V m c op.Select i g = then_of _ (Leaves V c) (two_values_and_uint c.machine.stack) _ (operands.two_values_and_uint_fits V c.machine.stack g.stack) (λ x h. replaced g 3 _ (omega arith) (chosen V x.0 x.1 h.0 h.1 (x.2 == 0)))
 row_values V m c op.Concat i g =
     then_of _ (Leaves V c) (two_bytes c.machine.stack) _ (operands.two_bytes_fits V c.machine.stack g.stack) (λ x h.
-    then_of _ (Leaves V c) (must (nat_le (length x.0 + length x.1) 4096) fault.TooLong) _ (passes (nat_le (length x.0 + length x.1) 4096) fault.TooLong) (λ u few.
+    then_of _ (Leaves V c) (must (nat_le (length x.0 + length x.1) most_bytes) fault.TooLong) _ (passes (nat_le (length x.0 + length x.1) most_bytes) fault.TooLong) (λ u few.
     replaced g 2 (Bytes (x.0 ++ x.1)) (omega arith) (g.closed.joined x.0 x.1 few h.0 h.1)))
 row_values V m c op.Substring i g = of_string g (λ s. range_of s (start_of i) (end_of i)) (λ s h. g.closed.range s (start_of i) (end_of i) h)
 row_values V m c op.Substring3 i g =
@@ -402,7 +406,7 @@ row_values V m c op.AppGlobalGetEx i g =
 row_values V m c op.AppLocalPut i g =
     act_of _ m (Leaves V c) (uint_bytes_and_value c.machine.stack) _ (any (uint_bytes_and_value c.machine.stack)) (λ x w. then_found m (Leaves V c) (account c.call x.0) fault.NoAccount _ (λ who.
     local_row g who c.current _ (λ state h.
-    may_put_row g x.1 x.2 _ (refl, then_test m (Leaves V c) (keeps_kind (value_of_key state x.1) (Some x.2) || is_within (counts_in (with_entry state x.1 x.2)) (limit_of (λ row. row.local_schema) m c.current)) fault.Schema _ (λ room. written g 3 _)))))
+    may_put_row g x.1 x.2 _ (refl, part.then_test (Row m (Leaves V c)) (keeps_kind (value_of_key state x.1) (Some x.2) || is_within (counts_in (with_entry state x.1 x.2)) (limit_of (λ row. row.local_schema) m c.current)) fault.Schema _ tt (λ room. written g 3 _)))))
 row_values V m c op.AppGlobalPut i g =
     act_of _ m (Leaves V c) (bytes_and_value c.machine.stack) _ (any (bytes_and_value c.machine.stack)) (λ x w.
     may_put_row g x.0 x.1 _ (own_entry g x.0 _ (λ old h. put_over g x.0 x.1 old (keeps_kind old (Some x.1)))))

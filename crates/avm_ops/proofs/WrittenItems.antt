@@ -8,6 +8,7 @@ use Rattle.teal_value.specs.declared.value.Value.{Value}
 use Rattle.teal_value.specs.declared.value.Value.TheVariants.{Uint, Bytes}
 use Rattle.teal_value.specs.declared.fault.Fault.{Fault}
 use Rattle.teal_value.specs.declared.fault.Fault.TheVariants as fault
+use Rattle.teal_value.specs.Keys.{most_key_bytes}
 use Rattle.teal_table.specs.declared.opcode.Opcode.{Opcode}
 use Rattle.teal_table.specs.declared.opcode.Opcode.TheVariants as op
 use Rattle.teal_table.specs.declared.global_fields.GlobalField.{GlobalField}
@@ -17,7 +18,7 @@ use Rattle.teal_code.specs.declared.instr.Immediates.{Immediates}
 use Rattle.avm_ledger.specs.declared.application.Application.{Application}
 use Rattle.avm_states.specs.declared.schema.Schema.{Schema}
 use Rattle.avm_ledger.specs.declared.application.StoredApplication.{StoredApplication}
-use Rattle.avm_states.specs.Entries.{Entries, value_of_key, with_entry, without_entry}
+use Rattle.avm_states.specs.Entries.{Entries, value_of_key, with_entry, without_entry, most_value_bytes}
 use Rattle.avm_states.specs.Schemas.{no_entries, counts_in, is_within, keeps_kind, counts_after}
 use Rattle.avm_ledger.specs.Ledgers.{Ledger, application_at}
 use Rattle.avm_items.specs.declared.item.Item.{Item}
@@ -30,12 +31,14 @@ use Rattle.avm_items.specs.Asks.{Ask, Gives, Asks, and_then}
 use Rattle.avm_items.specs.Acts.{Act, on_ok, found, test, reads, done}
 use Rattle.avm_items.specs.CallFields.{account}
 use Rattle.avm_cpu.specs.Operands.{bytes_and_value, uint_and_bytes, uint_bytes_and_value, one_bytes}
+use Rattle.avm_cpu.specs.Machine.{most_values}
 use Rattle.avm_ops.specs.Frame.{Context, After, Stepped, pushes, next_with_stack, replaces, replaces_pair, flag}
 use Rattle.avm_ops.specs.Immediates.{field_of}
 use Rattle.avm_ops.specs.Fields.{global_at}
 use Rattle.avm_ops.specs.States.{value_length, foreign_of, global_entry, may_put, global_put_over, global_delete_of, schema_in, key_written, counts_written, leaves, local_limit, the_account, the_local_state, application, or_zero}
 use Rattle.avm_ops.specs.Effect.{effect}
 use Rattle.avm_items.specs.Counting.{AsksAtMost, Any}
+use Rattle.avm_ops.proofs.ActParts as part
 use Rattle.avm_ops.proofs.RowFacts.{OnOk, FactsOf, questions, writes_items, row_facts, at_most-each}
 use Rattle.avm_ops.proofs.Along.{Along, along-each}
 
@@ -52,8 +55,8 @@ limit_of part m id = schema_in part (application_in (at m (item.App id)))
 
 -- a key and a value that pass the tests of every put; the value is an operand
 pub record IsPut (c : Context) (key : List ℕ) (v : Value) : Type 0 where
-  pub key_length : nat_le (length key) 64 ≡ true
-  pub value_length : nat_le (value_length v) 64 ≡ true
+  pub key_length : nat_le (length key) most_key_bytes ≡ true
+  pub value_length : nat_le (value_length v) most_value_bytes ≡ true
   pub operand : Contains c.machine.stack v
 
 -- another value of the kind of the old one; a value that counts, within the limit; no value
@@ -91,39 +94,20 @@ effect_same c o i quiet = at_most-each (questions o) (questions o) (OnOk (FactsO
 -- ---- rows that ask
 
 then_act : {A : Type 0} (m : Ledger) (R : After → Type 0) (r : Result A Fault) (f : A → Act Fault After) → ((a : A) → Row m R (f a)) → Row m R (on_ok f r)
-then_act m R (Ok a) f h = h a
-then_act m R (Err e) f h = tt
-
-pub then_act_is : {A : Type 0} (m : Ledger) (R : After → Type 0) (r : Result A Fault) (f : A → Act Fault After) → ((a : A) → r ≡ Ok a → Row m R (f a)) → Row m R (on_ok f r)
-then_act_is m R (Ok a) f h = h a refl
-then_act_is m R (Err e) f h = tt
+then_act m R r f h = part.then_act (Row m R) (λ e. tt) r f (λ a _. h a)
 
 pub then_found : {A : Type 0} (m : Ledger) (R : After → Type 0) (o : Option A) (e : Fault) (f : A → Act Fault After) → ((a : A) → Row m R (f a)) → Row m R (and_then (found o e) (on_ok f))
-then_found m R None e f h = tt
-then_found m R (Some a) e f h = h a
-
-pub then_found_is : {A : Type 0} (m : Ledger) (R : After → Type 0) (o : Option A) (e : Fault) (f : A → Act Fault After) → ((a : A) → o ≡ Some a → Row m R (f a)) → Row m R (and_then (found o e) (on_ok f))
-then_found_is m R None e f h = tt
-then_found_is m R (Some a) e f h = h a refl
-
-pub then_test : (m : Ledger) (R : After → Type 0) (b : Bool) (e : Fault) (f : Unit {0} → Act Fault After) → (b ≡ true → Row m R (f tt)) → Row m R (and_then (test b e) (on_ok f))
-then_test m R true e f h = h refl
-then_test m R false e f h = tt
-
-pub entry_by : (m : Ledger) (R : After → Type 0) (id : ℕ) (key : List ℕ) (f : Option Value → Act Fault After) → is_none (application_at m id) ≡ false → (b : Bool) → (b ≡ true → Row m R (f (old_entry m id key))) → (b ≡ false → Row m R (f None))
-    → Row m R (and_then (if b then reads entry_in (item.Key id key) else Gives (Ok None)) (on_ok f))
-entry_by m R id key f stands true h g = (stands, h refl)
-entry_by m R id key f stands false h g = g refl
+then_found m R o e f h = part.then_found (Row m R) o e f tt (λ a _. h a)
 
 entry_read : (m : Ledger) (R : After → Type 0) (id : ℕ) (key : List ℕ) (f : Option Value → Act Fault After) → is_none (application_at m id) ≡ false → ((v : Option Value) → Row m R (f v)) → Row m R (and_then (global_entry id key) (on_ok f))
-entry_read m R id key f stands h = entry_by m R id key f stands (nat_le (length key) 64) (λ _. h (old_entry m id key)) (λ _. h None)
+entry_read m R id key f stands h = part.entry_by (Row m R) (item.Key id key) f (nat_le (length key) most_key_bytes) (λ _. (stands, h (old_entry m id key))) (λ _. h None)
 
 pub stands_if_row : (m : Ledger) (id : ℕ) (a : Option StoredApplication) → is_some (application_in (row_value a)) ≡ true → is_none a ≡ false
 stands_if_row m id None e = absurd cc
 stands_if_row m id (Some app) e = refl
 
 pushed : (c : Context) (v : Value) → OnOk (Same c) (pushes c v)
-pushed c v = either (nat_lt (length c.machine.stack) 1000)
+pushed c v = either (nat_lt (length c.machine.stack) most_values)
   where
     either : (b : Bool) → OnOk (Same c) (if b then Ok (next_with_stack c (v ∷ c.machine.stack)) else Err fault.StackFull)
     either true = refl
@@ -189,12 +173,6 @@ third_on_top (b ∷ Uint k ∷ []) a e = absurd cc
 third_on_top (b ∷ []) a e = absurd cc
 third_on_top [] a e = absurd cc
 
-pub may_put_by : (m : Ledger) (R : After → Type 0) (f : Unit {0} → Act Fault After) → (b d : Bool) → (b ≡ true → d ≡ true → Row m R (f tt))
-    → Row m R (and_then (and_then (test b fault.KeyLength) (on_ok (λ _. test d fault.TooLong))) (on_ok f))
-may_put_by m R f true true h = h refl refl
-may_put_by m R f true false h = tt
-may_put_by m R f false d h = tt
-
 put_row : (m : Ledger) (c : Context) (key : List ℕ) (v : Value) → IsPut c key v → (b : Bool) → keeps_kind (old_entry m c.current key) (Some v) ≡ b → is_none (application_at m c.current) ≡ false
     → Row m (λ after. Writes m c after.writes) (global_put_over c key v (old_entry m c.current key) b)
 put_row m c key v is true same stands = SameKind key v is same refl
@@ -202,7 +180,7 @@ put_row m c key v is false other stands = (
   stands,
   (
     refl,
-    then_test m (λ after. Writes m c after.writes) (is_within (counts_after (old_entry m c.current key) (Some v) (old_counts m c.current)) (limit_of (λ row. row.global_schema) m c.current)) fault.Schema _
+    part.then_test (Row m (λ after. Writes m c after.writes)) (is_within (counts_after (old_entry m c.current key) (Some v) (old_counts m c.current)) (limit_of (λ row. row.global_schema) m c.current)) fault.Schema _ tt
         (λ room. Counted key v is room refl),
   ),
 )
@@ -221,9 +199,9 @@ global_put_row : (m : Ledger) (c : Context) → is_none (application_at m c.curr
     → Row m (λ after. Writes m c after.writes) (on_ok (λ operands. and_then (may_put operands.0 operands.1) (on_ok (λ _. and_then (global_entry c.current operands.0) (on_ok (λ old. global_put_over c operands.0 operands.1 old (keeps_kind old (Some operands.1))))))) r)
 global_put_row m c stands (Err f) operand = tt
 global_put_row m c stands (Ok a) operand =
-    may_put_by m (λ after. Writes m c after.writes) _ (nat_le (length a.0) 64) (nat_le (value_length a.1) 64) (λ short small.
-    entry_by m (λ after. Writes m c after.writes) c.current a.0 _ stands (nat_le (length a.0) 64)
-    (λ _. put_row m c a.0 a.1 (record { key_length = short; value_length = small; operand = operand a refl }) (keeps_kind (old_entry m c.current a.0) (Some a.1)) refl stands)
+    part.may_put_by (Row m (λ after. Writes m c after.writes)) (λ e. tt) _ (nat_le (length a.0) most_key_bytes) (nat_le (value_length a.1) most_value_bytes) (λ short small.
+    part.entry_by (Row m (λ after. Writes m c after.writes)) (item.Key c.current a.0) _ (nat_le (length a.0) most_key_bytes)
+    (λ _. (stands, put_row m c a.0 a.1 (record { key_length = short; value_length = small; operand = operand a refl }) (keeps_kind (old_entry m c.current a.0) (Some a.1)) refl stands))
     (λ long. let no : true ≡ false = sym short ∙ long in absurd cc))
 
 -- what is left of a put into a local state, once the account and then its state are known
@@ -239,15 +217,15 @@ put_of c a who = and_then (the_local_state who c.current) (on_ok (put_in c a who
 put_in_row : (m : Ledger) (c : Context) (a : ℕ × List ℕ × Value) → Contains c.machine.stack a.2 → (who : Address) (state : Entries) → local_state_in (at m (item.Local who c.current)) ≡ Some state
     → Row m (λ after. Writes m c after.writes) (put_in c a who state)
 put_in_row m c a operand who state is =
-    may_put_by m (λ after. Writes m c after.writes) _ (nat_le (length a.1) 64) (nat_le (value_length a.2) 64) (λ short small. (
+    part.may_put_by (Row m (λ after. Writes m c after.writes)) (λ e. tt) _ (nat_le (length a.1) most_key_bytes) (nat_le (value_length a.2) most_value_bytes) (λ short small. (
       refl,
-      then_test m (λ after. Writes m c after.writes) (keeps_kind (value_of_key state a.1) (Some a.2) || is_within (counts_in (with_entry state a.1 a.2)) (limit_of (λ row. row.local_schema) m c.current)) fault.Schema _ (λ room.
+      part.then_test (Row m (λ after. Writes m c after.writes)) (keeps_kind (value_of_key state a.1) (Some a.2) || is_within (counts_in (with_entry state a.1 a.2)) (limit_of (λ row. row.local_schema) m c.current)) fault.Schema _ tt (λ room.
           LocalPut who state a.1 a.2 is (record { key_length = short; value_length = small; operand = operand }) room refl),
     ))
 
 put_of_row : (m : Ledger) (c : Context) (a : ℕ × List ℕ × Value) → Contains c.machine.stack a.2 → (who : Address) → Row m (λ after. Writes m c after.writes) (put_of c a who)
 put_of_row m c a operand who =
-    (refl, then_found_is m (λ after. Writes m c after.writes) (local_state_in (at m (item.Local who c.current))) fault.NotOptedIn (put_in c a who) (put_in_row m c a operand who))
+    (refl, part.then_found (Row m (λ after. Writes m c after.writes)) (local_state_in (at m (item.Local who c.current))) fault.NotOptedIn (put_in c a who) tt (put_in_row m c a operand who))
 
 abbrev delete_of : Context → ℕ × List ℕ → Address → Act Fault After
 delete_of c a who =
@@ -256,12 +234,12 @@ delete_of c a who =
 
 delete_of_row : (m : Ledger) (c : Context) (a : ℕ × List ℕ) (who : Address) → Row m (λ after. Writes m c after.writes) (delete_of c a who)
 delete_of_row m c a who =
-    (refl, then_found_is m (λ after. Writes m c after.writes) (local_state_in (at m (item.Local who c.current))) fault.NotOptedIn _ (λ state is. local_delete_by m c who state a.1 is (is_some (value_of_key state a.1))))
+    (refl, part.then_found (Row m (λ after. Writes m c after.writes)) (local_state_in (at m (item.Local who c.current))) fault.NotOptedIn _ tt (λ state is. local_delete_by m c who state a.1 is (is_some (value_of_key state a.1))))
 
 get_ex_row : (m : Ledger) (c : Context) (key : List ℕ) (f : Option Value → Act Fault After) → ((v : Option Value) → Row m (Same c) (f v)) → (id : ℕ)
     → Row m (Same c) (and_then (application id) (on_ok (λ row. and_then (test (is_some row) fault.NoSuchApp) (on_ok (λ _. and_then (global_entry id key) (on_ok f))))))
 get_ex_row m c key f h id =
-    (refl, then_test m (Same c) (is_some (application_in (at m (item.App id)))) fault.NoSuchApp _ (λ there. entry_read m (Same c) id key f (stands_if_row m id (application_at m id) there) h))
+    (refl, part.then_test (Row m (Same c)) (is_some (application_in (at m (item.App id)))) fault.NoSuchApp _ tt (λ there. entry_read m (Same c) id key f (stands_if_row m id (application_at m id) there) h))
 
 -- ---- row by row
 
@@ -275,8 +253,8 @@ effect_writes m c stands op.AppLocalGet i = quiet m c (effect c op.AppLocalGet i
 effect_writes m c stands op.AppLocalGetEx i = quiet m c (effect c op.AppLocalGetEx i) (search (rules, then_act, then_found))
 effect_writes m c stands op.AppGlobalGet i = quiet m c (effect c op.AppGlobalGet i) (then_act m (Same c) (one_bytes c.machine.stack) (λ key. and_then (global_entry c.current key) (on_ok (λ v. Gives (replaces c 1 (or_zero v))))) (λ key. entry_read m (Same c) c.current key (λ v. Gives (replaces c 1 (or_zero v))) stands (λ v. refl)))
 effect_writes m c stands op.AppGlobalGetEx i = quiet m c (effect c op.AppGlobalGetEx i) (then_act m (Same c) (uint_and_bytes c.machine.stack) _ (λ a. foreign_by m (Same c) _ (get_ex_row m c a.1 (λ v. Gives (replaces_pair c 2 (or_zero v) (flag (is_some v)))) (λ v. refl)) (foreign_of c.call c.current a.0)))
-effect_writes m c stands op.AppLocalPut i = then_act_is m (λ after. Writes m c after.writes) (uint_bytes_and_value c.machine.stack) (λ a. and_then (the_account c a.0) (on_ok (put_of c a))) (λ a is. then_found m (λ after. Writes m c after.writes) (account c.call a.0) fault.NoAccount (put_of c a) (put_of_row m c a (third_on_top c.machine.stack a is)))
+effect_writes m c stands op.AppLocalPut i = part.then_act (Row m (λ after. Writes m c after.writes)) (λ e. tt) (uint_bytes_and_value c.machine.stack) (λ a. and_then (the_account c a.0) (on_ok (put_of c a))) (λ a is. then_found m (λ after. Writes m c after.writes) (account c.call a.0) fault.NoAccount (put_of c a) (put_of_row m c a (third_on_top c.machine.stack a is)))
 effect_writes m c stands op.AppGlobalPut i = global_put_row m c stands (bytes_and_value c.machine.stack) (λ a is. second_on_top c.machine.stack a is)
 effect_writes m c stands op.AppLocalDel i = then_act m (λ after. Writes m c after.writes) (uint_and_bytes c.machine.stack) (λ a. and_then (the_account c a.0) (on_ok (delete_of c a))) (λ a. then_found m (λ after. Writes m c after.writes) (account c.call a.0) fault.NoAccount (delete_of c a) (delete_of_row m c a))
-effect_writes m c stands op.AppGlobalDel i = then_act m (λ after. Writes m c after.writes) (one_bytes c.machine.stack) (λ key. and_then (global_entry c.current key) (on_ok (global_delete_of c key))) (λ key. entry_by m (λ after. Writes m c after.writes) c.current key (global_delete_of c key) stands (nat_le (length key) 64) (λ _. delete_row m c key (old_entry m c.current key) refl stands) (λ _. Nothing refl))
+effect_writes m c stands op.AppGlobalDel i = then_act m (λ after. Writes m c after.writes) (one_bytes c.machine.stack) (λ key. and_then (global_entry c.current key) (on_ok (global_delete_of c key))) (λ key. part.entry_by (Row m (λ after. Writes m c after.writes)) (item.Key c.current key) (global_delete_of c key) (nat_le (length key) most_key_bytes) (λ _. (stands, delete_row m c key (old_entry m c.current key) refl stands)) (λ _. Nothing refl))
 effect_writes m c stands o i = silent m c o i refl refl

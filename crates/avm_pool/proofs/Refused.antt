@@ -8,6 +8,7 @@ use Rattle.teal_table.specs.declared.opcode.Opcode.{Opcode}
 use Rattle.avm_ledger.specs.declared.header.Header.{Header}
 use Rattle.avm_items.specs.declared.call_data.CallData.{CallData}
 use Rattle.avm_ops.specs.Objects.{IsFull, Slots}
+use Rattle.avm_block.specs.Blocks.{most_calls}
 use Rattle.avm_replay.specs.Plain.{first_beyond}
 use Rattle.mv_parts.specs.declared.open_fault.OpenFault.TheVariants.{Profile, TooMany}
 use Rattle.mv_parts.specs.Opening.{open_fault}
@@ -33,7 +34,7 @@ module _ {O : Type 0} (opcode : O → Opcode) where
 
   pub journal_opens : (sets : List (Slots O)) (own : Slots O) (header : Header) (calls : List CallData) → MayPropose opcode sets own header calls → open_fault header calls ≡ None
   journal_opens sets own header calls may =
-      let few : nat_lt 4096 (length calls) ≡ false = let l = may.workers.calls_few in grind (arith, nat_tests) in
+      let few : nat_lt most_calls (length calls) ≡ false = let l = may.workers.calls_few in grind (arith, nat_tests) in
       ap (λ b. if b then Some TooMany else option_map Profile (first_beyond header.profile 1 calls)) few ∙ ap (option_map Profile) may.within
 
   tests_are_refusals : (sets : List (Slots O)) (own : Slots O) (header : Header) (calls : List CallData) (f : PoolFault) → IsTestRefusal opcode sets own header calls f → IsRefusal opcode sets own header calls (failure.Fault f)

@@ -12,7 +12,7 @@ use avm_ops::{BoxedOp, Op, OpSet};
 use avm_replay::first_beyond;
 
 /// How many workers there are at most.
-const MOST_WORKERS: usize = 8;
+const MAX_WORKERS: usize = 8;
 
 /// Why nothing is proposed, whatever the threads would do.
 pub(crate) fn pool_fault(
@@ -24,7 +24,7 @@ pub(crate) fn pool_fault(
     ensures some { IfSome result (IsTestRefusal ⟦<BoxedOp as Op>⟧.opcode sets.now own.now header.now calls.now) }
     ensures none { IfNone result (MayPropose ⟦<BoxedOp as Op>⟧.opcode sets.now own.now header.now calls.now) }
 {
-    if sets.is_empty() || sets.len() > MOST_WORKERS || calls.len() > MAX_ENTRIES {
+    if sets.is_empty() || sets.len() > MAX_WORKERS || calls.len() > MAX_ENTRIES {
         return Some(PoolFault::Workers);
     }
     match missing(sets, own) {

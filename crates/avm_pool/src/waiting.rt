@@ -5,7 +5,7 @@ use std::sync::{Mutex, MutexGuard, Wait};
 use std::thread;
 
 /// How often a worker looks whether a lock is free, before it sleeps until it is.
-const MOST_LOOKS: u32 = 1024;
+const MAX_LOOKS: u32 = 1024;
 
 /// How many pauses of the processor a turn has, before other threads may go first.
 const PAUSES_A_TURN: u32 = 8;
@@ -14,12 +14,12 @@ const PAUSES_A_TURN: u32 = 8;
 const FIRST_TURNS: u32 = 16;
 
 /// How many times the wait grows, at most.
-const MOST_GROWTHS: u32 = 3;
+const MAX_GROWTHS: u32 = 3;
 
 /// Takes a lock. Whoever holds one lets it go within microseconds, and a thread that sleeps is woken much later than
 /// that; so a worker looks for a while first.
 pub(crate) fn lock_soon<'b, T, R: Wait>(rt: &R, mutex: &'b Mutex<T>) -> MutexGuard<'b, T> {
-    for _ in 0..MOST_LOOKS {
+    for _ in 0..MAX_LOOKS {
         if let Some(guard) = mutex.try_lock() {
             return guard;
         }
@@ -31,7 +31,7 @@ pub(crate) fn lock_soon<'b, T, R: Wait>(rt: &R, mutex: &'b Mutex<T>) -> MutexGua
 /// Lets others go first, the longer the more attempts a call has had. Where many calls write one item, each attempt may
 /// make another one late; so those that were late stay out of the way.
 pub(crate) fn stand_back(tries: u32) {
-    let growths = tries.saturating_sub(1).min(MOST_GROWTHS);
+    let growths = tries.saturating_sub(1).min(MAX_GROWTHS);
     for _ in 0..FIRST_TURNS << (2 * growths) {
         wait_a_turn();
     }

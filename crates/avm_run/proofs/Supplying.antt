@@ -15,9 +15,9 @@ use Rattle.avm_items.proofs.OneMore.{is_there, one_longer, same_or_other, still_
 use Rattle.avm_items.proofs.Puts.{item_total}
 use Rattle.avm_items.proofs.Questions.{question_with_more}
 use Rattle.avm_call.specs.Calls.{call_result}
-use Rattle.avm_call.specs.Ends.{has_programs}
+use Rattle.avm_call.specs.Ends.{has_programs, most_items}
 use Rattle.avm_call.proofs.AskedFor.{asked_with_answer}
-use Rattle.avm_run.specs.Progress.{IsFew, most_items}
+use Rattle.avm_run.specs.Progress.{IsFew}
 
 extends_itself : (known : Known) → Extends known known
 extends_itself known = record { same = λ x v e. e }

@@ -17,7 +17,7 @@ use avm_cpu::{Cpu, Flow};
 use avm_items::{Env, Item, ItemValue};
 use avm_ledger::Application;
 use avm_ops::{Op, Stop};
-use avm_states::{EntryCounts, Schema, State};
+use avm_states::{EntryCounts, MAX_VALUE_BYTES, Schema, State};
 use std::alloc::Global;
 use teal_code::Instr;
 use teal_table::Opcode;
@@ -182,7 +182,7 @@ fn local_put(alloc: Global, cpu: &mut Cpu, env: &mut Env) -> Result<Flow, Stop>
     let Some(state_key) = StateKey::of(key) else {
         return Err(Stop::Fault(Fault::KeyLength));
     };
-    if value_length(value) > 64 {
+    if value_length(value) > MAX_VALUE_BYTES {
         return Err(Stop::Fault(Fault::TooLong));
     }
     let limit = local_limit(application(alloc, env, current)?);
@@ -202,7 +202,7 @@ fn global_put(alloc: Global, cpu: &mut Cpu, env: &mut Env) -> Result<Flow, Stop>
     let Some(state_key) = StateKey::of(key) else {
         return Err(Stop::Fault(Fault::KeyLength));
     };
-    if value_length(value) > 64 {
+    if value_length(value) > MAX_VALUE_BYTES {
         return Err(Stop::Fault(Fault::TooLong));
     }
     let current = env.current();

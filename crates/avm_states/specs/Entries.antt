@@ -16,10 +16,7 @@ byte_cmp = slice_cmp nat_cmp
 abbrev pub Entries : Type 0
 Entries = List (List ℕ × Value)
 
--- how many bytes a key has at most, and how many a byte string that is its value
-abbrev pub most_key_bytes : ℕ
-most_key_bytes = 64
-
+-- how many bytes a byte string has at most that is the value of a key
 abbrev pub most_value_bytes : ℕ
 most_value_bytes = 64
 

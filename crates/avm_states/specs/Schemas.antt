@@ -4,8 +4,9 @@ use Rattle.std.specs.List.{All}
 use Rattle.std.specs.Map.{keys_of}
 use Rattle.teal_value.specs.declared.value.Value.{Value}
 use Rattle.teal_value.specs.declared.value.Value.TheVariants.{Uint, Bytes}
+use Rattle.teal_value.specs.Keys.{most_key_bytes}
 use Rattle.avm_states.specs.declared.schema.Schema.{Schema}
-use Rattle.avm_states.specs.Entries.{Entries, value_of_key, with_entry, without_entry, IsInKeyOrder, most_key_bytes}
+use Rattle.avm_states.specs.Entries.{Entries, value_of_key, with_entry, without_entry, IsInKeyOrder}
 
 -- how many entries a schema of an application's own state allows at most, and one of an account's
 abbrev pub most_global_entries : ℕ

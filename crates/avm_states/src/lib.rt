@@ -8,5 +8,5 @@ mod schema;
 mod state;
 
 pub use entry_counts::EntryCounts;
-pub use schema::Schema;
-pub use state::State;
+pub use schema::{MAX_GLOBAL_ENTRIES, MAX_LOCAL_ENTRIES, Schema};
+pub use state::{MAX_VALUE_BYTES, State};

@@ -2,7 +2,8 @@
 
 ghost use Rattle.std.specs.Prelude.{◌≡◌, ◌≤◌, [], None, IfErr, IfOk, IfSome, length, List, ℕ};
 ghost use Rattle.std.specs.Option.{option_copied};
-ghost use Rattle.avm_states.specs.Entries.{value_of_key, with_entry, without_entry, IsInKeyOrder, most_key_bytes};
+ghost use Rattle.teal_value.specs.Keys.{most_key_bytes};
+ghost use Rattle.avm_states.specs.Entries.{value_of_key, with_entry, without_entry, IsInKeyOrder};
 ghost use Rattle.avm_states.specs.Schemas.{counts_in};
 
 use crate::entry_counts::EntryCounts;
@@ -10,6 +11,9 @@ use sorted_entries::{put, take, value_of};
 use std::alloc::{AllocError, Global};
 use std::marker::Model;
 use teal_value::{StateKey, Value};
+
+/// The most bytes of a byte string that is the value of a key (AVM specification, "State").
+pub const MAX_VALUE_BYTES: usize = 64;
 
 /// A global or local state: its entries by rising key, which contracts see as the list of them.
 #[derive(Debug, Drop)]

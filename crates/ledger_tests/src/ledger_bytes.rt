@@ -1,7 +1,7 @@
 //! The bytes of ledgers and calls. The digests are those of the system's `sha256sum`.
 
-use avm_call_codec::CallCodec;
-use avm_items::{CallData, CallDataFault, Completion};
+use avm_call_codec::{CallCodec, CallDataFault};
+use avm_items::{CallData, Completion};
 use avm_ledger::{Ledger, LedgerFault};
 use avm_states::{Schema, State};
 use std::alloc::Global;

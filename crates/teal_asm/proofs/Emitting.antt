@@ -4,6 +4,7 @@ use Rattle.std.proofs.Common.{true, false, ltb, Ok, Err}
 use Rattle.std.proofs.lemmas.Bool.{cases_lt, lt-ltb, le-ltb}
 use Rattle.std.proofs.lemmas.List.{take-append-drop, take_min, drop_more, get_or_append_left, get_or_past, drop_all, append-nil}
 use Rattle.std.proofs.Math.Seq.{get_or-append_seam, take-length, take-nil, drop-nil}
+use Rattle.teal_code.specs.Limits.{most_program_bytes}
 use Rattle.teal_asm.specs.declared.emit.Instruction.{Instruction}
 use Rattle.teal_source.specs.declared.fault.AsmFaultKind.TheVariants as kind
 use Rattle.teal_asm.specs.Meaning.{Meant, Straight, Branch}
@@ -169,10 +170,10 @@ length-spelling n (i ∷ is) = omega (arith, length-append (instruction_spelling
 
 pub fits : (line : ℕ) (code : List ℕ) (v : ℕ) (is : List Meant) → total_size is ≤ 1023 → code ≡ v ∷ spelling 0 is → short_program line (v ∷ spelling 0 is) ≡ Ok code
 fits line code v is small e =
-    let test : ltb 1024 (length (v ∷ spelling 0 is)) ≡ false = le-ltb 1024 (length (v ∷ spelling 0 is)) (omega (arith, length-spelling 0 is)) in
+    let test : ltb most_program_bytes (length (v ∷ spelling 0 is)) ≡ false = le-ltb most_program_bytes (length (v ∷ spelling 0 is)) (omega (arith, length-spelling 0 is)) in
     rw test (ap (λ bytes. Ok bytes) (sym e))
 
 pub is_too_long : (line v : ℕ) (is : List Meant) → 1023 < total_size is → short_program line (v ∷ spelling 0 is) ≡ Err (record { line = line; kind = kind.TooLong })
 is_too_long line v is large =
-    let test : ltb 1024 (length (v ∷ spelling 0 is)) ≡ true = lt-ltb 1024 (length (v ∷ spelling 0 is)) (omega (arith, length-spelling 0 is)) in
+    let test : ltb most_program_bytes (length (v ∷ spelling 0 is)) ≡ true = lt-ltb most_program_bytes (length (v ∷ spelling 0 is)) (omega (arith, length-spelling 0 is)) in
     rw test refl

@@ -6,6 +6,7 @@ use Rattle.teal_table.specs.declared.shape.Version.{Version}
 use Rattle.teal_table.specs.declared.shape.Version.TheVariants.{Two, Three}
 use Rattle.teal_code.specs.declared.instr.Immediates.TheVariants as is
 use Rattle.teal_code.specs.Spelling.{instr_spelling}
+use Rattle.teal_code.specs.Limits.{most_program_bytes}
 use Rattle.teal_text.specs.Lines.{lines_of}
 use Rattle.teal_source.specs.declared.fault.AsmFaultKind.TheVariants as kind
 use Rattle.teal_source.specs.declared.fault.AsmFault.{AsmFault}
@@ -40,7 +41,7 @@ program m = version_byte m.version ∷ spelling 0 m.instructions
 
 -- a program of at most 1024 bytes
 abbrev pub short_program : ℕ → List ℕ → Result (List ℕ) AsmFault
-short_program last_line bytes = if nat_lt 1024 (length bytes) then fault_at last_line kind.TooLong else Ok bytes
+short_program last_line bytes = if nat_lt most_program_bytes (length bytes) then fault_at last_line kind.TooLong else Ok bytes
 
 -- how many lines a text has
 abbrev pub line_count : List ℕ → ℕ

@@ -19,7 +19,7 @@ use teal_source::{AsmFaultKind, Command, LineError, Statement};
 use teal_value::{ByteString, Failure};
 
 /// The most constants that are gathered of a kind.
-const MOST_CONSTANTS: usize = 256;
+const MAX_CONSTANTS: usize = 256;
 
 /// The statements so far.
 #[derive(Drop)]
@@ -156,7 +156,7 @@ impl Body {
     fn gathers_too_many(&self) -> bool
         ensures { result ≡ (nat_lt 256 (length self.now.uints.keys) || nat_lt 256 (length self.now.strings)) }
     {
-        self.uints.len() > MOST_CONSTANTS || self.strings.len() > MOST_CONSTANTS
+        self.uints.len() > MAX_CONSTANTS || self.strings.len() > MAX_CONSTANTS
     }
 }
 

@@ -1,5 +1,6 @@
 pub mod Varuint
 pub mod Grammar
+pub mod Limits
 pub mod Reader
 pub mod Spelling
 pub mod FaultLaws

@@ -1,6 +1,7 @@
 //! The labels of a program: the targets of its branches, numbered by rising place.
 
 ghost use Rattle.std.specs.Prelude.{◌≡◌, ◌≤◌, ◌++◌, length, string_bytes, IfOk, OnOk};
+ghost use Rattle.teal_code.specs.Limits.{most_program_bytes};
 ghost use Rattle.teal_text.specs.PlainWords.{text_of_lines};
 ghost use Rattle.teal_dis.specs.Shown.{AreLabels, AreMarks, label, label_in, lines_of_label};
 
@@ -9,7 +10,7 @@ use teal_check::Program;
 
 /// The number of each instruction's label, and of the end's, where a branch leads there.
 pub(crate) fn labels_of(alloc: Global, program: &Program) -> Result<Vec<Option<u16>>, AllocError>
-    requires { length program.now.placed ≤ 1024 }
+    requires { length program.now.placed ≤ most_program_bytes }
     ensures { IfOk result (λ labels. AreLabels program.now.placed labels.items) }
 {
     let marks = marks_of(alloc, program)?;
@@ -29,7 +30,7 @@ pub(crate) fn labels_of(alloc: Global, program: &Program) -> Result<Vec<Option<u
 
 // Whether a branch leads to each instruction, and to the end.
 fn marks_of(alloc: Global, program: &Program) -> Result<Vec<bool>, AllocError>
-    requires { length program.now.placed ≤ 1024 }
+    requires { length program.now.placed ≤ most_program_bytes }
     ensures { IfOk result (λ marks. AreMarks program.now.placed marks.items) }
 {
     let mut marks = vec![in alloc; false; program.count() + 1]?;

@@ -16,6 +16,7 @@ use Rattle.teal_code.specs.Grammar.{Reads}
 use Rattle.teal_code.specs.Reader.{varuint_at}
 use Rattle.teal_code.specs.Varuint.{IsBase128}
 use Rattle.teal_code.proofs.Reading.{varuint_sound, read_is}
+use Rattle.teal_code.specs.Limits.{most_program_bytes, most_cost}
 use Rattle.teal_check.specs.declared.program.Placed.{Placed}
 use Rattle.teal_check.specs.WellFormed.{WellFormed, on_code, placed_at, placed_from, places, target_of, with_targets, version_at, version_of, cost_of, checked}
 use Rattle.teal_check.proofs.CheckedPrograms.{coded_ok, is_checked, is_placed, placed_forward}
@@ -133,7 +134,7 @@ version_some bytes v e =
 
 -- the instructions take no more bytes than the program has, which costs at most 700
 abbrev Fits : List ℕ → WellFormed → Type 0
-Fits bytes w = (1 + spelled_size w.placed ≤ length bytes) × (length bytes ≤ 1024) × (cost_of w.placed ≤ 700) × (w.cost ≡ cost_of w.placed)
+Fits bytes w = (1 + spelled_size w.placed ≤ length bytes) × (length bytes ≤ most_program_bytes) × (cost_of w.placed ≤ most_cost) × (w.cost ≡ cost_of w.placed)
 
 it_fits : (bytes : List ℕ) (w : WellFormed) → IsBytes bytes → checked bytes ≡ Ok w → Fits bytes w
 it_fits bytes w are e =
@@ -257,12 +258,12 @@ spelled_aimed version count place number (Branch o t ∷ ms) h = ((h.0.1, h.0.2)
 
 -- ---- the law
 
-short_enough : (line : ℕ) (bytes : List ℕ) → length bytes ≤ 1024 → short_program line bytes ≡ Ok bytes
+short_enough : (line : ℕ) (bytes : List ℕ) → length bytes ≤ most_program_bytes → short_program line bytes ≡ Ok bytes
 short_enough line bytes le =
-    let test : ltb 1024 (length bytes) ≡ false = grind (arith, nat_tests) in
+    let test : ltb most_program_bytes (length bytes) ≡ false = grind (arith, nat_tests) in
     rw test refl
 
-assembled_as : (text : List ℕ) (m : Meaning) → meaning text ≡ Ok m → length (program m) ≤ 1024 → assembled text ≡ Ok (program m)
+assembled_as : (text : List ℕ) (m : Meaning) → meaning text ≡ Ok m → length (program m) ≤ most_program_bytes → assembled text ≡ Ok (program m)
 unfolding assembled
 assembled_as text m e short = rw e (short_enough (line_count text) (program m) short)
 
@@ -279,7 +280,7 @@ assembles_back bytes w are e =
     let q = spelled_program m in
     let count : length w.placed ≡ length ms = sym (length-map meant_of w.placed) in
     let meant : AreMeant w.version (length ms) 0 ms = subst (λ n. AreMeant w.version n 0 ms) count (placed_meant w.version (length w.placed) 0 w.placed l.instructions l.targets) in
-    let short : 1 + total_size ms ≤ 1024 = omega (arith, f.0, f.1, meant_size (length w.placed) 0 w.placed l.targets) in
+    let short : 1 + total_size ms ≤ most_program_bytes = omega (arith, f.0, f.1, meant_size (length w.placed) 0 w.placed l.targets) in
     let same : map meant_of (aimed_at 1 0 ms) ≡ ms = meant_back 1 0 ms in
     let cost : cost_of (aimed_at 1 0 ms) ≡ cost_of w.placed = sym (placed_cost (aimed_at 1 0 ms)) ∙ ap meant_cost same ∙ placed_cost w.placed in
     let aim : AreAimed (length ms) 0 w.placed = subst (λ n. AreAimed n 0 w.placed) count l.targets in

@@ -4,6 +4,7 @@ use Rattle.std.specs.Prelude.{decimal, if◌then◌else◌}
 use Rattle.std.specs.Str.{bytes_eq}
 use Rattle.std.proofs.lemmas.Bool.{cases_lt}
 use Rattle.std.proofs.lemmas.Slice.Eq.{bytes_eq-Decides}
+use Rattle.teal_code.specs.Limits.{most_program_bytes}
 use Rattle.teal_text.specs.Numbers.{number_of}
 use Rattle.teal_text.proofs.ReadBack.{decimal_back}
 use Rattle.teal_check.specs.declared.program.Placed.{Placed}
@@ -32,7 +33,7 @@ same_decimal m n small few e =
 pub bytes_same : (a : List ℕ) → bytes_eq a a ≡ true
 bytes_same a = (bytes_eq-Decides a a).1 refl
 
-pub labels_differ : (placed : List Placed) (m n : ℕ) → m < n → n ≤ 1024 → is_target placed m ≡ true → bytes_eq (label_of placed n) (label_of placed m) ≡ false
+pub labels_differ : (placed : List Placed) (m n : ℕ) → m < n → n ≤ most_program_bytes → is_target placed m ≡ true → bytes_eq (label_of placed n) (label_of placed m) ≡ false
 labels_differ placed m n lt le t =
     elim (bytes_eq (label_of placed n) (label_of placed m)) as (λ x. bytes_eq (label_of placed n) (label_of placed m) ≡ x → x ≡ false) [
       | true ↦ λ e.

@@ -10,6 +10,7 @@ use Rattle.teal_value.specs.Answer.{◌>>=◌}
 use Rattle.teal_table.specs.declared.opcode.Opcode.{Opcode}
 use Rattle.teal_code.specs.declared.instr.Immediates.{Immediates}
 use Rattle.teal_code.specs.declared.instr.Immediates.TheVariants as is
+use Rattle.teal_code.specs.Limits.{most_program_bytes}
 use Rattle.teal_check.specs.declared.program.Placed.{Placed}
 use Rattle.teal_dis.specs.Listing.{Word, leads_to, is_target, label_of, target_word}
 use Rattle.teal_source.specs.declared.statement.Statement.{Statement}
@@ -42,11 +43,11 @@ here : (b : Bool) (placed : List Placed) (n : ℕ) (rest : List (Word × ℕ)) �
 here true placed n rest e = rw (bytes_same (label_of placed n)) refl
 here false placed n rest e = absurd cc
 
-not_here : (b : Bool) (placed : List Placed) (n t : ℕ) (rest : List (Word × ℕ)) → is_target placed n ≡ b → n < t → t ≤ 1024 → lookup (bytes_eq (label_of placed t)) (entries_if b placed n ++ rest) ≡ lookup (bytes_eq (label_of placed t)) rest
+not_here : (b : Bool) (placed : List Placed) (n t : ℕ) (rest : List (Word × ℕ)) → is_target placed n ≡ b → n < t → t ≤ most_program_bytes → lookup (bytes_eq (label_of placed t)) (entries_if b placed n ++ rest) ≡ lookup (bytes_eq (label_of placed t)) rest
 not_here true placed n t rest e lt le = rw (labels_differ placed n t lt le e) refl
 not_here false placed n t rest e lt le = refl
 
-label_found : (placed : List Placed) (t line n : ℕ) (ps : List Placed) → t ≤ 1024 → is_target placed t ≡ true → n ≤ t → t ≤ n + length ps → lookup (bytes_eq (label_of placed t)) (labels_from n (listed placed line n ps)) ≡ Some t
+label_found : (placed : List Placed) (t line n : ℕ) (ps : List Placed) → t ≤ most_program_bytes → is_target placed t ≡ true → n ≤ t → t ≤ n + length ps → lookup (bytes_eq (label_of placed t)) (labels_from n (listed placed line n ps)) ≡ Some t
 label_found placed t line n [] le target low high =
     let same : n ≡ t = omega (arith, low, high) in
     let last : labels_from n (statements_if (is_target placed n) placed line n) ≡ entries_if (is_target placed n) placed n ++ [] =
@@ -158,7 +159,7 @@ instructions_are all placed count line n (p ∷ ps) found aim labels =
 no_blocks : (ss : List Statement) → AreQuiet ss → gathered_blocks ss ≡ []
 no_blocks ss quiet = let gathers = quiet_gathers ss quiet in rw (gathers.0, gathers.1) refl
 
-pub all_instructions_are : (placed : List Placed) (line : ℕ) → length placed ≤ 1024 → AreAimed (length placed) 0 placed → all_instructions (listed placed line 0 placed) ≡ Ok (map meant_of placed)
+pub all_instructions_are : (placed : List Placed) (line : ℕ) → length placed ≤ most_program_bytes → AreAimed (length placed) 0 placed → all_instructions (listed placed line 0 placed) ≡ Ok (map meant_of placed)
 all_instructions_are placed line few aim =
     let all = listed placed line 0 placed in
     let none = no_blocks all (listed_is_quiet placed line 0 placed) in

@@ -12,6 +12,7 @@ use Rattle.teal_table.specs.declared.opcode.Opcode.{Opcode}
 use Rattle.teal_table.specs.Table.{row_of, name_of}
 use Rattle.teal_code.specs.declared.instr.Immediates.{Immediates}
 use Rattle.teal_code.specs.declared.instr.Immediates.TheVariants as is
+use Rattle.teal_code.specs.Limits.{most_program_bytes}
 use Rattle.teal_check.specs.declared.program.Placed.{Placed}
 use Rattle.teal_dis.specs.Listing.{Word, operands, is_target, label_of, target_word, instruction_line, lines_from}
 use Rattle.teal_source.specs.declared.statement.Statement.{Statement}
@@ -119,11 +120,11 @@ all_still_earlier : (placed : List Placed) (n : ℕ) (ss : List Statement) → A
 all_still_earlier placed n [] h = tt
 all_still_earlier placed n (s ∷ ss) h = (still_earlier placed n s.label h.0, all_still_earlier placed n ss h.1)
 
-one_is_new : (placed : List Placed) (n : ℕ) (label : Option Word) → n ≤ 1024 → HasEarlier placed n label → option_map_or (λ (l : Word). bytes_eq (label_of placed n) l) label false ≡ false
+one_is_new : (placed : List Placed) (n : ℕ) (label : Option Word) → n ≤ most_program_bytes → HasEarlier placed n label → option_map_or (λ (l : Word). bytes_eq (label_of placed n) l) label false ≡ false
 one_is_new placed n None le h = refl
 one_is_new placed n (Some name) le h = rw (h.3) (labels_differ placed h.0 n h.1 le h.2)
 
-label_is_new : (placed : List Placed) (n : ℕ) (before : List Statement) → n ≤ 1024 → AreEarlier placed n before → list_any (has_label (label_of placed n)) before ≡ false
+label_is_new : (placed : List Placed) (n : ℕ) (before : List Statement) → n ≤ most_program_bytes → AreEarlier placed n before → list_any (has_label (label_of placed n)) before ≡ false
 label_is_new placed n [] le h = refl
 label_is_new placed n (s ∷ before) le h = rw (one_is_new placed n s.label le h.0) (label_is_new placed n before le h.1)
 
@@ -144,7 +145,7 @@ label_name_of name some =
     let front : length (name ++ codes ":") - 1 ≡ length name = omega (arith, len) in
     rw (long, front, last_byte name, take-append_seam name (codes ":")) refl
 
-label_statement : (version : Version) (placed : List Placed) (line n : ℕ) (before : List Statement) → n ≤ 1024 → AreQuiet before → AreEarlier placed n before
+label_statement : (version : Version) (placed : List Placed) (line n : ℕ) (before : List Statement) → n ≤ most_program_bytes → AreQuiet before → AreEarlier placed n before
     → statement version before (record { line = line; first = label_of placed n ++ codes ":"; more = [] }) ≡ Ok (record { line = line; label = Some (label_of placed n); command = None })
 unfolding statement
 label_statement version placed line n before le quiet earlier =
@@ -172,7 +173,7 @@ one_more : (version : Version) (before : List Statement) (l : Words) (ls : List 
 unfolding statements
 one_more version before l ls s e = rw e refl
 
-label_step : (b : Bool) (version : Version) (placed : List Placed) (line n : ℕ) (before : List Statement) (rest : List (List Word)) → n ≤ 1024 → AreQuiet before → AreEarlier placed n before
+label_step : (b : Bool) (version : Version) (placed : List Placed) (line n : ℕ) (before : List Statement) (rest : List (List Word)) → n ≤ most_program_bytes → AreQuiet before → AreEarlier placed n before
     → statements version before (numbered line (lines_if b placed n ++ rest)) ≡ statements version (before ++ statements_if b placed line n) (numbered (line + length (lines_if b placed n)) rest)
 label_step true version placed line n before rest le quiet earlier =
     one_more version before (record { line = line; first = label_of placed n ++ codes ":"; more = [] }) (numbered (line + 1) rest) _ (label_statement version placed line n before le quiet earlier)
@@ -180,7 +181,7 @@ label_step false version placed line n before rest le quiet earlier =
     let same : line + 0 ≡ line = omega arith in
     rw (append-nil before, same) refl
 
-pub statements_are : (version : Version) (placed : List Placed) (line n : ℕ) (ps : List Placed) (before : List Statement) → n + length ps ≤ 1024 → AreOf version ps → AreQuiet before → AreEarlier placed n before
+pub statements_are : (version : Version) (placed : List Placed) (line n : ℕ) (ps : List Placed) (before : List Statement) → n + length ps ≤ most_program_bytes → AreOf version ps → AreQuiet before → AreEarlier placed n before
     → statements version before (numbered line (lines_from placed n ps)) ≡ Ok (before ++ listed placed line n ps)
 statements_are version placed line n [] before le of quiet earlier =
     ap (λ ls. statements version before (numbered line ls)) (sym (append-nil (lines_if (is_target placed n) placed n)))

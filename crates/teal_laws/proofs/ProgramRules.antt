@@ -17,6 +17,7 @@ use Rattle.teal_code.specs.Varuint.{IsBase128, IsVaruint}
 use Rattle.teal_code.specs.Grammar.{Reads, Spells}
 use Rattle.teal_code.specs.Reader.{varuint_at}
 use Rattle.teal_code.proofs.Reading.{is_read, varuint_sound, varuint_complete}
+use Rattle.teal_code.specs.Limits.{most_program_bytes, most_cost}
 use Rattle.teal_check.specs.declared.fault.CheckFault.{CheckFault}
 use Rattle.teal_check.specs.declared.program.Placed.{Placed}
 use Rattle.teal_check.specs.WellFormed.{WellFormed, on_code, version_of, version_at, placed_at, placed_from, places, number_at, RisesFrom, resolved_target, immediates_target, target_of, with_targets, cost_of, checked}
@@ -310,14 +311,14 @@ passes bytes w h =
     let within = starts_within bytes w.version h.start h.version in
     let starts = places w.placed in
     let some : eqb (length bytes) 0 ≡ false = let more = within.0 in grind (arith, nat_tests) in
-    let few : ltb 1024 (length bytes) ≡ false = let short = h.short in grind (arith, nat_tests) in
+    let few : ltb most_program_bytes (length bytes) ≡ false = let short = h.short in grind (arith, nat_tests) in
     let version = version_there bytes w.version h.start h.version in
     let placed = placed_from_there (length bytes) w.version bytes h.start w.placed (omega arith) h.instructions in
     let up : RisesFrom 0 starts = weaken 0 h.start starts (omega arith) (rising w.version bytes h.start w.placed h.instructions) in
     let before : AreBefore starts (length bytes) = λ k lt. before_end w.version bytes h.start w.placed k h.instructions lt in
     let resolved = targets_there starts (length bytes) w.placed up before h.targets in
-    let price : cost_of w.placed ≤ 700 = omega (arith, h.cost, h.cheap) in
-    let cheap : ltb 700 (cost_of w.placed) ≡ false = grind (arith, nat_tests) in
+    let price : cost_of w.placed ≤ most_cost = omega (arith, h.cost, h.cheap) in
+    let cheap : ltb most_cost (cost_of w.placed) ≡ false = grind (arith, nat_tests) in
     rw (some, few, version, placed, places_bare w.placed, resolved, cheap) (same_program bytes w h.same h.cost)
 
 -- ---- the laws

@@ -13,6 +13,7 @@ use Rattle.teal_code.specs.declared.instr.Instr.{Instr}
 use Rattle.teal_code.specs.Spelling.{immediates_spelling, instr_spelling}
 use Rattle.teal_code.specs.Reader.{read_at}
 use Rattle.teal_code.proofs.Reading.{is_read}
+use Rattle.teal_code.specs.Limits.{most_program_bytes, most_cost}
 use Rattle.teal_check.specs.declared.program.Placed.{Placed}
 use Rattle.teal_check.specs.WellFormed.{WellFormed, placed_at, placed_from, places, number_at, RisesFrom, resolved_target, immediates_target, with_targets, version_at, cost_of, checked, affordable}
 use Rattle.teal_check.proofs.CheckedPrograms.{length-places, placed_rises, weaken}
@@ -76,7 +77,7 @@ size_front (suc k) (m ∷ ms) = omega (arith, size_front k ms)
 -- ---- reading them
 
 -- an instruction of the version, whose offset has two bytes
-instr_is_of : (version : Version) (count number : ℕ) (m : Meant) (rest : List Meant) → total_size rest ≤ 1024 → IsMeant version count number m → IsOf version (instr_of number m rest) × IsShortOffset (instr_of number m rest).immediates
+instr_is_of : (version : Version) (count number : ℕ) (m : Meant) (rest : List Meant) → total_size rest ≤ most_program_bytes → IsMeant version count number m → IsOf version (instr_of number m rest) × IsShortOffset (instr_of number m rest).immediates
 instr_is_of version count number (Straight o (is.Offset n)) rest few h = absurd h.1
 instr_is_of version count number (Straight o is.Nothing) rest few h = (h.0, tt)
 instr_is_of version count number (Straight o (is.Index i)) rest few h = (h.0, tt)
@@ -100,7 +101,7 @@ first_of (suc place) (c ∷ bytes) b rest e = first_of place bytes b rest e
 behind_first : (place : ℕ) (bytes text rest : List ℕ) → drop place bytes ≡ text ++ rest → drop (place + length text) bytes ≡ rest
 behind_first place bytes text rest e = sym (drop-drop (length text) place bytes) ∙ ap (drop (length text)) e ∙ drop-append_seam text rest
 
-placed_is : (version : Version) (bytes : List ℕ) (place number count : ℕ) (m : Meant) (ms : List Meant) → total_size (m ∷ ms) ≤ 1024 → IsMeant version count number m → drop place bytes ≡ instr_spelling (instr_of number m ms) ++ spelling (number + 1) ms
+placed_is : (version : Version) (bytes : List ℕ) (place number count : ℕ) (m : Meant) (ms : List Meant) → total_size (m ∷ ms) ≤ most_program_bytes → IsMeant version count number m → drop place bytes ≡ instr_spelling (instr_of number m ms) ++ spelling (number + 1) ms
     → placed_at version bytes place ≡ Ok (record { place = place; next = place + size m; instr = instr_of number m ms; target = None })
 unfolding placed_at
 placed_is version bytes place number count m ms few h at =
@@ -113,7 +114,7 @@ placed_is version bytes place number count m ms few h at =
     let read : read_at version bytes place ≡ Ok (i, place + size m) = is_read version bytes place i (place + size m) (text, spelling (number + 1) ms, at, spelled, next) in
     rw (code, not_left_out i.opcode, read, field_is_known version of.0.immediates) refl
 
-placed_are : (fuel : ℕ) (version : Version) (bytes : List ℕ) (place number count : ℕ) (ms : List Meant) → length ms ≤ fuel → total_size ms ≤ 1024 → place + total_size ms ≡ length bytes → AreMeant version count number ms → drop place bytes ≡ spelling number ms
+placed_are : (fuel : ℕ) (version : Version) (bytes : List ℕ) (place number count : ℕ) (ms : List Meant) → length ms ≤ fuel → total_size ms ≤ most_program_bytes → place + total_size ms ≡ length bytes → AreMeant version count number ms → drop place bytes ≡ spelling number ms
     → placed_from fuel version bytes place ≡ Ok (laid place number ms)
 unfolding placed_from spelling
 placed_are zero version bytes place number count [] enough few end h at = refl
@@ -193,13 +194,13 @@ no_branch starts end place next (is.ByteBlock ss) h = refl
 no_branch starts end place next (is.Uint n) h = refl
 no_branch starts end place next (is.Bytes s) h = refl
 
-branch_is : (starts : List ℕ) (end place next offset target : ℕ) → offset ≤ 1024 → next + offset ≤ end → number_at starts end (next + offset) ≡ Some target → resolved_target starts end place next offset ≡ Ok (Some target)
+branch_is : (starts : List ℕ) (end place next offset target : ℕ) → offset ≤ most_program_bytes → next + offset ≤ end → number_at starts end (next + offset) ≡ Some target → resolved_target starts end place next offset ≡ Ok (Some target)
 branch_is starts end place next offset target few within at =
     let fits : ltb 32767 offset ≡ false = grind (arith, nat_tests) in
     let inside : ltb end (next + offset) ≡ false = grind (arith, nat_tests) in
     rw (fits, inside, at) refl
 
-target_is : (version : Version) (starts : List ℕ) (end number place count : ℕ) (m : Meant) (ms : List Meant) → total_size ms ≤ 1024 → place + total_size (m ∷ ms) ≡ end → number + length (m ∷ ms) ≡ count → IsMeant version count number m → Stand starts end number place (m ∷ ms)
+target_is : (version : Version) (starts : List ℕ) (end number place count : ℕ) (m : Meant) (ms : List Meant) → total_size ms ≤ most_program_bytes → place + total_size (m ∷ ms) ≡ end → number + length (m ∷ ms) ≡ count → IsMeant version count number m → Stand starts end number place (m ∷ ms)
     → immediates_target starts end place (place + size m) (instr_of number m ms).immediates ≡ Ok (target_in m)
 target_is version starts end number place count (Straight o m) ms few close all h stand = no_branch starts end place (place + size (Straight o m)) m h.1
 target_is version starts end number place count (Branch o t) ms few close all h stand =
@@ -210,7 +211,7 @@ target_is version starts end number place count (Branch o t) ms few close all h 
     let at : number_at starts end (place + 3 + offset) ≡ Some t = ap (number_at starts end) there ∙ stand (suc (t - (number + 1))) (omega (arith, h.1, h.2, all)) ∙ ap (λ n. Some n) which in
     branch_is starts end place (place + 3) offset t (omega (arith, over, few)) (omega (arith, over, close)) at
 
-targets_are : (version : Version) (starts : List ℕ) (end number place count : ℕ) (ms : List Meant) → total_size ms ≤ 1024 → place + total_size ms ≡ end → number + length ms ≡ count → AreMeant version count number ms → Stand starts end number place ms
+targets_are : (version : Version) (starts : List ℕ) (end number place count : ℕ) (ms : List Meant) → total_size ms ≤ most_program_bytes → place + total_size ms ≡ end → number + length ms ≡ count → AreMeant version count number ms → Stand starts end number place ms
     → with_targets starts end (laid place number ms) ≡ Ok (aimed_at place number ms)
 unfolding with_targets
 targets_are version starts end number place count [] few close all h stand = refl
@@ -229,23 +230,23 @@ version_read Three rest = let one : length (3 ∷ rest) - length rest ≡ 1 = om
 abbrev pub spelled_program : Meaning → WellFormed
 spelled_program m = record { version = m.version; bytes = program m; placed = aimed_at 1 0 m.instructions; cost = cost_of (aimed_at 1 0 m.instructions) }
 
-pub program_checks : (m : Meaning) → AreMeant m.version (length m.instructions) 0 m.instructions → 1 + total_size m.instructions ≤ 1024 → checked (program m) ≡ affordable m.version (program m) (aimed_at 1 0 m.instructions)
+pub program_checks : (m : Meaning) → AreMeant m.version (length m.instructions) 0 m.instructions → 1 + total_size m.instructions ≤ most_program_bytes → checked (program m) ≡ affordable m.version (program m) (aimed_at 1 0 m.instructions)
 unfolding checked program
 program_checks m are short =
     let ms = m.instructions in
     let bytes = version_byte m.version ∷ spelling 0 ms in
     let long : length bytes ≡ 1 + total_size ms = ap suc (spelling_length 0 ms) ∙ omega arith in
     let some : eqb (length bytes) 0 ≡ false = grind (arith, nat_tests) in
-    let few : ltb 1024 (length bytes) ≡ false = grind (arith, nat_tests) in
+    let few : ltb most_program_bytes (length bytes) ≡ false = grind (arith, nat_tests) in
     let placed = placed_are (length bytes) m.version bytes 1 0 (length ms) ms (omega (arith, long, few_meant ms)) (omega (arith, short)) (sym long) are refl in
     let rising = (placed_rises (length bytes) m.version bytes 1 (laid 1 0 ms) (omega (arith, long)) placed).0 in
     let stand = all_stand (length bytes) ms (weaken 0 1 (places (laid 1 0 ms)) (omega arith) rising) (sym long) in
     let resolved = targets_are m.version (places (laid 1 0 ms)) (length bytes) 0 1 (length ms) ms (omega (arith, short)) (sym long) (omega arith) are stand in
     rw (some, few, version_read m.version (spelling 0 ms), placed, resolved) refl
 
-pub program_is_checked : (m : Meaning) → AreMeant m.version (length m.instructions) 0 m.instructions → 1 + total_size m.instructions ≤ 1024 → cost_of (aimed_at 1 0 m.instructions) ≤ 700 → checked (program m) ≡ Ok (spelled_program m)
+pub program_is_checked : (m : Meaning) → AreMeant m.version (length m.instructions) 0 m.instructions → 1 + total_size m.instructions ≤ most_program_bytes → cost_of (aimed_at 1 0 m.instructions) ≤ most_cost → checked (program m) ≡ Ok (spelled_program m)
 program_is_checked m are short cheap =
-    let paid : ltb 700 (cost_of (aimed_at 1 0 m.instructions)) ≡ false = grind (arith, nat_tests) in
+    let paid : ltb most_cost (cost_of (aimed_at 1 0 m.instructions)) ≡ false = grind (arith, nat_tests) in
     program_checks m are short ∙ rw paid refl
 
 pub meant_back : (place number : ℕ) (ms : List Meant) → map meant_of (aimed_at place number ms) ≡ ms

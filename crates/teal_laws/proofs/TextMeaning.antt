@@ -14,6 +14,7 @@ use Rattle.teal_table.specs.declared.opcode.Opcode.{Opcode}
 use Rattle.teal_table.specs.declared.opcode.Opcode.TheVariants as op
 use Rattle.teal_table.specs.Table.{row_of, has}
 use Rattle.teal_code.specs.declared.instr.Immediates.TheVariants as is
+use Rattle.teal_code.specs.Limits.{most_program_bytes, most_cost}
 use Rattle.teal_check.specs.declared.fault.CheckFault.{CheckFault}
 use Rattle.teal_check.specs.declared.fault.CheckFault.TheVariants as fault
 use Rattle.teal_check.specs.declared.program.Placed.{Placed}
@@ -278,16 +279,16 @@ spelled_bytes m h = h.1
 
 -- ---- the law
 
-short_is : (line : ℕ) (bytes program : List ℕ) → short_program line bytes ≡ Ok program → (bytes ≡ program) × (length bytes ≤ 1024)
+short_is : (line : ℕ) (bytes program : List ℕ) → short_program line bytes ≡ Ok program → (bytes ≡ program) × (length bytes ≤ most_program_bytes)
 short_is line bytes program e =
-    elim (chosen (ltb 1024 (length bytes)) _ _ _ e) [
+    elim (chosen (ltb most_program_bytes (length bytes)) _ _ _ e) [
       | inl (long, bad) ↦ absurd cc
-      | inr (short, one) ↦ (ok_same one, ltb-false 1024 (length bytes) short)
+      | inr (short, one) ↦ (ok_same one, ltb-false most_program_bytes (length bytes) short)
     ]
 
 afforded_meaning : (m : Meaning) (w : WellFormed) → affordable m.version (program m) (aimed_at 1 0 m.instructions) ≡ Ok w → program_meaning w ≡ m
 afforded_meaning m w e =
-    elim (chosen (ltb 700 (cost_of (aimed_at 1 0 m.instructions))) _ _ _ e) [
+    elim (chosen (ltb most_cost (cost_of (aimed_at 1 0 m.instructions))) _ _ _ e) [
       | inl (dear, bad) ↦ absurd cc
       | inr (cheap, one) ↦ ap program_meaning (sym (ok_same one)) ∙ ap (λ is. record { version = m.version; instructions = is }) (meant_back 1 0 m.instructions)
     ]
@@ -300,7 +301,7 @@ assembled_checks text bytes are e =
     let s = short_is (line_count text) (program m) bytes last in
     let in_bytes : AreBytes (program m) = subst AreBytes (sym s.0) (are_each bytes are) in
     let meant = all_meant m.version (length m.instructions) 0 m.instructions (meaning_loose text m means) (spelled_bytes m in_bytes) in
-    let short : 1 + total_size m.instructions ≤ 1024 = omega (arith, program_length m, s.1) in
+    let short : 1 + total_size m.instructions ≤ most_program_bytes = omega (arith, program_length m, s.1) in
     (m, means, ap checked (sym s.0) ∙ program_checks m meant short)
 
 pub text_means : (text bytes : List ℕ) (w : WellFormed) → IsBytes bytes → assembled text ≡ Ok bytes → checked bytes ≡ Ok w → meaning text ≡ Ok (program_meaning w)
@@ -317,23 +318,23 @@ aimed_cost : (m : Meaning) → cost_of (aimed_at 1 0 m.instructions) ≡ meant_c
 aimed_cost m = sym (placed_cost (aimed_at 1 0 m.instructions)) ∙ ap meant_cost (meant_back 1 0 m.instructions)
 
 only_dear : (version : Version) (bytes : List ℕ) (ps : List Placed) → IfErr (affordable version bytes ps) (λ f. f ≡ fault.Cost)
-only_dear version bytes ps = elim (ltb 700 (cost_of ps)) as (λ b. IfErr {T = WellFormed} {E = CheckFault} (cond b (Err fault.Cost) (Ok (record { version = version; bytes = bytes; placed = ps; cost = cost_of ps }))) (λ f. f ≡ fault.Cost)) [ true ↦ refl | false ↦ tt ]
+only_dear version bytes ps = elim (ltb most_cost (cost_of ps)) as (λ b. IfErr {T = WellFormed} {E = CheckFault} (cond b (Err fault.Cost) (Ok (record { version = version; bytes = bytes; placed = ps; cost = cost_of ps }))) (λ f. f ≡ fault.Cost)) [ true ↦ refl | false ↦ tt ]
 
 pub only_cost : (text bytes : List ℕ) → IsBytes bytes → assembled text ≡ Ok bytes → IfErr (checked bytes) (λ f. f ≡ fault.Cost)
 only_cost text bytes are e =
     let (m, means, checks) = assembled_checks text bytes are e in
     subst (λ (r : Result WellFormed CheckFault). IfErr r (λ f. f ≡ fault.Cost)) (sym checks) (only_dear m.version (program m) (aimed_at 1 0 m.instructions))
 
-dear_is : (version : Version) (bytes : List ℕ) (ps : List Placed) → (affordable version bytes ps ≡ Err fault.Cost) ↔ (700 < cost_of ps)
+dear_is : (version : Version) (bytes : List ℕ) (ps : List Placed) → (affordable version bytes ps ≡ Err fault.Cost) ↔ (most_cost < cost_of ps)
 dear_is version bytes ps = (
-  λ e. elim (chosen (ltb 700 (cost_of ps)) _ _ _ e) [ inl (more, bad) ↦ ltb-true 700 (cost_of ps) more | inr (fits, one) ↦ absurd cc ],
-  λ more. let test : ltb 700 (cost_of ps) ≡ true = lt-ltb 700 (cost_of ps) more in rw test refl,
+  λ e. elim (chosen (ltb most_cost (cost_of ps)) _ _ _ e) [ inl (more, bad) ↦ ltb-true most_cost (cost_of ps) more | inr (fits, one) ↦ absurd cc ],
+  λ more. let test : ltb most_cost (cost_of ps) ≡ true = lt-ltb most_cost (cost_of ps) more in rw test refl,
 )
 
-pub dear : (text bytes : List ℕ) (m : Meaning) → IsBytes bytes → assembled text ≡ Ok bytes → meaning text ≡ Ok m → (checked bytes ≡ Err fault.Cost) ↔ (700 < meant_cost m.instructions)
+pub dear : (text bytes : List ℕ) (m : Meaning) → IsBytes bytes → assembled text ≡ Ok bytes → meaning text ≡ Ok m → (checked bytes ≡ Err fault.Cost) ↔ (most_cost < meant_cost m.instructions)
 dear text bytes m are e means =
     let (n, meant, checks) = assembled_checks text bytes are e in
     let same : n ≡ m = ok_same (sym meant ∙ means) in
     let is = dear_is n.version (program n) (aimed_at 1 0 n.instructions) in
     let cost : cost_of (aimed_at 1 0 n.instructions) ≡ meant_cost m.instructions = aimed_cost n ∙ ap (λ (x : Meaning). meant_cost x.instructions) same in
-    (λ fault. subst (λ k. 700 < k) cost (is.0 (sym checks ∙ fault)), λ more. checks ∙ is.1 (subst (λ k. 700 < k) (sym cost) more))
+    (λ fault. subst (λ k. most_cost < k) cost (is.0 (sym checks ∙ fault)), λ more. checks ∙ is.1 (subst (λ k. most_cost < k) (sym cost) more))

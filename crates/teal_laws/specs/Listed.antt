@@ -10,6 +10,7 @@ use Rattle.teal_table.specs.Fields.{txn_field_at, global_field_at}
 use Rattle.teal_code.specs.declared.instr.Immediates.{Immediates}
 use Rattle.teal_code.specs.declared.instr.Immediates.TheVariants as is
 use Rattle.teal_code.specs.declared.instr.Instr.{Instr}
+use Rattle.teal_code.specs.Limits.{most_program_bytes}
 use Rattle.teal_check.specs.declared.program.Placed.{Placed}
 use Rattle.teal_check.specs.WellFormed.{WellFormed, is_scalar, is_array_field, is_global}
 use Rattle.teal_source.specs.declared.command.Command.{Command}
@@ -70,4 +71,4 @@ AreAimed count number (p ∷ ps) = IsAimed count number p.instr.immediates p.tar
 pub record IsListed (w : WellFormed) : Type 0 where
   pub instructions : AreOf w.version w.placed
   pub targets : AreAimed (length w.placed) 0 w.placed
-  pub few : length w.placed ≤ 1024
+  pub few : length w.placed ≤ most_program_bytes

@@ -7,6 +7,7 @@ use Rattle.teal_code.specs.declared.instr.Immediates.{Immediates}
 use Rattle.teal_code.specs.declared.instr.Immediates.TheVariants as is
 use Rattle.teal_code.specs.Varuint.{IsVaruint}
 use Rattle.teal_code.specs.Grammar.{Reads}
+use Rattle.teal_code.specs.Limits.{most_program_bytes, most_cost}
 use Rattle.teal_check.specs.declared.program.Placed.{Placed}
 use Rattle.teal_check.specs.WellFormed.{WellFormed, has_field, places, cost_of}
 
@@ -46,10 +47,10 @@ AllLead starts end (p ∷ ps) = Leads starts end p.next p.instr.immediates p.tar
 -- the bytes are the program
 pub record IsProgram (bytes : List ℕ) (w : WellFormed) : Type 0 where
   pub same : w.bytes ≡ bytes
-  pub short : length bytes ≤ 1024
+  pub short : length bytes ≤ most_program_bytes
   pub start : ℕ
   pub version : Begins bytes w.version start
   pub instructions : StandFrom w.version bytes start w.placed
   pub targets : AllLead (places w.placed) (length bytes) w.placed
   pub cost : w.cost ≡ cost_of w.placed
-  pub cheap : w.cost ≤ 700
+  pub cheap : w.cost ≤ most_cost

@@ -8,6 +8,7 @@ ghost use Rattle.teal_code.specs.declared.instr.Instr.{Instr};
 ghost use Rattle.teal_code.specs.Grammar.{Spells};
 ghost use Rattle.teal_code.specs.Reader.{read_at};
 ghost use Rattle.teal_code.specs.Spelling.{instr_spelling};
+ghost use Rattle.teal_code.specs.Limits.{most_cost};
 ghost use Rattle.teal_check.specs.declared.fault.CheckFault.TheVariants.{Cost};
 ghost use Rattle.teal_check.specs.WellFormed.{WellFormed, checked};
 ghost use Rattle.teal_dis.specs.Listing.{listing, operands};
@@ -73,5 +74,5 @@ pub fn listings_keep_the_meaning()
 /// instructions of the text cost more than 700.
 pub fn assembled_programs_break_no_other_rule()
     ensures only_cost { (text bytes : List ℕ) → IsBytes bytes → assembled text ≡ Ok bytes → IfErr (checked bytes) (λ f. f ≡ Cost) }
-    ensures dear { (text bytes : List ℕ) (m : Meaning) → IsBytes bytes → assembled text ≡ Ok bytes → meaning text ≡ Ok m → (checked bytes ≡ Err Cost) ↔ (700 < meant_cost m.instructions) }
+    ensures dear { (text bytes : List ℕ) (m : Meaning) → IsBytes bytes → assembled text ≡ Ok bytes → meaning text ≡ Ok m → (checked bytes ≡ Err Cost) ↔ (most_cost < meant_cost m.instructions) }
 {}

@@ -1,5 +1,6 @@
 pub mod Answer
 pub mod ByteLists
+pub mod Keys
 pub mod Base32
 pub mod AddressText
 pub mod SameValues

@@ -23,5 +23,5 @@ pub use byte_string::{ByteString, ByteStrings, Uints};
 pub use failure::Failure;
 pub use fault::Fault;
 pub use list_memory::write_over;
-pub use state_key::StateKey;
+pub use state_key::{MAX_KEY_BYTES, StateKey};
 pub use value::Value;

@@ -6,31 +6,36 @@ ghost use Rattle.std.specs.Cmp.{partial_order_from_own_ties};
 ghost use Rattle.std.specs.Cmp.Lexicographic.{slice_cmp, pointwise};
 ghost use Rattle.std.specs.Cmp.Rules.{comparing};
 ghost use Rattle.std.specs.Ordering.{nat_cmp, as_partial_cmp};
+ghost use Rattle.teal_value.specs.Keys.{most_key_bytes};
 
 use arrayvec::ArrayVec;
 use std::alloc::AllocError;
 use std::cmp::Ordering;
 use std::marker::Model;
 
-/// The key of an entry of a global or local state: 0 to 64 bytes, kept in place, so that a key takes no memory.
+/// The most bytes that a key has (AVM specification, "State").
+pub const MAX_KEY_BYTES: usize = 64;
+
+/// The key of an entry of a global or local state: at most [`MAX_KEY_BYTES`] bytes, kept in place, so that a key takes no memory.
 #[derive(Debug, Drop)]
 pub struct StateKey {
-    bytes: ArrayVec<u8, 64>,
+    bytes: ArrayVec<u8, MAX_KEY_BYTES>,
 }
 
 impl Model for StateKey {
     ghost use Rattle.std.specs.Prelude.{◌≤◌, length, List, ℕ};
+    ghost use Rattle.teal_value.specs.Keys.{most_key_bytes};
 
     ghost Value = { List ℕ };
 
     ghost view = { λ k. k.bytes.items };
 
-    ghost invariant = { λ k. length k.bytes.items ≤ 64 };
+    ghost invariant = { λ k. length k.bytes.items ≤ most_key_bytes };
 }
 
 /// The bytes, in place.
-fn kept(bytes: &[u8]) -> ArrayVec<u8, 64>
-    requires { length bytes.now ≤ 64 }
+fn kept(bytes: &[u8]) -> ArrayVec<u8, MAX_KEY_BYTES>
+    requires { length bytes.now ≤ most_key_bytes }
     ensures { result.items ≡ bytes.now }
 {
     let mut key = ArrayVec::new();
@@ -41,21 +46,21 @@ fn kept(bytes: &[u8]) -> ArrayVec<u8, 64>
 }
 
 impl StateKey {
-    /// The key of these bytes, if they are at most 64.
+    /// The key of these bytes, if they are not too many.
     pub fn of(bytes: &[u8]) -> Option<StateKey>
         ensures key { IfSome result (λ key. key ≡ bytes.now) }
-        ensures none { IfNone result (64 < length bytes.now) }
+        ensures none { IfNone result (most_key_bytes < length bytes.now) }
     {
-        if bytes.len() > 64 {
+        if bytes.len() > MAX_KEY_BYTES {
             return None;
         }
         Some(StateKey { bytes: kept(bytes) })
     }
 
-    /// The bytes of the key, at most 64, lent.
+    /// The bytes of the key, lent.
     pub fn as_slice(&self) -> &[u8]
         ensures value { result.now ≡ self.now }
-        ensures short { length result.now ≤ 64 }
+        ensures short { length result.now ≤ most_key_bytes }
     {
         self.bytes.as_slice()
     }

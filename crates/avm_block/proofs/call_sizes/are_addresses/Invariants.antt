@@ -1,7 +1,7 @@
 use Rattle.std.proofs.Common.{ℕ, ◌<◌}
 use Rattle.std.specs.List.{slice_index_or}
 use Rattle.teal_value.specs.declared.address.Address.{Address}
-use Rattle.avm_items.specs.CallRoundTrip.{IsAddress}
+use Rattle.avm_call_codec.specs.CallRoundTrip.{IsAddress}
 use Rattle.avm_block.proofs.call_sizes.are_addresses.Given as goal
 
 -- the addresses so far

@@ -1,6 +1,6 @@
 use Rattle.std.proofs.Common.{ℕ, ◌<◌}
 use Rattle.std.specs.List.{slice_index_or}
-use Rattle.avm_items.specs.CallRoundTrip.{HasFields, IsWord}
+use Rattle.avm_call_codec.specs.CallRoundTrip.{HasFields, IsWord}
 use Rattle.avm_block.specs.declared.entry.Entry.{Entry}
 use Rattle.avm_block.proofs.call_sizes.entries_fit.Given as goal
 

@@ -1,5 +1,5 @@
 use Rattle.std.proofs.Common.{arith, subst, All}
-use Rattle.avm_items.specs.CallRoundTrip.{IsAddress, IsWord}
+use Rattle.avm_call_codec.specs.CallRoundTrip.{IsAddress, IsWord}
 use Rattle.avm_block.proofs.CheckedCalls.{fields_fit}
 use Rattle.avm_block.proofs.call_sizes.fields_fit.Goals as goal
 

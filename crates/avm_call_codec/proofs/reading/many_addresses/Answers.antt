@@ -2,7 +2,7 @@ use Rattle.std.proofs.Common.{◌+◌, ◌-◌, arith}
 use Rattle.std.proofs.lemmas.Result.{err_from_is_err_and}
 use Rattle.avm_ledger.specs.FieldReader.{address_at}
 use Rattle.avm_ledger.proofs.ManyReading.{goes_on, no_more}
-use Rattle.avm_items.specs.declared.call_fault.CallDataFault.TheVariants.{Truncated}
+use Rattle.avm_call_codec.specs.declared.call_data_fault.CallDataFault.TheVariants.{Truncated}
 use Rattle.avm_call_codec.proofs.reading.many_addresses.Goals as goal
 
 pub loop-preserved : goal.loop-preserved

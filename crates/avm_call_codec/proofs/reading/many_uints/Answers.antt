@@ -3,7 +3,7 @@ use Rattle.std.specs.Int.{w64}
 use Rattle.std.proofs.lemmas.Result.{err_from_is_err_and}
 use Rattle.avm_ledger.specs.FieldReader.{number_at}
 use Rattle.avm_ledger.proofs.ManyReading.{goes_on, no_more}
-use Rattle.avm_items.specs.declared.call_fault.CallDataFault.TheVariants.{Truncated}
+use Rattle.avm_call_codec.specs.declared.call_data_fault.CallDataFault.TheVariants.{Truncated}
 use Rattle.avm_call_codec.proofs.reading.many_uints.Goals as goal
 
 pub loop-preserved : goal.loop-preserved

@@ -1,5 +1,5 @@
 use Rattle.std.proofs.Common.{◌-◌, length}
-use Rattle.avm_run.specs.Progress.{most_items}
+use Rattle.avm_call.specs.Ends.{most_items}
 use Rattle.avm_debug.specs.Starting.{StartsOver}
 use Rattle.avm_debug.specs.Stepping.{reads_in}
 use Rattle.avm_debug.proofs.opening.start_over.Given as goal

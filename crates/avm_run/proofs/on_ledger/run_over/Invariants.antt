@@ -2,7 +2,8 @@ use Rattle.std.proofs.Common.{◌-◌, length}
 use Rattle.avm_items.specs.Items.{value_in}
 use Rattle.avm_items.specs.LedgerItems.{at}
 use Rattle.avm_items.specs.Locality.{Agrees}
-use Rattle.avm_run.specs.Progress.{IsAlive, most_items, reads_of}
+use Rattle.avm_call.specs.Ends.{most_items}
+use Rattle.avm_run.specs.Progress.{IsAlive, reads_of}
 use Rattle.avm_run.proofs.on_ledger.run_over.Given as goal
 
 abbrev pub invariant-loop-asking : goal.invariant-loop-asking

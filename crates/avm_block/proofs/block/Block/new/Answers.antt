@@ -1,5 +1,5 @@
 use Rattle.std.proofs.Common.{arith, subst, All}
-use Rattle.avm_items.specs.CallRoundTrip.{HasFields, IsWord}
+use Rattle.avm_call_codec.specs.CallRoundTrip.{HasFields, IsWord}
 use Rattle.avm_block.specs.AcceptedCalls.{is_accepted}
 use Rattle.avm_block.proofs.BlockMade.{are_entries}
 use Rattle.avm_block.proofs.block.Block.new.Goals as goal

@@ -1,6 +1,6 @@
 use Rattle.std.proofs.Common.{◌∙◌, sym, ap, arith}
-use Rattle.avm_items.specs.CallReader.{call_front}
-use Rattle.avm_items.proofs.CallRead.{rest_shorter}
+use Rattle.avm_call_codec.specs.CallReader.{call_front}
+use Rattle.avm_call_codec.proofs.CallRead.{rest_shorter}
 use Rattle.avm_call_codec.proofs.codec.CallDataCallCodec.front.Goals as goal
 
 pub overflow_sub-result : goal.overflow_sub-result

@@ -1,5 +1,5 @@
 use Rattle.std.proofs.Common.{arith}
-use Rattle.avm_items.proofs.CallRead.{spelling_of, only_its_call}
+use Rattle.avm_call_codec.proofs.CallRead.{spelling_of, only_its_call}
 use Rattle.avm_call_codec.proofs.codec.CallDataCallCodec.read.Goals as goal
 
 pub returns-clause-spelled : goal.returns-clause-spelled

@@ -1,7 +1,7 @@
 //! Why bytes are no call.
 
 ghost use Rattle.std.specs.Prelude.{◌≡◌};
-ghost use Rattle.avm_items.specs.FaultNames.{call_data_fault_name};
+ghost use Rattle.avm_call_codec.specs.FaultNames.{call_data_fault_name};
 
 use teal_value::Failure;
 use thiserror::Error;

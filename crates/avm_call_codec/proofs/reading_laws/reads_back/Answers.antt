@@ -1,5 +1,5 @@
-use Rattle.avm_items.proofs.CallBack.{call_back, call_back_alone, call_back_from}
-use Rattle.avm_items.proofs.reading_laws.reads_back.Goals as goal
+use Rattle.avm_call_codec.proofs.CallBack.{call_back, call_back_alone, call_back_from}
+use Rattle.avm_call_codec.proofs.reading_laws.reads_back.Goals as goal
 
 pub returns-clause-front : goal.returns-clause-front
 returns-clause-front c = call_back

@@ -6,13 +6,13 @@ use Rattle.std.proofs.lemmas.List.Elements.{All-from_get_or}
 use Rattle.teal_value.specs.Answer.{Gives}
 use Rattle.teal_value.specs.declared.failure.Failure.{Failure}
 use Rattle.avm_ledger.specs.Spellings.{schema_bytes}
-use Rattle.avm_items.specs.declared.call_fault.CallDataFault.{CallDataFault}
+use Rattle.avm_call_codec.specs.declared.call_data_fault.CallDataFault.{CallDataFault}
 use Rattle.avm_items.specs.declared.call_data.CallData.{CallData}
-use Rattle.avm_items.specs.CallSpelling.{call_bytes}
-use Rattle.avm_items.specs.CallReader.{call_front, call_at}
-use Rattle.avm_items.specs.CallRoundTrip.{HasFields}
-use Rattle.avm_items.proofs.CallBack.{call_back_alone}
-use Rattle.avm_items.proofs.CallSpelled.{front_spells, call_spells}
+use Rattle.avm_call_codec.specs.CallSpelling.{call_bytes}
+use Rattle.avm_call_codec.specs.CallReader.{call_front, call_at}
+use Rattle.avm_call_codec.specs.CallRoundTrip.{HasFields}
+use Rattle.avm_call_codec.proofs.CallBack.{call_back_alone}
+use Rattle.avm_call_codec.proofs.CallSpelled.{front_spells, call_spells}
 
 abbrev AreBytes : List ℕ → Type 0
 AreBytes bytes = (i : ℕ) → get_or bytes i 0 < 256

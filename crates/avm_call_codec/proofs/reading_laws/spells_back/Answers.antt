@@ -1,5 +1,5 @@
-use Rattle.avm_items.proofs.CallSpelled.{front_spells, call_spells, place_spells}
-use Rattle.avm_items.proofs.reading_laws.spells_back.Goals as goal
+use Rattle.avm_call_codec.proofs.CallSpelled.{front_spells, call_spells, place_spells}
+use Rattle.avm_call_codec.proofs.reading_laws.spells_back.Goals as goal
 
 pub returns-clause-front : goal.returns-clause-front
 returns-clause-front c = front_spells

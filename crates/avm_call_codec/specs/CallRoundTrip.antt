@@ -2,8 +2,8 @@
 use Rattle.std.specs.Prelude.{◌≡◌, ℕ, ◌+◌, ◌^◌, ◌<◌, List, ◌++◌, length, drop, All, Ok}
 use Rattle.teal_value.specs.declared.address.Address.{Address}
 use Rattle.avm_items.specs.declared.call_data.CallData.{CallData}
-use Rattle.avm_items.specs.CallSpelling.{call_bytes}
-use Rattle.avm_items.specs.CallReader.{call_front, call_from, call_at}
+use Rattle.avm_call_codec.specs.CallSpelling.{call_bytes}
+use Rattle.avm_call_codec.specs.CallReader.{call_front, call_from, call_at}
 
 -- an account's address has 32 bytes
 abbrev pub IsAddress : Address → Type 0

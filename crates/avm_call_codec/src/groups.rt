@@ -1,0 +1,68 @@
+//! The fields of a call in four groups, as they stand one after another in its bytes.
+
+ghost use Rattle.std.specs.Prelude.{◌≡◌};
+ghost use Rattle.avm_call_codec.specs.CallReader.{call_of};
+
+use avm_items::{Addresses, CallData, Completion};
+use avm_states::Schema;
+use teal_value::{Address, ByteString, ByteStrings, Uints};
+
+/// Who calls, for what fee, in which rounds, and with which note.
+#[derive(Drop)]
+pub(crate) struct Terms {
+    pub sender: Address,
+    pub fee: u64,
+    pub first_valid: u64,
+    pub last_valid: u64,
+    pub note: ByteString,
+}
+
+/// What is called, and how the call completes.
+#[derive(Drop)]
+pub(crate) struct Target {
+    pub lease: [u8; 32],
+    pub rekey_to: Address,
+    pub application: u64,
+    pub completion: Completion,
+}
+
+/// What the program may look at.
+#[derive(Drop)]
+pub(crate) struct Lists {
+    pub arguments: ByteStrings,
+    pub accounts: Addresses,
+    pub foreign_applications: Uints,
+}
+
+/// What a creation or an update brings.
+#[derive(Drop)]
+pub(crate) struct Programs {
+    pub approval: ByteString,
+    pub clear: ByteString,
+    pub global_schema: Schema,
+    pub local_schema: Schema,
+}
+
+/// The call of these fields.
+pub(crate) fn call_of(terms: Terms, target: Target, lists: Lists, programs: Programs) -> CallData
+    ensures { result ≡ call_of terms target lists programs }
+{
+    CallData {
+        sender: terms.sender,
+        fee: terms.fee,
+        first_valid: terms.first_valid,
+        last_valid: terms.last_valid,
+        note: terms.note,
+        lease: target.lease,
+        rekey_to: target.rekey_to,
+        application: target.application,
+        completion: target.completion,
+        arguments: lists.arguments,
+        accounts: lists.accounts,
+        foreign_applications: lists.foreign_applications,
+        approval: programs.approval,
+        clear: programs.clear,
+        global_schema: programs.global_schema,
+        local_schema: programs.local_schema,
+    }
+}
