@@ -22,8 +22,8 @@ use Rattle.avm_call.specs.OutcomeSpelling.{outcome_bytes}
 use Rattle.avm_block.specs.declared.block_fault.BlockFault.TheVariants.{Truncated, Digest}
 use Rattle.avm_block.specs.declared.entry.Entry.{Entry}
 use Rattle.avm_block.specs.Blocks.{Block, most_calls}
-use Rattle.avm_block.specs.BlockSpelling.{magic, format_bytes, entry_bytes, body_bytes, block_bytes}
-use Rattle.avm_block.specs.BlockReader.{magic_at, profile_at, header_at, timestamp_at, in_block, call_in, entry_at, entries_at, count_at, body_at, sealed, block_at}
+use Rattle.avm_block.specs.BlockSpelling.{magic, format_bytes, block_entry_bytes, body_bytes, block_bytes}
+use Rattle.avm_block.specs.BlockReader.{magic_at, profile_at, header_at, timestamp_at, in_block, call_in, block_entry_at, block_entries_at, count_at, body_at, sealed, block_at}
 use Rattle.avm_block.specs.BlockRoundTrip.{IsEntry, AreEntries, IsHeader, IsBlock}
 use Rattle.avm_block.proofs.OutcomeBack.{outcome_back}
 
@@ -64,22 +64,22 @@ call_in_back accepted c rest has is = then _ _ _ _ (ap in_block (call_back c res
 entry_chain : (a b c rest : List ℕ) → (a ++ b ++ c) ++ rest ≡ a ++ (b ++ (c ++ rest))
 entry_chain a b c rest = simp append_assoc
 
-entry_back : (accepted : CallData → Bool) (before : ℕ) (e : Entry) (rest : List ℕ) → IsEntry accepted before e → entry_at accepted before (entry_bytes e ++ rest) ≡ Ok (e, rest)
+entry_back : (accepted : CallData → Bool) (before : ℕ) (e : Entry) (rest : List ℕ) → IsEntry accepted before e → block_entry_at accepted before (block_entry_bytes e ++ rest) ≡ Ok (e, rest)
 entry_back accepted before e rest is =
     let end = outcome_bytes e.outcome ++ rest in
     let call = call_bytes e.call ++ end in
-    ap (entry_at accepted before) (entry_chain (u64_bytes e.timestamp) (call_bytes e.call) (outcome_bytes e.outcome) rest)
+    ap (block_entry_at accepted before) (entry_chain (u64_bytes e.timestamp) (call_bytes e.call) (outcome_bytes e.outcome) rest)
     ∙ then _ _ _ _ (timestamp_back before e.timestamp call is.rises is.timestamp)
     (then _ _ _ _ (call_in_back accepted e.call end is.call is.allowed)
     (then _ _ _ _ (outcome_back e.outcome rest is.outcome) refl))
 
-entries_back : (accepted : CallData → Bool) (es : List Entry) (before : ℕ) (rest : List ℕ) → AreEntries accepted before es → entries_at accepted (length es) before (flat_map entry_bytes es ++ rest) ≡ Ok (es, rest)
+entries_back : (accepted : CallData → Bool) (es : List Entry) (before : ℕ) (rest : List ℕ) → AreEntries accepted before es → block_entries_at accepted (length es) before (flat_map block_entry_bytes es ++ rest) ≡ Ok (es, rest)
 entries_back accepted [] before rest are = refl
 entries_back accepted (e ∷ es) before rest are =
-    let behind = flat_map entry_bytes es ++ rest in
-    ap (entries_at accepted (suc (length es)) before) (append_assoc (entry_bytes e) (flat_map entry_bytes es) rest)
-    ∙ then (entry_at accepted before (entry_bytes e ++ behind)) (e, behind) (λ x. entries_at accepted (length es) x.0.timestamp x.1 >>= λ more. Ok (x.0 ∷ more.0, more.1)) (Ok (e ∷ es, rest)) (entry_back accepted before e behind are.0)
-    (then (entries_at accepted (length es) e.timestamp behind) (es, rest) (λ more. Ok (e ∷ more.0, more.1)) (Ok (e ∷ es, rest)) (entries_back accepted es e.timestamp rest are.1) refl)
+    let behind = flat_map block_entry_bytes es ++ rest in
+    ap (block_entries_at accepted (suc (length es)) before) (append_assoc (block_entry_bytes e) (flat_map block_entry_bytes es) rest)
+    ∙ then (block_entry_at accepted before (block_entry_bytes e ++ behind)) (e, behind) (λ x. block_entries_at accepted (length es) x.0.timestamp x.1 >>= λ more. Ok (x.0 ∷ more.0, more.1)) (Ok (e ∷ es, rest)) (entry_back accepted before e behind are.0)
+    (then (block_entries_at accepted (length es) e.timestamp behind) (es, rest) (λ more. Ok (e ∷ more.0, more.1)) (Ok (e ∷ es, rest)) (entries_back accepted es e.timestamp rest are.1) refl)
 
 count_back : (n : ℕ) (rest : List ℕ) → n ≤ most_calls → count_at (u32_bytes n ++ rest) ≡ Ok (n, rest)
 count_back n rest few =
@@ -92,12 +92,12 @@ body_chain m f b h n es a rest = simp append_assoc
 pub body_back : (accepted : Profile → CallData → Bool) (b : Block) (rest : List ℕ) → IsBlock accepted b → body_at accepted (body_bytes b ++ rest) ≡ Ok (b, rest)
 body_back accepted b rest is =
     let after = b.after ++ rest in
-    let entries = flat_map entry_bytes b.entries ++ after in
+    let entries = flat_map block_entry_bytes b.entries ++ after in
     let count = u32_bytes (length b.entries) ++ entries in
     let header = header_bytes b.header ++ count in
     let base = b.base ++ header in
     let format = format_bytes b.header.profile ++ base in
-    ap (body_at accepted) (body_chain magic (format_bytes b.header.profile) b.base (header_bytes b.header) (u32_bytes (length b.entries)) (flat_map entry_bytes b.entries) b.after rest)
+    ap (body_at accepted) (body_chain magic (format_bytes b.header.profile) b.base (header_bytes b.header) (u32_bytes (length b.entries)) (flat_map block_entry_bytes b.entries) b.after rest)
     ∙ then _ _ _ _ (magic_back format)
     (then _ _ _ _ (profile_back b.header.profile base)
     (then _ _ _ _ (bytes_back Truncated 32 b.base header is.base)

@@ -27,9 +27,9 @@ use Rattle.avm_block.specs.declared.block_fault.BlockFault.{BlockFault}
 use Rattle.avm_block.specs.declared.block_fault.BlockFault.TheVariants.{Magic, Format, Truncated, Rest, Order, Field, Digest}
 use Rattle.avm_block.specs.declared.entry.Entry.{Entry}
 use Rattle.avm_block.specs.Blocks.{Block, most_calls}
-use Rattle.avm_block.specs.BlockSpelling.{magic, format_bytes, entry_bytes, body_bytes, block_bytes}
+use Rattle.avm_block.specs.BlockSpelling.{magic, format_bytes, block_entry_bytes, body_bytes, block_bytes}
 use Rattle.avm_block.specs.OutcomeReader.{outcome_at}
-use Rattle.avm_block.specs.BlockReader.{magic_at, profile_of_format, profile_at, header_at, timestamp_at, in_block, call_in, entry_at, entries_at, count_at, body_at, sealed, block_at}
+use Rattle.avm_block.specs.BlockReader.{magic_at, profile_of_format, profile_at, header_at, timestamp_at, in_block, call_in, block_entry_at, block_entries_at, count_at, body_at, sealed, block_at}
 use Rattle.avm_block.specs.BlockRoundTrip.{IsEntry, AreEntries, IsHeader, IsBlock}
 use Rattle.avm_block.proofs.BlockBack.{front_is}
 use Rattle.avm_block.proofs.OutcomeSpelled.{kept, of_kind, outcome_spelled}
@@ -113,10 +113,10 @@ call_in_spelled accepted bytes x all e =
     subst (CallRead accepted bytes) rule.1 (record { spelled = spelled bytes (call_bytes c.0) c.1 all (sym read.0); fields = read.1; allowed = ap (λ z. accepted z.0) rule.1 ∙ rule.0 }))
 
 record EntryRead (accepted : CallData → Bool) (before : ℕ) (bytes : List ℕ) (x : Entry × List ℕ) : Type 0 where
-  spelled : IsSpelled bytes (entry_bytes x.0) x.1
+  spelled : IsSpelled bytes (block_entry_bytes x.0) x.1
   entry : IsEntry accepted before x.0
 
-entry_spelled : (accepted : CallData → Bool) (before : ℕ) (bytes : List ℕ) (x : Entry × List ℕ) → AllBytes bytes → entry_at accepted before bytes ≡ Ok x → EntryRead accepted before bytes x
+entry_spelled : (accepted : CallData → Bool) (before : ℕ) (bytes : List ℕ) (x : Entry × List ℕ) → AllBytes bytes → block_entry_at accepted before bytes ≡ Ok x → EntryRead accepted before bytes x
 entry_spelled accepted before bytes x all e =
     from (timestamp_at before bytes) _ x e (λ t et e1.
     from (number_at Truncated w64 bytes) _ t et (λ n en t1.
@@ -135,22 +135,22 @@ entry_spelled accepted before bytes x all e =
     })))))
 
 record EntriesRead (accepted : CallData → Bool) (n before : ℕ) (bytes : List ℕ) (x : List Entry × List ℕ) : Type 0 where
-  spelled : IsSpelled bytes (flat_map entry_bytes x.0) x.1
+  spelled : IsSpelled bytes (flat_map block_entry_bytes x.0) x.1
   count : length x.0 ≡ n
   entries : AreEntries accepted before x.0
 
-entries_spelled : (accepted : CallData → Bool) (n before : ℕ) (bytes : List ℕ) (x : List Entry × List ℕ) → AllBytes bytes → entries_at accepted n before bytes ≡ Ok x → EntriesRead accepted n before bytes x
+entries_spelled : (accepted : CallData → Bool) (n before : ℕ) (bytes : List ℕ) (x : List Entry × List ℕ) → AllBytes bytes → block_entries_at accepted n before bytes ≡ Ok x → EntriesRead accepted n before bytes x
 entries_spelled accepted zero before bytes x all e =
     let is : ◌≡◌ {A = List Entry × List ℕ} ([], bytes) x = same_value _ _ e in
     subst (EntriesRead accepted 0 before bytes) is (record { spelled = spelled bytes [] bytes all refl; count = refl; entries = tt })
 entries_spelled accepted (suc n) before bytes x all e =
-    from (entry_at accepted before bytes) _ x e (λ a ea e1.
+    from (block_entry_at accepted before bytes) _ x e (λ a ea e1.
     let first = entry_spelled accepted before bytes a all ea in
-    from (entries_at accepted n a.0.timestamp a.1) _ x e1 (λ m em e2.
+    from (block_entries_at accepted n a.0.timestamp a.1) _ x e1 (λ m em e2.
     let more = entries_spelled accepted n a.0.timestamp a.1 m first.spelled.rest_are_bytes em in
     let is : ◌≡◌ {A = List Entry × List ℕ} (a.0 ∷ m.0, m.1) x = same_value _ _ e2 in
     subst (EntriesRead accepted (suc n) before bytes) is (record {
-      spelled = join bytes (entry_bytes a.0) a.1 (flat_map entry_bytes m.0) m.1 first.spelled more.spelled;
+      spelled = join bytes (block_entry_bytes a.0) a.1 (flat_map block_entry_bytes m.0) m.1 first.spelled more.spelled;
       count = ap suc more.count;
       entries = (first.entry, more.entries);
     })))
@@ -184,7 +184,7 @@ body_spelled accepted bytes x all e =
     let s4 = header_spelled p.0 d.1 h s3.rest_are_bytes eh in
     from (count_at h.1) _ x e4 (λ n en e5.
     let s5 = count_spelled h.1 n s4.spelled.rest_are_bytes en in
-    from (entries_at (accepted p.0) n.0 0 n.1) _ x e5 (λ es ees e6.
+    from (block_entries_at (accepted p.0) n.0 0 n.1) _ x e5 (λ es ees e6.
     let s6 = entries_spelled (accepted p.0) n.0 0 n.1 es s5.spelled.rest_are_bytes ees in
     from (bytes_at Truncated 32 es.1) _ x e6 (λ a ea e7.
     let s7 = digest_spelled es.1 a s6.spelled.rest_are_bytes ea in

@@ -9,10 +9,10 @@ use Rattle.teal_check.specs.WellFormed.{WellFormed, checked}
 use Rattle.teal_check.proofs.CheckedPrograms.{is_checked}
 use Rattle.avm_items.specs.declared.call_data.CallData.{CallData}
 use Rattle.avm_items.specs.CallFields.{creates}
-use Rattle.avm_call_codec.specs.CallRoundTrip.{IsAddress, IsString, IsWord, HasFields}
+use Rattle.avm_call_codec.specs.CallRoundTrip.{IsAddress, IsStringField, IsWord, HasFields}
 use Rattle.avm_call.specs.declared.call_fault.CallFault.TheVariants as fault
 use Rattle.avm_call.specs.Ends.{is_program}
-use Rattle.avm_call.specs.CallRules.{total_length, updates, is_empty, brings_programs, lacks_programs, has_programs, field_fault, program_fault, or_fault, programs_fault, call_fault, most_note_bytes, most_arguments, most_argument_bytes, most_accounts, most_foreign_applications}
+use Rattle.avm_call.specs.CallRules.{total_length, updates, is_empty, brings_programs, lacks_programs, gives_programs, field_fault, program_fault, or_fault, programs_fault, call_fault, most_note_bytes, most_arguments, most_argument_bytes, most_accounts, most_foreign_applications}
 use Rattle.avm_call.proofs.CallFaults.{no_fault, none_of_both, program_passes}
 
 -- what the types of the fields say
@@ -54,7 +54,7 @@ both_empty false b e = absurd cc
 empty_short : (bytes : List ℕ) → is_empty bytes ≡ true → length bytes ≤ most_program_bytes
 empty_short bytes e = let none : length bytes ≡ 0 = eqb-true (length bytes) 0 e in omega arith
 
-programs_short : (c : CallData) (b : Bool) → brings_programs c ≡ b → (not b && has_programs c) ≡ false → (if b then or_fault (program_fault (checked c.approval)) (program_fault (checked c.clear)) else None) ≡ None
+programs_short : (c : CallData) (b : Bool) → brings_programs c ≡ b → (not b && gives_programs c) ≡ false → (if b then or_fault (program_fault (checked c.approval)) (program_fault (checked c.clear)) else None) ≡ None
     → (length c.approval ≤ most_program_bytes) × (length c.clear ≤ most_program_bytes)
 programs_short c true is given pass =
     let parts = none_of_both (program_fault (checked c.approval)) (program_fault (checked c.clear)) pass in
@@ -65,9 +65,9 @@ programs_short c false is given pass =
 
 -- ---- byte strings
 
-each_short : (ss : List (List ℕ)) (most : ℕ) → total_length ss ≤ most → most < 2 ^ 16 → All IsString ss
-each_short [] most within small = All-nil IsString
-each_short (s ∷ ss) most within small = All-cons IsString s ss (omega arith) (each_short ss most (omega arith) small)
+each_short : (ss : List (List ℕ)) (most : ℕ) → total_length ss ≤ most → most < 2 ^ 16 → All IsStringField ss
+each_short [] most within small = All-nil IsStringField
+each_short (s ∷ ss) most within small = All-cons IsStringField s ss (omega arith) (each_short ss most (omega arith) small)
 
 -- ---- all fields
 
@@ -80,7 +80,7 @@ fields_fit c e sizes =
     let foreign = no_fault (ltb most_foreign_applications (length c.foreign_applications)) fault.Foreign _ bytes.1 in
     let note = no_fault (ltb most_note_bytes (length c.note)) fault.Note _ foreign.1 in
     let missing = no_fault (brings_programs c && lacks_programs c) fault.ProgramsMissing _ note.1 in
-    let given = no_fault (not (brings_programs c) && has_programs c) fault.ProgramsGiven _ missing.1 in
+    let given = no_fault (not (brings_programs c) && gives_programs c) fault.ProgramsGiven _ missing.1 in
     let programs = programs_short c (brings_programs c) refl given.0 parts.1 in
     record {
       sender = sizes.sender;

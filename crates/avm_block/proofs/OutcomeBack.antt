@@ -19,7 +19,7 @@ use Rattle.avm_call.specs.declared.outcome.Outcome.{Outcome}
 use Rattle.avm_call.specs.declared.outcome.Outcome.TheVariants as outcome
 use Rattle.avm_call.specs.OutcomeSpelling.{why_number, whys, outcome_bytes}
 use Rattle.avm_block.specs.declared.block_fault.BlockFault.TheVariants.{Truncated, Field}
-use Rattle.avm_block.specs.OutcomeReader.{one_at, place_at, fault_at, cause_of_kind, outcome_at}
+use Rattle.avm_block.specs.OutcomeReader.{one_at, place_at, fault_and_place_at, cause_of_kind, outcome_at}
 use Rattle.avm_call.specs.Places.{HasCausePlace, HasPlace}
 
 -- a number that is one byte stands there as it is
@@ -35,9 +35,9 @@ number_back : (f : Fault) (rest : List ℕ) → one_at fault_number faults (u8_b
 number_back f rest =
     then _ _ _ _ (byte_back Truncated (fault_number f) rest (small_fault f)) (ap (λ o. ok_or o Field >>= λ x. Ok (x, rest)) (fault_of_number f))
 
-fault_back : (f : Fault) (place : ℕ) (rest : List ℕ) → place ≤ most_program_bytes → fault_at (fault_number f ∷ (u16_bytes place ++ rest)) ≡ Ok ((f, place), rest)
+fault_back : (f : Fault) (place : ℕ) (rest : List ℕ) → place ≤ most_program_bytes → fault_and_place_at (fault_number f ∷ (u16_bytes place ++ rest)) ≡ Ok ((f, place), rest)
 fault_back f place rest within =
-    ap fault_at (byte_as_it_is (fault_number f) (u16_bytes place ++ rest) (small_fault f))
+    ap fault_and_place_at (byte_as_it_is (fault_number f) (u16_bytes place ++ rest) (small_fault f))
     ∙ then _ _ _ _ (number_back f (u16_bytes place ++ rest)) (then _ _ _ _ (place_back place rest within) refl)
 
 why_back : (w : Why) (rest : List ℕ) → one_at why_number whys (why_number w ∷ rest) ≡ Ok (w, rest)

@@ -20,7 +20,7 @@ use Rattle.avm_call.specs.declared.outcome.Outcome.TheVariants as outcome
 use Rattle.avm_call.specs.OutcomeSpelling.{why_number, whys, outcome_bytes}
 use Rattle.avm_block.specs.declared.block_fault.BlockFault.{BlockFault}
 use Rattle.avm_block.specs.declared.block_fault.BlockFault.TheVariants.{Truncated, Field}
-use Rattle.avm_block.specs.OutcomeReader.{one_at, place_at, fault_at, cause_of_kind, outcome_of_kind, outcome_at}
+use Rattle.avm_block.specs.OutcomeReader.{one_at, place_at, fault_and_place_at, cause_of_kind, outcome_of_kind, outcome_at}
 use Rattle.avm_call.specs.Places.{HasCausePlace, HasPlace}
 use Rattle.avm_block.proofs.OutcomeBack.{cause_bytes, byte_as_it_is, small_why}
 
@@ -61,7 +61,7 @@ place_spelled bytes x all e =
 one_fault : (f : Fault) → u8_bytes (fault_number f) ≡ fault_number f ∷ []
 one_fault f = sym (byte_as_it_is (fault_number f) [] (small_fault f))
 
-fault_spelled : (bytes : List ℕ) (x : (Fault × ℕ) × List ℕ) → AllBytes bytes → fault_at bytes ≡ Ok x → IsSpelled bytes (fault_number x.0.0 ∷ u16_bytes x.0.1) x.1 × (x.0.1 ≤ most_program_bytes)
+fault_spelled : (bytes : List ℕ) (x : (Fault × ℕ) × List ℕ) → AllBytes bytes → fault_and_place_at bytes ≡ Ok x → IsSpelled bytes (fault_number x.0.0 ∷ u16_bytes x.0.1) x.1 × (x.0.1 ≤ most_program_bytes)
 fault_spelled bytes x all e =
     from (one_at fault_number faults bytes) _ x e (λ f ef e1.
     let first = one_spelled fault_number faults one_fault bytes f all ef in
@@ -84,7 +84,7 @@ cause_spelled bytes n x kind e =
             | inr i ↦
                 elim (chosen (eqb n.0 2) _ _ _ i.1) [
                   | inl j ↦
-                      from (fault_at n.1) _ x j.1 (λ f ef e1.
+                      from (fault_and_place_at n.1) _ x j.1 (λ f ef e1.
                       let end = fault_spelled n.1 f kind.rest_are_bytes ef in
                       subst (λ p. IsSpelled bytes (cause_bytes p.0) p.1 × HasCausePlace p.0) (same_value (cause.Faulted f.0.0 f.0.1, f.1) x e1)
                       (join bytes _ n.1 _ f.1 (of_kind 2 bytes n kind j.0) end.0, end.1))
@@ -108,7 +108,7 @@ outcome_spelled bytes x all e =
             | inr i ↦
                 elim (chosen (eqb n.0 2) _ _ _ i.1) [
                   | inl j ↦
-                      from (fault_at n.1) _ x j.1 (λ f ef e2.
+                      from (fault_and_place_at n.1) _ x j.1 (λ f ef e2.
                       let end = fault_spelled n.1 f kind.rest_are_bytes ef in
                       subst (λ p. IsSpelled bytes (outcome_bytes p.0) p.1 × HasPlace p.0) (same_value (outcome.Faulted f.0.0 f.0.1, f.1) x e2)
                       (join bytes _ n.1 _ f.1 (of_kind 2 bytes n kind j.0) end.0, end.1))

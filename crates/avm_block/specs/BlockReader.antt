@@ -60,19 +60,19 @@ in_block (Err e) = Err (block_fault_of e)
 abbrev pub call_in : (CallData → Bool) → List ℕ → Front BlockFault CallData
 call_in accepted bytes = in_block (call_front bytes) >>= λ call. if accepted call.0 then Ok call else Err Field
 
-abbrev pub entry_at : (CallData → Bool) → ℕ → List ℕ → Front BlockFault Entry
-entry_at accepted before bytes = do
+abbrev pub block_entry_at : (CallData → Bool) → ℕ → List ℕ → Front BlockFault Entry
+block_entry_at accepted before bytes = do
   t ← timestamp_at before bytes
   call ← call_in accepted t.1
   end ← outcome_at call.1
   Ok (record { timestamp = t.0; call = call.0; outcome = end.0 }, end.1)
 
 -- so many entries, behind a timestamp
-abbrev pub entries_at : (CallData → Bool) → ℕ → ℕ → List ℕ → Front BlockFault (List Entry)
-entries_at accepted zero before bytes = Ok ([], bytes)
-entries_at accepted (suc n) before bytes = do
-  e ← entry_at accepted before bytes
-  es ← entries_at accepted n e.0.timestamp e.1
+abbrev pub block_entries_at : (CallData → Bool) → ℕ → ℕ → List ℕ → Front BlockFault (List Entry)
+block_entries_at accepted zero before bytes = Ok ([], bytes)
+block_entries_at accepted (suc n) before bytes = do
+  e ← block_entry_at accepted before bytes
+  es ← block_entries_at accepted n e.0.timestamp e.1
   Ok (e.0 ∷ es.0, es.1)
 
 abbrev pub count_at : List ℕ → Front BlockFault ℕ
@@ -86,7 +86,7 @@ body_at accepted bytes = do
   base ← bytes_at Truncated 32 in_profile.1
   header ← header_at in_profile.0 base.1
   count ← count_at header.1
-  entries ← entries_at (accepted in_profile.0) count.0 0 count.1
+  entries ← block_entries_at (accepted in_profile.0) count.0 0 count.1
   after ← bytes_at Truncated 32 entries.1
   Ok (record { base = base.0; header = header.0; entries = entries.0; after = after.0 }, after.1)
 

@@ -18,12 +18,12 @@ abbrev pub format_bytes : Profile → List ℕ
 format_bytes profile.Two = 1 ∷ []
 format_bytes profile.Three = 2 ∷ 3 ∷ []
 
-abbrev pub entry_bytes : Entry → List ℕ
-entry_bytes e = u64_bytes e.timestamp ++ call_bytes e.call ++ outcome_bytes e.outcome
+abbrev pub block_entry_bytes : Entry → List ℕ
+block_entry_bytes e = u64_bytes e.timestamp ++ call_bytes e.call ++ outcome_bytes e.outcome
 
 -- all up to the last digest
 abbrev pub body_bytes : Block → List ℕ
-body_bytes b = magic ++ format_bytes b.header.profile ++ b.base ++ header_bytes b.header ++ counted_bytes u32_bytes entry_bytes b.entries ++ b.after
+body_bytes b = magic ++ format_bytes b.header.profile ++ b.base ++ header_bytes b.header ++ counted_bytes u32_bytes block_entry_bytes b.entries ++ b.after
 
 abbrev pub block_bytes : Block → List ℕ
 block_bytes b = body_bytes b ++ sha256 (body_bytes b)

@@ -26,8 +26,8 @@ one_at number xs bytes = do
 abbrev pub place_at : List ℕ → Front BlockFault ℕ
 place_at bytes = number_at Truncated w16 bytes >>= λ place. if nat_le place.0 most_program_bytes then Ok place else Err Field
 
-abbrev pub fault_at : List ℕ → Front BlockFault (Fault × ℕ)
-fault_at bytes = do
+abbrev pub fault_and_place_at : List ℕ → Front BlockFault (Fault × ℕ)
+fault_and_place_at bytes = do
   f ← one_at fault_number faults bytes
   place ← place_at f.1
   Ok ((f.0, place.0), place.1)
@@ -36,7 +36,7 @@ abbrev pub cause_of_kind : ℕ × List ℕ → Front BlockFault Cause
 cause_of_kind kind =
     if kind.0 == 0 then Ok (cause.Gone, kind.1)
     else if kind.0 == 1 then Ok (cause.Rejected, kind.1)
-    else if kind.0 == 2 then (fault_at kind.1 >>= λ f. Ok (cause.Faulted f.0.0 f.0.1, f.1))
+    else if kind.0 == 2 then (fault_and_place_at kind.1 >>= λ f. Ok (cause.Faulted f.0.0 f.0.1, f.1))
     else Err Field
 
 abbrev pub cause_at : List ℕ → Front BlockFault Cause
@@ -46,7 +46,7 @@ abbrev pub outcome_of_kind : ℕ × List ℕ → Front BlockFault Outcome
 outcome_of_kind kind =
     if kind.0 == 0 then Ok (outcome.Approved, kind.1)
     else if kind.0 == 1 then Ok (outcome.Rejected, kind.1)
-    else if kind.0 == 2 then (fault_at kind.1 >>= λ f. Ok (outcome.Faulted f.0.0 f.0.1, f.1))
+    else if kind.0 == 2 then (fault_and_place_at kind.1 >>= λ f. Ok (outcome.Faulted f.0.0 f.0.1, f.1))
     else if kind.0 == 3 then (one_at why_number whys kind.1 >>= λ w. Ok (outcome.Refused w.0, w.1))
     else if kind.0 == 4 then (cause_at kind.1 >>= λ c. Ok (outcome.ClearedAnyway c.0, c.1))
     else Err Field

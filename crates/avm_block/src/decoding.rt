@@ -6,7 +6,7 @@ ghost use Rattle.avm_call_codec.specs.CallReader.{call_front};
 ghost use Rattle.avm_block.specs.declared.block_fault.BlockFault.TheVariants.{Field};
 ghost use Rattle.avm_block.specs.AcceptedCalls.{is_accepted};
 ghost use Rattle.avm_block.specs.Blocks.{Block as BlockRecord};
-ghost use Rattle.avm_block.specs.BlockReader.{block_at, block_fault_of, body_at, call_in, count_at, entries_at, entry_at, in_block, magic_at, timestamp_at};
+ghost use Rattle.avm_block.specs.BlockReader.{block_at, block_fault_of, body_at, call_in, count_at, block_entries_at, block_entry_at, in_block, magic_at, timestamp_at};
 ghost use Rattle.avm_block.specs.BlockRoundTrip.{IsBlock};
 ghost use Rattle.avm_block.specs.BlockSpelling.{block_bytes, magic};
 
@@ -110,7 +110,7 @@ fn entries_of(
     count: u32,
     fields: Fields<'_>,
 ) -> Result<(Vec<Entry>, Fields<'_>), BlockError>
-    ensures { Gives (λ x. (x.0.items, x.1)) result (entries_at (is_accepted profile) count 0 fields.entry) }
+    ensures { Gives (λ x. (x.0.items, x.1)) result (block_entries_at (is_accepted profile) count 0 fields.entry) }
 {
     let mut entries = Vec::new(alloc);
     let mut before = 0;
@@ -131,7 +131,7 @@ fn entry_of(
     before: u64,
     fields: Fields<'_>,
 ) -> Result<(Entry, Fields<'_>), BlockError>
-    ensures { Gives (λ x. x) result (entry_at (is_accepted profile) before fields.entry) }
+    ensures { Gives (λ x. x) result (block_entry_at (is_accepted profile) before fields.entry) }
 {
     let (timestamp, rest) = timestamp_of(before, fields)?;
     let (call, rest) = call_of(alloc, profile, rest)?;

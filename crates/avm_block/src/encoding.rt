@@ -4,7 +4,7 @@ ghost use Rattle.std.specs.Prelude.{◌≡◌, ◌++◌, Ok, IfOk, OnOk};
 ghost use Rattle.avm_ledger.specs.Spellings.{counted_bytes, u32_bytes};
 ghost use Rattle.avm_block.specs.AcceptedCalls.{is_accepted};
 ghost use Rattle.avm_block.specs.BlockReader.{block_at};
-ghost use Rattle.avm_block.specs.BlockSpelling.{block_bytes, body_bytes, entry_bytes};
+ghost use Rattle.avm_block.specs.BlockSpelling.{block_bytes, body_bytes, block_entry_bytes};
 
 use crate::block::Block;
 use crate::entry::Entry;
@@ -46,7 +46,7 @@ fn put_body(bytes: &mut Vec<u8>, block: &Block) -> Result<(), AllocError>
 }
 
 fn put_entries(bytes: &mut Vec<u8>, entries: &[Entry]) -> Result<(), AllocError>
-    ensures { OnOk result (bytes.new.items ≡ bytes.old.items ++ counted_bytes u32_bytes entry_bytes entries.now) }
+    ensures { OnOk result (bytes.new.items ≡ bytes.old.items ++ counted_bytes u32_bytes block_entry_bytes entries.now) }
 {
     put_long_count(bytes, entries.len())?;
     for entry in entries {
@@ -56,7 +56,7 @@ fn put_entries(bytes: &mut Vec<u8>, entries: &[Entry]) -> Result<(), AllocError>
 }
 
 fn put_entry(bytes: &mut Vec<u8>, entry: &Entry) -> Result<(), AllocError>
-    ensures { OnOk result (bytes.new.items ≡ bytes.old.items ++ entry_bytes entry.now) }
+    ensures { OnOk result (bytes.new.items ≡ bytes.old.items ++ block_entry_bytes entry.now) }
 {
     put_u64(bytes, entry.timestamp)?;
     entry.call.fields().encode_into(bytes)?;

@@ -5,7 +5,7 @@ ghost use Rattle.teal_value.specs.Answer.{Gives};
 ghost use Rattle.teal_value.specs.FaultNumbers.{fault_number, faults};
 ghost use Rattle.teal_code.specs.Spelling.{Continues};
 ghost use Rattle.avm_call.specs.OutcomeSpelling.{outcome_bytes, why_number, whys};
-ghost use Rattle.avm_block.specs.OutcomeReader.{cause_at, fault_at, one_at, outcome_at, place_at};
+ghost use Rattle.avm_block.specs.OutcomeReader.{cause_at, fault_and_place_at, one_at, outcome_at, place_at};
 
 use crate::block_fault::{BlockError, BlockFault};
 use avm_call::{Cause, Outcome, Why};
@@ -89,7 +89,7 @@ fn cause_of(fields: Fields<'_>) -> Result<(Cause, Fields<'_>), BlockError>
 }
 
 fn fault_of(fields: Fields<'_>) -> Result<((Fault, u16), Fields<'_>), BlockError>
-    ensures { Gives (λ x. x) result (fault_at fields.entry) }
+    ensures { Gives (λ x. x) result (fault_and_place_at fields.entry) }
 {
     let (fault, rest) = fault_number_of(fields)?;
     let (place, rest) = place_of(rest)?;

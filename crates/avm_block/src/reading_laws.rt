@@ -2,6 +2,7 @@
 
 ghost use Rattle.std.specs.Prelude.{◌≡◌, ◌∷◌, ◌++◌, [], Ok, Err};
 ghost use Rattle.teal_value.specs.declared.fault.Fault.TheVariants as fault;
+ghost use Rattle.avm_ledger.specs.WorkedLedgers.{zeros};
 ghost use Rattle.avm_call.specs.declared.outcome.Why.TheVariants as why;
 ghost use Rattle.avm_call.specs.declared.outcome.Cause.TheVariants as cause;
 ghost use Rattle.avm_call.specs.declared.outcome.Outcome.TheVariants as outcome;
@@ -10,7 +11,7 @@ ghost use Rattle.avm_block.specs.BlockSpelling.{magic};
 ghost use Rattle.avm_block.specs.OutcomeReader.{outcome_at};
 ghost use Rattle.avm_block.specs.BlockReader.{block_at};
 ghost use Rattle.avm_block.specs.BlockRoundTrip.{NoneBeginsAnother, ReadsBack, SpellsBack};
-ghost use Rattle.avm_block.specs.WorkedBlocks.{any_call, up_to_count, zeros};
+ghost use Rattle.avm_block.specs.WorkedBlocks.{any_call, up_to_count};
 
 /// A block is read from its bytes.
 pub fn reads_back()

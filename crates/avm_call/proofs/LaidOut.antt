@@ -28,7 +28,7 @@ use Rattle.avm_ops.specs.Steps.{branch_target}
 use Rattle.avm_items.specs.Items.{ItemMap}
 use Rattle.avm_items.specs.Counting.{AsksAtMost, Any}
 use Rattle.avm_items.proofs.Counting.{at_most-more}
-use Rattle.avm_call.specs.Runs.{Execution, version_numbered, version_in_front, path, whole_path}
+use Rattle.avm_call.specs.Runs.{Execution, version_of_number, version_in_front, path, whole_path}
 use Rattle.avm_call.specs.Ends.{HasEnded, is_start, is_start_or_end, IsLaidOut}
 use Rattle.avm_call.proofs.Steps.{steps_are_instructions, whole_path_steps}
 
@@ -45,7 +45,7 @@ numbered_by n m v false true p q e = cc
 numbered_by n m v false false p q e = absurd cc
 
 version_by : (bytes : List ℕ) (v : Version × ℕ) (r : Read ℕ) → (on_code 0 r >>= λ n. version_of n.0 >>= λ w. Ok (w, length bytes - length n.1)) ≡ Ok v
-    → elim r as (λ _. Version × ℕ) [ Ok n ↦ (version_numbered n.0, length bytes - length n.1) | Err e ↦ (Two, 0) ] ≡ v
+    → elim r as (λ _. Version × ℕ) [ Ok n ↦ (version_of_number n.0, length bytes - length n.1) | Err e ↦ (Two, 0) ] ≡ v
 version_by bytes v (Err f) e = absurd cc
 version_by bytes v (Ok (n, rest)) e = numbered_by n (length bytes - length rest) v (n == 2) (n == 3) refl refl e
 

@@ -33,8 +33,8 @@ is_empty bytes = length bytes == 0
 abbrev pub lacks_programs : CallData → Bool
 lacks_programs call = is_empty call.approval || is_empty call.clear
 
-abbrev pub has_programs : CallData → Bool
-has_programs call = not (is_empty call.approval && is_empty call.clear)
+abbrev pub gives_programs : CallData → Bool
+gives_programs call = not (is_empty call.approval && is_empty call.clear)
 
 abbrev pub entries_in : Schema → ℕ
 entries_in s = s.uints + s.bytes
@@ -49,7 +49,7 @@ fits_schemas call =
 abbrev pub program_and_schema_fault : CallData → Option CallFault
 program_and_schema_fault call =
     if brings_programs call && lacks_programs call then Some fault.ProgramsMissing
-    else if not (brings_programs call) && has_programs call then Some fault.ProgramsGiven
+    else if not (brings_programs call) && gives_programs call then Some fault.ProgramsGiven
     else if not (fits_schemas call) then Some fault.SchemaSize
     else if creates call && clears call.completion then Some fault.ClearOnCreate
     else None

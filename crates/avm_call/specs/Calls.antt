@@ -120,16 +120,17 @@ deleted id writes = with_item (filter (λ e. not (is_global_of id e.0)) writes) 
 abbrev pub updated : CallData → Application → Application
 updated call row = record row { approval = call.approval; clear = call.clear }
 
--- what an approved call writes beside what its program wrote
+-- what a call writes beside what its program wrote, where it is approved, by its completion
+abbrev pub completed_by : Completion → CallData → ℕ → Application → ItemMap → ItemMap
+completed_by completion.NoOp call id row writes = writes
+completed_by completion.OptIn call id row writes = writes
+completed_by completion.CloseOut call id row writes = with_item writes (sender_item call id) value.Absent
+completed_by completion.ClearState call id row writes = with_item writes (sender_item call id) value.Absent
+completed_by completion.UpdateApplication call id row writes = with_item writes (item.App id) (value.App (updated call row))
+completed_by completion.DeleteApplication call id row writes = deleted id writes
+
 abbrev pub completed : CallData → ℕ → Application → ItemMap → ItemMap
-completed call id row writes = elim call.completion [
-  | completion.NoOp ↦ writes
-  | completion.OptIn ↦ writes
-  | completion.CloseOut ↦ with_item writes (sender_item call id) value.Absent
-  | completion.ClearState ↦ with_item writes (sender_item call id) value.Absent
-  | completion.UpdateApplication ↦ with_item writes (item.App id) (value.App (updated call row))
-  | completion.DeleteApplication ↦ deleted id writes
-]
+completed call id row writes = completed_by call.completion call id row writes
 
 -- Whatever its program did is undone, and the local state goes.
 abbrev pub cleared : CallData → ℕ → Cause → CallResult

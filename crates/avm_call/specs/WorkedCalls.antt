@@ -20,11 +20,11 @@ call_one done = plain_call zero_address 1 done
 abbrev pub one_uint_allowed : Schema
 one_uint_allowed = record { uints = 1; bytes = 0 }
 
-abbrev pub outcomes_of : List CallData → List Outcome
-outcomes_of calls = outcomes empty_ledger (zero_header profile.Two) calls
+abbrev pub outcomes_of_calls : List CallData → List Outcome
+outcomes_of_calls calls = outcomes empty_ledger (zero_header profile.Two) calls
 
-abbrev pub ledger_of : List CallData → Ledger
-ledger_of calls = replayed empty_ledger (zero_header profile.Two) calls
+abbrev pub ledger_after_calls : List CallData → Ledger
+ledger_after_calls calls = replayed empty_ledger (zero_header profile.Two) calls
 
 -- approves
 abbrev pub approving : List ℕ
@@ -57,10 +57,10 @@ state_of (Some app) = app.state
 
 -- the value of the key n of application 1's global state, the local state of the zero address, and the next id
 abbrev pub counter_after : List CallData → Option Value
-counter_after calls = value_of_key (state_of (application_at (ledger_of calls) 1)) (0x6e ∷ [])
+counter_after calls = value_of_key (state_of (application_at (ledger_after_calls calls) 1)) (0x6e ∷ [])
 
 abbrev pub local_state_after : List CallData → Option Entries
-local_state_after calls = local_state_at (ledger_of calls) zero_address 1
+local_state_after calls = local_state_at (ledger_after_calls calls) zero_address 1
 
 abbrev pub next_id_after : List CallData → ℕ
-next_id_after calls = (ledger_of calls).next_id
+next_id_after calls = (ledger_after_calls calls).next_id

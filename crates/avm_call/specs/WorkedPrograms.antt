@@ -59,5 +59,5 @@ no_applications _ = value.Absent
 abbrev pub end_in : Profile → List ℕ → Outcome
 end_in p program = (result_over no_applications (call_result (plain_creation program program no_entries no_entries) (zero_header p))).0
 
-abbrev pub end_of : List ℕ → Outcome
-end_of = end_in profile.Two
+abbrev pub outcome_of_program : List ℕ → Outcome
+outcome_of_program = end_in profile.Two

@@ -13,7 +13,7 @@ use Rattle.avm_items.specs.CallFields.{completion_number}
 use Rattle.avm_call_codec.specs.declared.call_data_fault.CallDataFault.TheVariants.{Truncated}
 use Rattle.avm_call_codec.specs.CallSpelling.{address_bytes, terms_bytes, target_bytes, lists_bytes, programs_bytes, call_bytes}
 use Rattle.avm_call_codec.specs.CallReader.{completion_at, terms_at, target_at, lists_at, programs_at, call_front, call_from, alone, call_at}
-use Rattle.avm_call_codec.specs.CallRoundTrip.{IsAddress, IsString, IsWord, HasFields}
+use Rattle.avm_call_codec.specs.CallRoundTrip.{IsAddress, IsStringField, IsWord, HasFields}
 
 completion_back : (done : Completion) (rest : List ℕ) → completion_at (u8_bytes (completion_number done) ++ rest) ≡ Ok (done, rest)
 completion_back completion.NoOp rest = then _ _ _ _ (byte_back Truncated 0 rest (omega arith)) refl
@@ -23,7 +23,7 @@ completion_back completion.ClearState rest = then _ _ _ _ (byte_back Truncated 3
 completion_back completion.UpdateApplication rest = then _ _ _ _ (byte_back Truncated 4 rest (omega arith)) refl
 completion_back completion.DeleteApplication rest = then _ _ _ _ (byte_back Truncated 5 rest (omega arith)) refl
 
-one_string : (s rest : List ℕ) → IsString s → string_at Truncated (string_bytes s ++ rest) ≡ Ok (s, rest)
+one_string : (s rest : List ℕ) → IsStringField s → string_at Truncated (string_bytes s ++ rest) ≡ Ok (s, rest)
 one_string s rest small = string_back Truncated s rest small
 
 one_address : (who : Address) (rest : List ℕ) → IsAddress who → address_at Truncated (address_bytes who ++ rest) ≡ Ok (who, rest)
@@ -75,7 +75,7 @@ lists_back c rest has =
     let foreign = counted_bytes u8_bytes u64_bytes c.foreign_applications ++ rest in
     let accounts = counted_bytes u8_bytes address_bytes c.accounts ++ foreign in
     ap lists_at (three (counted_bytes u8_bytes string_bytes c.arguments) (counted_bytes u8_bytes address_bytes c.accounts) (counted_bytes u8_bytes u64_bytes c.foreign_applications) rest)
-    ∙ then _ _ _ _ (counted_back Truncated (string_at Truncated) string_bytes IsString one_string c.arguments accounts has.arguments has.argument_count)
+    ∙ then _ _ _ _ (counted_back Truncated (string_at Truncated) string_bytes IsStringField one_string c.arguments accounts has.arguments has.argument_count)
     (then _ _ _ _ (counted_back Truncated (address_at Truncated) address_bytes IsAddress one_address c.accounts foreign has.accounts has.account_count)
     (then _ _ _ _ (counted_back Truncated (number_at Truncated w64) u64_bytes IsWord one_word c.foreign_applications rest has.foreign_applications has.foreign_count) refl))
 

@@ -21,8 +21,8 @@ use Rattle.avm_call_codec.specs.declared.groups.Target.{Target}
 use Rattle.avm_call_codec.specs.declared.groups.Lists.{Lists}
 use Rattle.avm_call_codec.specs.declared.groups.Programs.{Programs}
 use Rattle.avm_call_codec.specs.CallSpelling.{address_bytes, call_bytes}
-use Rattle.avm_call_codec.specs.CallReader.{completion_of, completion_at, terms_at, target_at, lists_at, programs_at, call_of, call_front, call_from, alone, call_at}
-use Rattle.avm_call_codec.specs.CallRoundTrip.{IsAddress, IsString, IsWord, HasFields}
+use Rattle.avm_call_codec.specs.CallReader.{completion_of, completion_at, terms_at, target_at, lists_at, programs_at, call_of_groups, call_front, call_from, alone, call_at}
+use Rattle.avm_call_codec.specs.CallRoundTrip.{IsAddress, IsStringField, IsWord, HasFields}
 
 one_of : (n k : ℕ) (this : Completion) (others : Option Completion) (d : Completion) → completion_number this ≡ k → (others ≡ Some d → n ≡ completion_number d) → cond (eqb n k) (Some this) others ≡ Some d → n ≡ completion_number d
 one_of n k this others d is later e = at_test (eqb n k) refl e
@@ -54,7 +54,7 @@ lease_spelled bytes x all e = spelled bytes x.0 x.1 all (bytes_spelled Truncated
 strings_spelled : (bytes : List ℕ) (x : List ℕ × List ℕ) → AllBytes bytes → string_at Truncated bytes ≡ Ok x → IsSpelled bytes (string_bytes x.0) x.1
 strings_spelled bytes x all e = string_spelled Truncated bytes x all e
 
-strings_fit : (bytes : List ℕ) (x : List ℕ × List ℕ) → AllBytes bytes → string_at Truncated bytes ≡ Ok x → IsString x.0
+strings_fit : (bytes : List ℕ) (x : List ℕ × List ℕ) → AllBytes bytes → string_at Truncated bytes ≡ Ok x → IsStringField x.0
 strings_fit bytes x all e = string_fits Truncated bytes x all e
 
 accounts_spelled : (bytes : List ℕ) (x : Address × List ℕ) → AllBytes bytes → address_at Truncated bytes ≡ Ok x → IsSpelled bytes (address_bytes x.0) x.1
@@ -77,7 +77,7 @@ record AreTerms (bytes : List ℕ) (x : Terms × List ℕ) : Type 0 where
   fee : IsWord x.0.fee
   first_valid : IsWord x.0.first_valid
   last_valid : IsWord x.0.last_valid
-  note : IsString x.0.note
+  note : IsStringField x.0.note
 
 terms_spelled : (bytes : List ℕ) (x : Terms × List ℕ) → AllBytes bytes → terms_at bytes ≡ Ok x → AreTerms bytes x
 terms_spelled bytes x all e =
@@ -129,7 +129,7 @@ target_spelled bytes x all e =
 
 record AreLists (bytes : List ℕ) (x : Lists × List ℕ) : Type 0 where
   spelled : IsSpelled bytes (counted_bytes u8_bytes string_bytes x.0.arguments ++ counted_bytes u8_bytes address_bytes x.0.accounts ++ counted_bytes u8_bytes u64_bytes x.0.foreign_applications) x.1
-  arguments : All IsString x.0.arguments × (length x.0.arguments < 256)
+  arguments : All IsStringField x.0.arguments × (length x.0.arguments < 256)
   accounts : All IsAddress x.0.accounts × (length x.0.accounts < 256)
   foreign : All IsWord x.0.foreign_applications × (length x.0.foreign_applications < 256)
 
@@ -145,15 +145,15 @@ lists_spelled bytes x all e =
     let is : ◌≡◌ {A = Lists × List ℕ} (lists, a3.1) x = same_value _ _ e3 in
     subst (AreLists bytes) is (record {
       spelled = join bytes _ a2.1 _ a3.1 (join bytes _ a1.1 _ a2.1 s1 s2) s3;
-      arguments = counted_fit Truncated (string_at Truncated) string_bytes IsString strings_spelled strings_fit bytes a1 all r1;
+      arguments = counted_fit Truncated (string_at Truncated) string_bytes IsStringField strings_spelled strings_fit bytes a1 all r1;
       accounts = counted_fit Truncated (address_at Truncated) address_bytes IsAddress accounts_spelled accounts_fit a1.1 a2 s1.rest_are_bytes r2;
       foreign = counted_fit Truncated (number_at Truncated w64) u64_bytes IsWord words_spelled words_fit a2.1 a3 s2.rest_are_bytes r3;
     }))))
 
 record ArePrograms (bytes : List ℕ) (x : Programs × List ℕ) : Type 0 where
   spelled : IsSpelled bytes (string_bytes x.0.approval ++ string_bytes x.0.clear ++ schema_bytes x.0.global_schema ++ schema_bytes x.0.local_schema) x.1
-  approval : IsString x.0.approval
-  clear : IsString x.0.clear
+  approval : IsStringField x.0.approval
+  clear : IsStringField x.0.clear
   global : (x.0.global_schema.uints < 256) × (x.0.global_schema.bytes < 256)
   local : (x.0.local_schema.uints < 256) × (x.0.local_schema.bytes < 256)
 
@@ -192,7 +192,7 @@ call_spelled bytes x all e =
     let lists = lists_spelled g.1 l target.spelled.rest_are_bytes r3 in
     from (programs_at l.1) _ x e3 (λ p r4 e4.
     let programs = programs_spelled l.1 p lists.spelled.rest_are_bytes r4 in
-    let is : ◌≡◌ {A = CallData × List ℕ} (call_of t.0 g.0 l.0 p.0, p.1) x = same_value _ _ e4 in
+    let is : ◌≡◌ {A = CallData × List ℕ} (call_of_groups t.0 g.0 l.0 p.0, p.1) x = same_value _ _ e4 in
     subst (IsReadAs bytes) is (record {
       spelled = join bytes _ l.1 _ p.1 (join bytes _ g.1 _ l.1 (join bytes _ t.1 _ g.1 terms.spelled target.spelled) lists.spelled) programs.spelled;
       fields = record {

@@ -59,8 +59,8 @@ programs_at bytes = do
   local ← schema_at Truncated global.1
   Ok (record { approval = approval.0; clear = clear.0; global_schema = global.0; local_schema = local.0 }, local.1)
 
-abbrev pub call_of : Terms → Target → Lists → Programs → CallData
-call_of terms target lists programs =
+abbrev pub call_of_groups : Terms → Target → Lists → Programs → CallData
+call_of_groups terms target lists programs =
     record {
       sender = terms.sender;
       fee = terms.fee;
@@ -87,7 +87,7 @@ call_front bytes = do
   target ← target_at terms.1
   lists ← lists_at target.1
   programs ← programs_at lists.1
-  Ok (call_of terms.0 target.0 lists.0 programs.0, programs.1)
+  Ok (call_of_groups terms.0 target.0 lists.0 programs.0, programs.1)
 
 -- the call that begins at a place, and the place behind it
 abbrev pub call_from : List ℕ → ℕ → Result (CallData × ℕ) CallDataFault

@@ -9,8 +9,8 @@ use Rattle.avm_call_codec.specs.CallReader.{call_front, call_from, call_at}
 abbrev pub IsAddress : Address → Type 0
 IsAddress who = length who.0 ≡ 32
 
-abbrev pub IsString : List ℕ → Type 0
-IsString s = length s < 2 ^ 16
+abbrev pub IsStringField : List ℕ → Type 0
+IsStringField s = length s < 2 ^ 16
 
 abbrev pub IsWord : ℕ → Type 0
 IsWord n = n < 2 ^ 64
@@ -21,18 +21,18 @@ pub record HasFields (c : CallData) : Type 0 where
   pub fee : IsWord c.fee
   pub first_valid : IsWord c.first_valid
   pub last_valid : IsWord c.last_valid
-  pub note : IsString c.note
+  pub note : IsStringField c.note
   pub lease : length c.lease ≡ 32
   pub rekey_to : IsAddress c.rekey_to
   pub application : IsWord c.application
   pub argument_count : length c.arguments < 256
-  pub arguments : All IsString c.arguments
+  pub arguments : All IsStringField c.arguments
   pub account_count : length c.accounts < 256
   pub accounts : All IsAddress c.accounts
   pub foreign_count : length c.foreign_applications < 256
   pub foreign_applications : All IsWord c.foreign_applications
-  pub approval : IsString c.approval
-  pub clear : IsString c.clear
+  pub approval : IsStringField c.approval
+  pub clear : IsStringField c.clear
   pub global_uints : c.global_schema.uints < 256
   pub global_strings : c.global_schema.bytes < 256
   pub local_uints : c.local_schema.uints < 256

@@ -1,12 +1,10 @@
 -- The bytes of a call, from which the reader is computed.
-use Rattle.std.specs.Prelude.{ℕ, List, [], ◌∷◌, ◌++◌, replicate}
+use Rattle.std.specs.Prelude.{ℕ, List, [], ◌∷◌, ◌++◌}
 use Rattle.teal_value.specs.declared.address.Address.{Address}
 use Rattle.avm_states.specs.Schemas.{no_entries}
+use Rattle.avm_ledger.specs.WorkedLedgers.{zeros}
 use Rattle.avm_items.specs.declared.call_data.Completion.TheVariants as completion
 use Rattle.avm_items.specs.declared.call_data.CallData.{CallData}
-
-abbrev pub zeros : ℕ → List ℕ
-zeros n = replicate n 0
 
 abbrev pub nobody : Address
 nobody = record { 0 = zeros 32 }

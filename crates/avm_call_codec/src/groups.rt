@@ -1,7 +1,7 @@
 //! The fields of a call in four groups, as they stand one after another in its bytes.
 
 ghost use Rattle.std.specs.Prelude.{◌≡◌};
-ghost use Rattle.avm_call_codec.specs.CallReader.{call_of};
+ghost use Rattle.avm_call_codec.specs.CallReader.{call_of_groups};
 
 use avm_items::{Addresses, CallData, Completion};
 use avm_states::Schema;
@@ -44,16 +44,22 @@ pub(crate) struct Programs {
 }
 
 /// The call of these fields.
-pub(crate) fn call_of(terms: Terms, target: Target, lists: Lists, programs: Programs) -> CallData
-    ensures { result ≡ call_of terms target lists programs }
+pub(crate) fn call_of_groups(
+    terms: Terms,
+    target: Target,
+    lists: Lists,
+    programs: Programs,
+) -> CallData
+    ensures { result ≡ call_of_groups terms target lists programs }
 {
+    let lease = target.lease;
     CallData {
         sender: terms.sender,
         fee: terms.fee,
         first_valid: terms.first_valid,
         last_valid: terms.last_valid,
         note: terms.note,
-        lease: target.lease,
+        lease,
         rekey_to: target.rekey_to,
         application: target.application,
         completion: target.completion,

@@ -7,7 +7,7 @@ ghost use Rattle.avm_call_codec.specs.declared.call_data_fault.CallDataFault.The
 ghost use Rattle.avm_call_codec.specs.CallReader.{call_at, call_front, completion_at, lists_at, programs_at, target_at, terms_at};
 
 use crate::call_data_fault::{CallDataError, CallDataFault};
-use crate::groups::{Lists, Programs, Target, Terms, call_of};
+use crate::groups::{Lists, Programs, Target, Terms, call_of_groups};
 use avm_items::{Addresses, CallData, Completion};
 use avm_ledger::Fields;
 use std::alloc::Global;
@@ -35,7 +35,7 @@ pub(crate) fn front_of(
     let (target, rest) = target_of(rest)?;
     let (lists, rest) = lists_of(alloc, rest)?;
     let (programs, rest) = programs_of(alloc, rest)?;
-    Ok((call_of(terms, target, lists, programs), rest))
+    Ok((call_of_groups(terms, target, lists, programs), rest))
 }
 
 fn terms_of(alloc: Global, fields: Fields<'_>) -> Result<(Terms, Fields<'_>), CallDataError>

@@ -1,10 +1,11 @@
 //! The laws of a call's bytes, each the contract of a function without work.
 
 ghost use Rattle.std.specs.Prelude.{◌≡◌, ◌∷◌, ◌++◌, [], Ok, Err};
+ghost use Rattle.avm_ledger.specs.WorkedLedgers.{zeros};
 ghost use Rattle.avm_call_codec.specs.declared.call_data_fault.CallDataFault.TheVariants.{Field, Truncated, Rest};
 ghost use Rattle.avm_call_codec.specs.CallSpelling.{call_bytes};
 ghost use Rattle.avm_call_codec.specs.CallReader.{call_at, call_from};
-ghost use Rattle.avm_call_codec.specs.WorkedCallBytes.{behind_completion, up_to_completion, worked_call, zeros};
+ghost use Rattle.avm_call_codec.specs.WorkedCallBytes.{behind_completion, up_to_completion, worked_call};
 ghost use Rattle.avm_call_codec.specs.CallRoundTrip.{NoneBeginsAnother, ReadsBack, ReadsBackAlone, ReadsBackAtAPlace, SpellsBack, SpellsBackAlone, SpellsBackAtAPlace};
 
 /// A call is read from its bytes.

@@ -9,7 +9,7 @@ use Rattle.avm_items.specs.declared.item.Item.{Item}
 use Rattle.avm_items.specs.Items.{Look, value_in, with_item}
 use Rattle.avm_items.specs.Asks.{result_over}
 use Rattle.avm_items.specs.LedgerItems.{at}
-use Rattle.avm_items.specs.Locality.{Agrees}
+use Rattle.avm_items.specs.Locality.{LookAgrees}
 use Rattle.avm_items.proofs.Questions.{result_on_ledger, result_over-and_then}
 use Rattle.avm_call.specs.declared.outcome.Ended.{Ended}
 use Rattle.avm_call.specs.declared.outcome.Outcome.{Outcome}
@@ -20,13 +20,13 @@ use Rattle.avm_call.specs.CallPaths.{call_path, path_of_row, path_of_target}
 use Rattle.avm_call.specs.Ends.{most_items}
 use Rattle.avm_run.specs.declared.call_run.Step.TheVariants as step
 use Rattle.avm_run.specs.Advances.{AsksFor, MakesStep, Steps}
-use Rattle.avm_run.specs.Progress.{HasNoStep, HasStep, IsOutcomeAt, next_step}
+use Rattle.avm_run.specs.Progress.{HasNoStep, HasStep, IsOutcomeAt, next_step_number}
 use Rattle.avm_run.specs.Results.{CallRecord}
 use Rattle.avm_run.specs.RunState.{Progress}
 use Rattle.avm_debug.specs.declared.opening.Begun.{Begun}
 use Rattle.avm_debug.specs.declared.opening.Begun.TheVariants as begun
-use Rattle.avm_debug.specs.DebugRuns.{IsKept, seen}
-use Rattle.avm_debug.specs.Opening.{HasNoProgram, HasProgram, row_of}
+use Rattle.avm_debug.specs.DebugRuns.{IsKeptDebug, seen}
+use Rattle.avm_debug.specs.Opening.{HasNoProgram, HasProgram, row_of_target}
 use Rattle.avm_debug.specs.Starting.{Begins, HasBegun, HasNothing, IsAtTests, StartsOver}
 use Rattle.avm_debug.specs.Stepping.{reads_in, supplied}
 use Rattle.avm_items.proofs.OneMore.{agrees_after, one_longer}
@@ -54,7 +54,7 @@ next_by l old asking now p x s asks is =
         same_call = ap (λ (q : Progress). q.call) (sym same) ∙ s.same_call;
         same_header = ap (λ (q : Progress). q.header) (sym same) ∙ s.same_header;
         tests = ap (λ (q : Progress). q.steps) (sym same) ∙ s.tests;
-        agrees = agrees_after p.reads x (at l x) (at l) refl (subst (λ (q : Progress). Agrees (value_in q.reads) (at l)) same s.agrees);
+        agrees = agrees_after p.reads x (at l x) (at l) refl (subst (λ (q : Progress). LookAgrees (value_in q.reads) (at l)) same s.agrees);
       };
       few = asks.few;
       longer = ap (λ r. length (reads_in r)) now_is ∙ one_longer p.reads x (at l x) asks.not_supplied;
@@ -73,13 +73,13 @@ begun_by l old now p s step =
     record {
       first = s.first;
       was = s.was;
-      here = record { call = p.call; header = p.header; reads = p.reads; asked = None; steps = Some (next_step p.steps) };
+      here = record { call = p.call; header = p.header; reads = p.reads; asked = None; steps = Some (next_step_number p.steps) };
       is = step.now;
       same_call = ap (λ (q : Progress). q.call) (sym same) ∙ s.same_call;
       same_header = ap (λ (q : Progress). q.header) (sym same) ∙ s.same_header;
-      counted = ap (λ n. Some (next_step n)) none;
-      agrees = subst (λ (q : Progress). Agrees (value_in q.reads) (at l)) same s.agrees;
-      there = subst (λ n. HasStep p.call p.header p.reads (next_step n)) none step.there;
+      counted = ap (λ n. Some (next_step_number n)) none;
+      agrees = subst (λ (q : Progress). LookAgrees (value_in q.reads) (at l)) same s.agrees;
+      there = subst (λ n. HasStep p.call p.header p.reads (next_step_number n)) none step.there;
     }
 
 pub program_begun : (l : Ledger) (old here now : Option Progress) (b : Begun) → StartsOver l old here → Begins here now b → b ≡ begun.Program → HasBegun l old now
@@ -95,14 +95,14 @@ none_by_row : (look : Look) (call : CallData) (header : Header) (id : ℕ) (o : 
 none_by_row look call header id o (Some row) at_end = absurd at_end
 none_by_row look call header id o None at_end = refl
 
-none_by : (look : Look) (call : CallData) (header : Header) (o : Outcome) (t : Result Target Why) → IsOutcomeAt call.completion o (result_over look (path_of_target call header 0 t)) → row_of t ≡ None
+none_by : (look : Look) (call : CallData) (header : Header) (o : Outcome) (t : Result Target Why) → IsOutcomeAt call.completion o (result_over look (path_of_target call header 0 t)) → row_of_target t ≡ None
 none_by look call header o (Ok t) at_end = none_by_row look call header t.id o t.row at_end
 none_by look call header o (Err w) at_end = refl
 
 nothing_by : (l : Ledger) (old : Option Progress) (p : Progress) (o : Outcome) → StartsOver l old (Some p) → HasNoStep p.call p.header p.reads 0 o → HasNothing l old
 nothing_by l old p o s none =
     let same : s.here ≡ p = same_run (sym s.is) in
-    let agrees = subst (λ (q : Progress). Agrees (value_in q.reads) (at l)) same s.agrees in
+    let agrees = subst (λ (q : Progress). LookAgrees (value_in q.reads) (at l)) same s.agrees in
     let call : p.call ≡ s.first.call = ap (λ (q : Progress). q.call) (sym same) ∙ s.same_call in
     let reached = result_on_ledger (value_in p.reads) (at l) (call_path p.call p.header 0) none.reached agrees none.last in
     record {
@@ -122,16 +122,16 @@ runs_by_row : (look : Look) (call : CallData) (header : Header) (id : ℕ) (r : 
 runs_by_row look call header id r (Some row) is = refl
 runs_by_row look call header id r None is = absurd cc
 
-runs_by : (look : Look) (call : CallData) (header : Header) (r : Position × Option Ended) (t : Result Target Why) → result_over look (path_of_target call header 0 t) ≡ Some r → IsSome (row_of t)
+runs_by : (look : Look) (call : CallData) (header : Header) (r : Position × Option Ended) (t : Result Target Why) → result_over look (path_of_target call header 0 t) ≡ Some r → IsSome (row_of_target t)
 runs_by look call header r (Ok t) is = runs_by_row look call header t.id r t.row is
 runs_by look call header r (Err w) is = absurd cc
 
 pub record Opened (l : Ledger) (call : CallData) (header : Header) (now : Option Progress) : Type 0 where
-  pub kept : IsKept l None (Some now)
+  pub kept : IsKeptDebug l None (Some now)
   pub is : seen l None (Some now) ≡ Some (record { ledger = l; call = call; header = header; steps = 0; fault = None })
   pub program : HasProgram l call
 
-opened_by : (l : Ledger) (call : CallData) (header : Header) (p : Progress) → p.call ≡ call → p.header ≡ header → p.steps ≡ Some 0 → Agrees (value_in p.reads) (at l) → HasStep p.call p.header p.reads 0 → Opened l call header (Some p)
+opened_by : (l : Ledger) (call : CallData) (header : Header) (p : Progress) → p.call ≡ call → p.header ≡ header → p.steps ≡ Some 0 → LookAgrees (value_in p.reads) (at l) → HasStep p.call p.header p.reads 0 → Opened l call header (Some p)
 opened_by l call header p same_call same_header counted agrees there =
     let reached = result_on_ledger (value_in p.reads) (at l) (call_path p.call p.header 0) _ agrees there.comes in
     record {
@@ -151,7 +151,7 @@ opened l call header old now start b =
 
 -- ---- the run of a call before its tests
 
-none_agrees : (l : Ledger) → Agrees (value_in []) (at l)
+none_agrees : (l : Ledger) → LookAgrees (value_in []) (at l)
 none_agrees l = record { at = λ x v e. absurd cc }
 
 pub starts_at_first : (l : Ledger) (call : CallData) (header : Header) (run : Option Progress) → run ≡ Some (first_run call header) → StartsOver l run run
@@ -171,5 +171,5 @@ nothing_opened l call header old start n = subst (λ c. HasNoProgram l c) (ap (�
 
 -- a run at its tests whose call ends with the next step has no program
 pub ends_at_tests : (old after : Option Progress) (f : CallRecord) → IsAtTests old → Steps old after (Ok (step.Done f)) → Begins old after begun.Nothing
-ends_at_tests (Some p) after f tests done = (f.outcome, subst (λ s. HasNoStep p.call p.header p.reads (next_step s) f.outcome) done.2 done.1)
+ends_at_tests (Some p) after f tests done = (f.outcome, subst (λ s. HasNoStep p.call p.header p.reads (next_step_number s) f.outcome) done.2 done.1)
 ends_at_tests None after f tests done = absurd tests

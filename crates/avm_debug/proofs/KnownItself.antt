@@ -13,8 +13,7 @@ use Rattle.avm_items.specs.declared.item.Item.{Item}
 use Rattle.avm_items.specs.declared.item.Item.TheVariants as item
 use Rattle.avm_items.specs.declared.item_value.ItemValue.{ItemValue}
 use Rattle.avm_items.specs.declared.item_value.ItemValue.TheVariants as value
-use Rattle.avm_items.specs.Items.{ItemMap, Known, Look, application_in, key_value, local_state_in, value_in, with_item}
-use Rattle.avm_items.specs.Items as items
+use Rattle.avm_items.specs.Items.{ItemMap, Known, Look, application_in, key_value, local_state_in, value_in, with_item, kept_counts_in}
 use Rattle.avm_items.specs.CallFields.{account}
 use Rattle.avm_items.specs.Asks.{Ask, Gives, Asks, remaining_at, remaining_questions, result_over}
 use Rattle.avm_items.specs.Counting.{AsksAtMost, Any}
@@ -51,15 +50,15 @@ put_keeps c key v old false = (
   λ counts _. (
     omega arith,
     λ limit _.
-        then_test 0 (Keeps c) (is_within (counts_after old (Some v) (unwrap_or (items.counts_in counts) no_entries)) (schema_in (λ row. row.global_schema) (application_in limit))) fault.Schema _
-        (two_known c.writes (item.Key c.current key) (item.Counts c.current) (key_value (Some v)) (value.Counts (counts_after old (Some v) (unwrap_or (items.counts_in counts) no_entries)))),
+        then_test 0 (Keeps c) (is_within (counts_after old (Some v) (unwrap_or (kept_counts_in counts) no_entries)) (schema_in (λ row. row.global_schema) (application_in limit))) fault.Schema _
+        (two_known c.writes (item.Key c.current key) (item.Counts c.current) (key_value (Some v)) (value.Counts (counts_after old (Some v) (unwrap_or (kept_counts_in counts) no_entries)))),
   ),
 )
 
 delete_keeps : (c : Context) (key : List ℕ) (old : Option Value) → Row 2 (Keeps c) (global_delete_of c key old)
 delete_keeps c key None = λ x none. none
 delete_keeps c key (Some v) =
-    (omega arith, λ counts _. two_known c.writes (item.Key c.current key) (item.Counts c.current) (key_value None) (value.Counts (count_without v (unwrap_or (items.counts_in counts) no_entries))))
+    (omega arith, λ counts _. two_known c.writes (item.Key c.current key) (item.Counts c.current) (key_value None) (value.Counts (count_without v (unwrap_or (kept_counts_in counts) no_entries))))
 
 same_keeps : (c : Context) (r : Stepped) → OnOk (Same c) r → OnOk (Keeps c) r
 same_keeps c (Ok after) h = λ x none. sym (ap (λ w. value_in w x) h) ∙ none

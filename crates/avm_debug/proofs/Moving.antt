@@ -11,19 +11,19 @@ use Rattle.avm_items.specs.declared.item.Item.{Item}
 use Rattle.avm_items.specs.Items.{ItemMap, value_in}
 use Rattle.avm_items.specs.Asks.{result_over}
 use Rattle.avm_items.specs.LedgerItems.{at}
-use Rattle.avm_items.specs.Locality.{Agrees}
+use Rattle.avm_items.specs.Locality.{LookAgrees}
 use Rattle.avm_items.proofs.Questions.{result_on_ledger}
 use Rattle.avm_call.specs.declared.outcome.Ended.TheVariants as ended
 use Rattle.avm_call.specs.Runs.{Position}
 use Rattle.avm_call.specs.Calls.{program_of}
 use Rattle.avm_call.specs.CallPaths.{Reached, call_path}
 use Rattle.avm_call.specs.Views.{AtEnd, Faults, NextStep, Runs, View}
-use Rattle.avm_run.specs.Progress.{EndsPath, HasStep, next_step}
+use Rattle.avm_run.specs.Progress.{EndsPath, HasStep, next_step_number}
 use Rattle.avm_run.specs.RunState.{Progress}
 use Rattle.avm_run.specs.Showing.{ComesNext, ShowsPath, Sight}
 use Rattle.avm_debug.specs.declared.faults.StepFault.TheVariants as stop
 use Rattle.avm_debug.specs.Debugging.{Debugged, next_shown}
-use Rattle.avm_debug.specs.DebugRuns.{HasFaulted, IsDebugged, IsKept, seen}
+use Rattle.avm_debug.specs.DebugRuns.{HasFaulted, IsDebugged, IsKeptDebug, seen}
 use Rattle.avm_debug.specs.DebugSteps.{IsBeforeInstruction, StepsTo}
 use Rattle.avm_debug.specs.Stepping.{ComesNextBy, GoesOnOver, IsLeft, LeadsBy, LeadsTo, ShowsNext, StandsBefore}
 use Rattle.avm_debug.proofs.OnlyFaults.{inside_there}
@@ -64,13 +64,13 @@ fault_only l call header steps f h = no_instruction (next_shown (debugged l call
 -- ---- a step that is made
 
 record Stepped (l : Ledger) (old now : Option Progress) (fault : Option Fault) : Type 0 where
-  pub kept : IsKept l fault (Some now)
+  pub kept : IsKeptDebug l fault (Some now)
   pub steps : StepsTo (seen l None (Some old)) (seen l fault (Some now)) (Ok tt)
 
 abbrev run_at : CallData → Header → ItemMap → Option Item → ℕ → Progress
 run_at call header reads asked steps = record { call = call; header = header; reads = reads; asked = asked; steps = Some steps }
 
-moved : (l : Ledger) (call : CallData) (header : Header) (reads more : ItemMap) (asked asks : Option Item) (steps : ℕ) (s : Sight) → ShowsOver l call header steps s → is_some s.instruction ≡ true → Agrees (value_in more) (at l)
+moved : (l : Ledger) (call : CallData) (header : Header) (reads more : ItemMap) (asked asks : Option Item) (steps : ℕ) (s : Sight) → ShowsOver l call header steps s → is_some s.instruction ≡ true → LookAgrees (value_in more) (at l)
     → HasStep call header more (steps + 1) → Stepped l (Some (run_at call header reads asked steps)) (Some (run_at call header more asks (steps + 1))) None
 moved l call header reads more asked asks steps s o left agrees there = record {
   kept = record { steps = steps + 1; counted = refl; agrees = agrees; faulted = tt };
@@ -90,7 +90,7 @@ inside_by : (program : List ℕ) (place : ℕ) (o : Option Instr) → is_some o 
 inside_by program place (Some i) left (next, there) = inside_there program place i next there
 inside_by program place None left next = absurd cc
 
-faulted : (l : Ledger) (call : CallData) (header : Header) (reads more : ItemMap) (asked asks : Option Item) (steps : ℕ) (s : Sight) (f : Fault) (place : ℕ) → ShowsOver l call header steps s → is_some s.instruction ≡ true → Agrees (value_in more) (at l)
+faulted : (l : Ledger) (call : CallData) (header : Header) (reads more : ItemMap) (asked asks : Option Item) (steps : ℕ) (s : Sight) (f : Fault) (place : ℕ) → ShowsOver l call header steps s → is_some s.instruction ≡ true → LookAgrees (value_in more) (at l)
     → EndsPath call header more (Some steps) (ended.Faulted f place) → Stepped l (Some (run_at call header reads asked steps)) (Some (run_at call header more asks steps)) (Some f)
 faulted l call header reads more asked asks steps s f place o left agrees ends =
     let p = position_of s o.passed in
@@ -138,10 +138,10 @@ parts : (p : Progress) (call : CallData) (header : Header) (steps : ℕ) → p.c
 parts p call header steps c h n = λ i. record { call = c i; header = h i; reads = p.reads; asked = p.asked; steps = n i }
 
 led : (l : Ledger) (p here : Progress) (steps : ℕ) (s : Sight) (fault : Option Fault) → p.steps ≡ Some steps → ShowsOver l p.call p.header steps s → is_some s.instruction ≡ true
-    → here.call ≡ p.call → here.header ≡ p.header → Agrees (value_in here.reads) (at l) → LeadsBy p here fault → Stepped l (Some p) (Some here) fault
+    → here.call ≡ p.call → here.header ≡ p.header → LookAgrees (value_in here.reads) (at l) → LeadsBy p here fault → Stepped l (Some p) (Some here) fault
 led l p here steps s None counted o left call header agrees (next, there) =
-    let is_next : here.steps ≡ Some (steps + 1) = next ∙ ap (λ n. Some (next_step n)) counted in
-    let has : HasStep p.call p.header here.reads (steps + 1) = subst (λ (n : ℕ). HasStep p.call p.header here.reads n) (ap next_step counted) (subst (λ (h : Header). HasStep p.call h here.reads (next_step p.steps)) header (subst (λ (c : CallData). HasStep c here.header here.reads (next_step p.steps)) call there)) in
+    let is_next : here.steps ≡ Some (steps + 1) = next ∙ ap (λ n. Some (next_step_number n)) counted in
+    let has : HasStep p.call p.header here.reads (steps + 1) = subst (λ (n : ℕ). HasStep p.call p.header here.reads n) (ap next_step_number counted) (subst (λ (h : Header). HasStep p.call h here.reads (next_step_number p.steps)) header (subst (λ (c : CallData). HasStep c here.header here.reads (next_step_number p.steps)) call there)) in
     subst (λ q. Stepped l (Some q) (Some here) None) (sym (parts p p.call p.header steps refl refl counted))
     (subst (λ q. Stepped l (Some (run_at p.call p.header p.reads p.asked steps)) (Some q) None) (sym (parts here p.call p.header (steps + 1) call header is_next))
     (moved l p.call p.header p.reads here.reads p.asked here.asked steps s o left agrees has))
@@ -169,7 +169,7 @@ seen_run l fault p steps counted = ap (λ q. seen l fault (Some (Some q))) (part
 pub record ComesNextOver (l : Ledger) (fault : Option Fault) (run : Option Progress) : Type 0 where
   pub goes_on : GoesOnOver l run run
   pub refused : StepsTo (seen l fault (Some run)) None (Err failure.Memory)
-  pub made : (now : Option Progress) (f : Option Fault) → LeadsTo l run now f → IsKept l f (Some now) × StepsTo (seen l fault (Some run)) (seen l f (Some now)) (Ok tt)
+  pub made : (now : Option Progress) (f : Option Fault) → LeadsTo l run now f → IsKeptDebug l f (Some now) × StepsTo (seen l fault (Some run)) (seen l f (Some now)) (Ok tt)
 
 comes_by : (l : Ledger) (p : Progress) → IsDebugged l None p → IsLeft (Some p) true → ComesNextOver l None (Some p)
 comes_by l p d left =
@@ -182,12 +182,12 @@ comes_by l p d left =
           let first : t.first ≡ p = same_run (sym t.was) in
           let leads : LeadsBy p t.here f = subst (λ q. LeadsBy q t.here f) first t.leads in
           let one = led l p t.here d.steps s.0 f d.counted o s.2 (t.same_call ∙ ap (λ (q : Progress). q.call) first) (t.same_header ∙ ap (λ (q : Progress). q.header) first) t.agrees leads in (
-            subst (λ m. IsKept l f (Some m)) (sym t.is) one.kept,
+            subst (λ m. IsKeptDebug l f (Some m)) (sym t.is) one.kept,
             subst (λ m. StepsTo (seen l None (Some (Some p))) (seen l f (Some m)) (Ok tt)) (sym t.is) one.steps,
           );
     }
 
-pub comes_over : (l : Ledger) (fault : Option Fault) (run : Option Progress) → IsKept l fault (Some run) → ComesNextBy fault run true → ComesNextOver l fault run
+pub comes_over : (l : Ledger) (fault : Option Fault) (run : Option Progress) → IsKeptDebug l fault (Some run) → ComesNextBy fault run true → ComesNextOver l fault run
 comes_over l fault None kept comes = absurd kept
 comes_over l (Some f) (Some p) kept comes = absurd cc
 comes_over l None (Some p) kept comes = comes_by l p kept comes
@@ -200,7 +200,7 @@ ends_by l None p d comes =
     end_only (next_shown (debugged l p.call p.header d.steps None)) s.0.instruction s.2
     (next_over l p.call p.header d.steps s.0 (shows_over l p.call p.header p.reads d.steps s.0 d.agrees s.1))
 
-pub ends_over : (l : Ledger) (fault : Option Fault) (run : Option Progress) → IsKept l fault (Some run) → ComesNextBy fault run false → StepsTo (seen l fault (Some run)) (seen l fault (Some run)) (Err (failure.Fault stop.Ended))
+pub ends_over : (l : Ledger) (fault : Option Fault) (run : Option Progress) → IsKeptDebug l fault (Some run) → ComesNextBy fault run false → StepsTo (seen l fault (Some run)) (seen l fault (Some run)) (Err (failure.Fault stop.Ended))
 ends_over l fault None kept comes = absurd kept
 ends_over l fault (Some p) kept comes =
     subst (λ m. StepsTo m m (Err (failure.Fault stop.Ended))) (sym (seen_run l fault p kept.steps kept.counted)) (ends_by l fault p kept comes, refl)

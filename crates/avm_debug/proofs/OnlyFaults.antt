@@ -7,7 +7,7 @@ use Rattle.avm_items.specs.declared.item_value.ItemValue.TheVariants as value
 use Rattle.avm_items.specs.Items.{ItemMap, Known, Look, value_in}
 use Rattle.avm_items.specs.LedgerItems.{value_before}
 use Rattle.avm_items.specs.Asks.{Gives, remaining_questions, result_over}
-use Rattle.avm_items.specs.Locality.{Agrees}
+use Rattle.avm_items.specs.Locality.{LookAgrees}
 use Rattle.avm_items.proofs.Questions.{result_on_ledger, result_over-and_then}
 use Rattle.avm_ops.specs.Frame.{Stepped}
 use Rattle.avm_ops.specs.Effect.{effect}
@@ -67,7 +67,7 @@ path_faults look e writes n p q (Some i) end left next here ends =
 -- ---- over the items supplied
 
 -- what was not supplied counts as absent
-has_reads : (known : Known) → Agrees known (value_before known)
+has_reads : (known : Known) → LookAgrees known (value_before known)
 has_reads known = record { at = λ x v is. ap (λ o. unwrap_or o value.Absent) is }
 
 same_number : {n m : ℕ} → Some n ≡ Some m → n ≡ m

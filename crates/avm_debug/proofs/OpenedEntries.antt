@@ -12,11 +12,11 @@ use Rattle.avm_replay.specs.Past.{ledger_until}
 use Rattle.avm_debug.specs.declared.faults.OpenFault.{OpenFault}
 use Rattle.avm_debug.specs.declared.faults.OpenFault.TheVariants as fault
 use Rattle.avm_debug.specs.Debugging.{Debugged}
-use Rattle.avm_debug.specs.Opening.{HasNoProgram, HasProgram, IsOpenRefusal, IsOpened, IsStartRefusal, entry_at}
+use Rattle.avm_debug.specs.Opening.{HasNoProgram, HasProgram, IsDebugRefusal, IsOpened, IsStartRefusal, entry_numbered}
 
 -- the entry of the block, and the ledger that its call met
 pub record IsMet (base : Ledger) (b : Block) (number : ℕ) (e : Entry) (l : Ledger) (header : Header) : Type 0 where
-  pub there : entry_at b.entries number ≡ Some e
+  pub there : entry_numbered b.entries number ≡ Some e
   pub same_base : b.base ≡ ledger_digest base
   pub before : l ≡ ledger_until base b (e.timestamp - 1)
   pub same_header : header ≡ b.header
@@ -40,9 +40,9 @@ some_there (Some d) e is = refl
 some_there None e is = absurd cc
 
 pub refuses_met : (base : Ledger) (b : Block) (number : ℕ) (e : Entry) (l : Ledger) (header : Header) (r : Result (Option Debugged) (Failure OpenFault)) → IsMet base b number e l header
-    → IfErr r (IsStartRefusal l e.call) → IfErr r (IsOpenRefusal base b number)
+    → IfErr r (IsStartRefusal l e.call) → IfErr r (IsDebugRefusal base b number)
 refuses_met base b number e l header (Ok d) met refused = tt
-refuses_met base b number e l header (Err failure.Memory) met refused = some_there (entry_at b.entries number) e met.there
+refuses_met base b number e l header (Err failure.Memory) met refused = some_there (entry_numbered b.entries number) e met.there
 refuses_met base b number e l header (Err (failure.Fault fault.NoProgram)) met refused = record {
   entry = e;
   there = met.there;

@@ -25,7 +25,7 @@ use Rattle.avm_debug.specs.Changes.{global_entries, local_changes_along}
 use Rattle.avm_debug.specs.Scratch.{set_places}
 use Rattle.avm_debug.specs.Starting.{HasBegun}
 use Rattle.avm_debug.specs.Debugging.{debug_view, steps_shown}
-use Rattle.avm_debug.specs.DebugRuns.{ArePrepared, FaultIs, IsDebugged, IsPreparedFor, IsKept, seen, steps_made}
+use Rattle.avm_debug.specs.DebugRuns.{ArePrepared, FaultIs, IsDebugged, IsPreparedFor, IsKeptDebug, seen, steps_made}
 use Rattle.avm_debug.specs.Shown.{IsShown, next_by, view_by, view_seen}
 use Rattle.avm_debug.specs.Stepping.{LeadsTo, ShowsWrites, WritesAt}
 use Rattle.avm_debug.proofs.PathSteps.{path_there}
@@ -121,7 +121,7 @@ pub record KeptShows (l : Ledger) (fault : Option Fault) (run : Option Progress)
 shows_there : (call : CallData) (header : Header) (reads : ItemMap) (steps : Option ℕ) (n : ℕ) (s : Shown) → steps ≡ Some n → ShowsAt call header reads steps (Some s) → ShowsPath call header reads n (sight_of s)
 shows_there call header reads steps n s counted shows = subst (λ m. ShowsAt call header reads m (Some s)) counted shows
 
-pub kept_shows : (l : Ledger) (fault : Option Fault) (run : Option Progress) (o : Option Shown) (s : Shown) → IsKept l fault (Some run) → Shows run o → o ≡ Some s → KeptShows l fault run (sight_of s)
+pub kept_shows : (l : Ledger) (fault : Option Fault) (run : Option Progress) (o : Option Shown) (s : Shown) → IsKeptDebug l fault (Some run) → Shows run o → o ≡ Some s → KeptShows l fault run (sight_of s)
 kept_shows l fault None o s kept shows is = absurd kept
 kept_shows l fault (Some p) o s kept shows is = record {
   progress = p;
@@ -130,7 +130,7 @@ kept_shows l fault (Some p) o s kept shows is = record {
   over = shows_over l p.call p.header p.reads kept.steps (sight_of s) kept.agrees (shows_there p.call p.header p.reads p.steps kept.steps s kept.counted (subst (λ m. Shows (Some p) m) is shows));
 }
 
-pub always_shows : (l : Ledger) (fault : Option Fault) (run : Option Progress) (o : Option Shown) → IsKept l fault (Some run) → Shows run o → o ≡ None → ⊥
+pub always_shows : (l : Ledger) (fault : Option Fault) (run : Option Progress) (o : Option Shown) → IsKeptDebug l fault (Some run) → Shows run o → o ≡ None → ⊥
 always_shows l fault None o kept shows is = kept
 always_shows l fault (Some p) o kept shows is = subst (λ n. ShowsAt p.call p.header p.reads n None) kept.counted (subst (λ m. Shows (Some p) m) is shows)
 

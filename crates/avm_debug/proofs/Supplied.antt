@@ -6,7 +6,7 @@ use Rattle.avm_items.specs.declared.call_data.CallData.{CallData}
 use Rattle.avm_items.specs.declared.item.Item.{Item}
 use Rattle.avm_items.specs.Items.{ItemMap, value_in, with_item}
 use Rattle.avm_items.specs.LedgerItems.{at}
-use Rattle.avm_items.specs.Locality.{Agrees, Extends}
+use Rattle.avm_items.specs.Locality.{LookAgrees, Extends}
 use Rattle.avm_items.proofs.Questions.{result_with_more}
 use Rattle.avm_call.specs.Calls.{admitted}
 use Rattle.avm_call.specs.CallPaths.{call_path}
@@ -45,7 +45,7 @@ supplied_goes_on l old asking now here x g asks is =
       same_call = ap (λ p. p.call) same ∙ g.same_call;
       same_header = ap (λ p. p.header) same ∙ g.same_header;
       same_steps = ap (λ p. p.steps) same ∙ g.same_steps;
-      agrees = agrees_after here.reads x v (at l) refl (subst (λ (p : Progress). Agrees (value_in p.reads) (at l)) (sym same) g.agrees);
+      agrees = agrees_after here.reads x v (at l) refl (subst (λ (p : Progress). LookAgrees (value_in p.reads) (at l)) (sym same) g.agrees);
       before = record {
         steps = before.steps;
         counted = before.counted;

@@ -11,7 +11,7 @@ use Rattle.avm_items.specs.declared.call_data.CallData.{CallData}
 use Rattle.avm_items.specs.Items.{ItemMap, value_in}
 use Rattle.avm_items.specs.Asks.{result_over}
 use Rattle.avm_items.specs.LedgerItems.{at, put}
-use Rattle.avm_items.specs.Locality.{Agrees}
+use Rattle.avm_items.specs.Locality.{LookAgrees}
 use Rattle.avm_items.proofs.Questions.{result_on_ledger}
 use Rattle.avm_call.specs.declared.outcome.Ended.{Ended}
 use Rattle.avm_call.specs.declared.outcome.Ended.TheVariants as ended
@@ -77,7 +77,7 @@ pub record ShowsOver (l : Ledger) (call : CallData) (header : Header) (steps : �
   pub strings : s.machine.byte_constants ≡ byte_constants_at (program_of call.completion row) passed
   pub next : ComesNext (program_of call.completion row) s.place s.instruction
 
-pub shows_over : (l : Ledger) (call : CallData) (header : Header) (reads : ItemMap) (steps : ℕ) (s : Sight) → Agrees (value_in reads) (at l) → ShowsPath call header reads steps s → ShowsOver l call header steps s
+pub shows_over : (l : Ledger) (call : CallData) (header : Header) (reads : ItemMap) (steps : ℕ) (s : Sight) → LookAgrees (value_in reads) (at l) → ShowsPath call header reads steps s → ShowsOver l call header steps s
 shows_over l call header reads steps s agrees shows = record {
   row = shows.row;
   passed = shows.passed;

@@ -8,7 +8,7 @@ use Rattle.avm_items.specs.declared.call_data.CallData.{CallData}
 use Rattle.avm_items.specs.Items.{ItemMap, value_in}
 use Rattle.avm_items.specs.Asks.{result_over}
 use Rattle.avm_items.specs.LedgerItems.{at}
-use Rattle.avm_items.specs.Locality.{Agrees}
+use Rattle.avm_items.specs.Locality.{LookAgrees}
 use Rattle.avm_call.specs.declared.outcome.Ended.TheVariants as ended
 use Rattle.avm_call.specs.Runs.{Position}
 use Rattle.avm_call.specs.Calls.{Target, admitted, prepared, program_of}
@@ -48,16 +48,16 @@ FaultIs l call header steps (Some f) = HasFaulted l call header steps f
 pub record IsDebugged (l : Ledger) (fault : Option Fault) (p : Progress) : Type 0 where
   pub steps : ℕ
   pub counted : p.steps ≡ Some steps
-  pub agrees : Agrees (value_in p.reads) (at l)
+  pub agrees : LookAgrees (value_in p.reads) (at l)
   pub faulted : FaultIs l p.call p.header steps fault
 
 abbrev pub IsKeptBy : Ledger → Option Fault → Option Progress → Type 0
 IsKeptBy l fault None = ⊥
 IsKeptBy l fault (Some p) = IsDebugged l fault p
 
-abbrev pub IsKept : Ledger → Option Fault → Option (Option Progress) → Type 0
-IsKept l fault None = Unit {0}
-IsKept l fault (Some run) = IsKeptBy l fault run
+abbrev pub IsKeptDebug : Ledger → Option Fault → Option (Option Progress) → Type 0
+IsKeptDebug l fault None = Unit {0}
+IsKeptDebug l fault (Some run) = IsKeptBy l fault run
 
 -- the items that are prepared for the program of the call
 abbrev pub ArePrepared : Ledger → CallData → ItemMap → Type 0

@@ -9,11 +9,11 @@ use Rattle.mv_history.specs.History.{IsRising}
 use Rattle.mv_calls.specs.CallHistory.{calls_made}
 use Rattle.mv_core.specs.Stores.{Store}
 use Rattle.avm_debug.specs.LiveOpening.{ledger_of_store, met_live}
-use Rattle.avm_debug.specs.Opening.{entry_at, ledger_before}
+use Rattle.avm_debug.specs.Opening.{entry_numbered, ledger_before}
 
 -- It is the ledger after the calls of the entries before that one, made one after another.
 abbrev pub LedgersBeforeAreReplays : Type 0
-LedgersBeforeAreReplays = (base : Ledger) (b : Block) (number : ℕ) (e : Entry) → RisesAbove 0 b.entries → entry_at b.entries number ≡ Some e
+LedgersBeforeAreReplays = (base : Ledger) (b : Block) (number : ℕ) (e : Entry) → RisesAbove 0 b.entries → entry_numbered b.entries number ≡ Some e
     → ledger_before base b e ≡ replayed base b.header (calls_in (take (number - 1) b.entries))
 
 -- The same of a store's committed calls.

@@ -18,20 +18,20 @@ use Rattle.avm_debug.specs.declared.faults.OpenFault.TheVariants as fault
 use Rattle.avm_debug.specs.Debugging.{Debugged}
 
 -- the entry of a number, counted from 1
-abbrev pub entry_at : List Entry → ℕ → Option Entry
-entry_at entries number = if number == 0 then None else slice_get entries (number - 1)
+abbrev pub entry_numbered : List Entry → ℕ → Option Entry
+entry_numbered entries number = if number == 0 then None else slice_get entries (number - 1)
 
 -- The ledger that an entry's call met: the entries before it have lower timestamps.
 abbrev pub ledger_before : Ledger → Block → Entry → Ledger
 ledger_before base b e = ledger_until base b (e.timestamp - 1)
 
 -- the application whose program runs
-abbrev pub row_of : Result Target Why → Option Application
-row_of (Ok t) = t.row
-row_of (Err w) = None
+abbrev pub row_of_target : Result Target Why → Option Application
+row_of_target (Ok t) = t.row
+row_of_target (Err w) = None
 
 abbrev pub program_row : Ledger → CallData → Option Application
-program_row l call = row_of (result_over (at l) (admitted call))
+program_row l call = row_of_target (result_over (at l) (admitted call))
 
 abbrev pub HasProgram : Ledger → CallData → Type 0
 HasProgram l call = IsSome (program_row l call)
@@ -43,24 +43,24 @@ HasNoProgram l call = program_row l call ≡ None
 -- It stands before the first instruction of the call's program.
 pub record IsOpened (base : Ledger) (b : Block) (number : ℕ) (d : Option Debugged) : Type 0 where
   pub entry : Entry
-  pub there : entry_at b.entries number ≡ Some entry
+  pub there : entry_numbered b.entries number ≡ Some entry
   pub same_base : b.base ≡ ledger_digest base
   pub program : HasProgram (ledger_before base b entry) entry.call
   pub now : d ≡ Some (record { ledger = ledger_before base b entry; call = entry.call; header = b.header; steps = 0; fault = None })
 
 pub record IsWithoutProgram (base : Ledger) (b : Block) (number : ℕ) : Type 0 where
   pub entry : Entry
-  pub there : entry_at b.entries number ≡ Some entry
+  pub there : entry_numbered b.entries number ≡ Some entry
   pub same_base : b.base ≡ ledger_digest base
   pub none : HasNoProgram (ledger_before base b entry) entry.call
 
 -- Why nothing is opened. Memory is asked for once the entry is found.
-abbrev pub IsOpenRefusal : Ledger → Block → ℕ → Failure OpenFault → Type 0
-IsOpenRefusal base b number (failure.Fault fault.NoEntry) = entry_at b.entries number ≡ None
-IsOpenRefusal base b number (failure.Fault fault.WrongBase) = IsSome (entry_at b.entries number) × (b.base ≢ ledger_digest base)
-IsOpenRefusal base b number (failure.Fault fault.NoProgram) = IsWithoutProgram base b number
-IsOpenRefusal base b number (failure.Fault fault.Pruned) = ⊥
-IsOpenRefusal base b number failure.Memory = IsSome (entry_at b.entries number)
+abbrev pub IsDebugRefusal : Ledger → Block → ℕ → Failure OpenFault → Type 0
+IsDebugRefusal base b number (failure.Fault fault.NoEntry) = entry_numbered b.entries number ≡ None
+IsDebugRefusal base b number (failure.Fault fault.WrongBase) = IsSome (entry_numbered b.entries number) × (b.base ≢ ledger_digest base)
+IsDebugRefusal base b number (failure.Fault fault.NoProgram) = IsWithoutProgram base b number
+IsDebugRefusal base b number (failure.Fault fault.Pruned) = ⊥
+IsDebugRefusal base b number failure.Memory = IsSome (entry_numbered b.entries number)
 
 -- ---- the parts of it
 

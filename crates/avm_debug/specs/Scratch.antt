@@ -10,13 +10,13 @@ is_set (index, Uint zero) = false
 is_set (index, Uint (suc n)) = true
 is_set (index, Bytes s) = true
 
-abbrev pub is_zero : Value → Bool
-is_zero (Uint zero) = true
-is_zero (Uint (suc n)) = false
-is_zero (Bytes s) = false
+abbrev pub is_zero_value : Value → Bool
+is_zero_value (Uint zero) = true
+is_zero_value (Uint (suc n)) = false
+is_zero_value (Bytes s) = false
 
 abbrev pub place_if_set : ℕ → Value → List (ℕ × Value)
-place_if_set index v = if is_zero v then [] else (index, v) ∷ []
+place_if_set index v = if is_zero_value v then [] else (index, v) ∷ []
 
 -- those from an index on
 abbrev pub set_places : ℕ → List Value → List (ℕ × Value)

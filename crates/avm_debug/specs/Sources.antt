@@ -9,7 +9,7 @@ use Rattle.avm_debug.specs.declared.source.Source.{Source}
 use Rattle.avm_debug.specs.declared.source.Source.TheVariants as source
 use Rattle.avm_debug.specs.Debugging.{Debugged}
 use Rattle.avm_debug.specs.LiveOpening.{IsLiveRefusal, IsOpenedLive, ledger_of_store}
-use Rattle.avm_debug.specs.Opening.{IsOpenRefusal, IsOpened}
+use Rattle.avm_debug.specs.Opening.{IsDebugRefusal, IsOpened}
 
 -- the ledger after the calls with timestamps up to this one
 abbrev pub past_ledger : Source → ℕ → Ledger
@@ -22,9 +22,9 @@ HasWrongBase (source.Block base block) = block.now.base ≢ ledger_digest base.n
 HasWrongBase (source.Live store) = ⊥
 
 -- the timestamp is below the store's low mark
-abbrev pub IsPruned : Source → ℕ → Type 0
-IsPruned (source.Block base block) timestamp = ⊥
-IsPruned (source.Live store) timestamp = timestamp < store.now.world.low
+abbrev pub IsPrunedSource : Source → ℕ → Type 0
+IsPrunedSource (source.Block base block) timestamp = ⊥
+IsPrunedSource (source.Live store) timestamp = timestamp < store.now.world.low
 
 -- the call of an entry stands before the first instruction of its program
 abbrev pub IsOpenedFrom : Source → ℕ → Option Debugged → Type 0
@@ -32,5 +32,5 @@ IsOpenedFrom (source.Block base block) number d = IsOpened base.now block.now nu
 IsOpenedFrom (source.Live store) number d = IsOpenedLive store.now number d
 
 abbrev pub IsRefusedFrom : Source → ℕ → Failure OpenFault → Type 0
-IsRefusedFrom (source.Block base block) number refusal = IsOpenRefusal base.now block.now number refusal
+IsRefusedFrom (source.Block base block) number refusal = IsDebugRefusal base.now block.now number refusal
 IsRefusedFrom (source.Live store) number refusal = IsLiveRefusal store.now number refusal

@@ -3,7 +3,7 @@ use Rattle.std.specs.Prelude.{◌≡◌, Bool, true, false, Option, Some, None}
 use Rattle.avm_ledger.specs.Ledgers.{Ledger}
 use Rattle.avm_items.specs.Items.{value_in}
 use Rattle.avm_items.specs.LedgerItems.{at}
-use Rattle.avm_items.specs.Locality.{Agrees}
+use Rattle.avm_items.specs.Locality.{LookAgrees}
 use Rattle.avm_call.specs.declared.outcome.Outcome.{Outcome}
 use Rattle.avm_run.specs.Advances.{AsksFor, MakesStep}
 use Rattle.avm_run.specs.Progress.{HasNoStep, HasStep}
@@ -32,7 +32,7 @@ pub record StartsOver (l : Ledger) (old now : Option Progress) : Type 0 where
   pub same_call : here.call ≡ first.call
   pub same_header : here.header ≡ first.header
   pub tests : here.steps ≡ None
-  pub agrees : Agrees (value_in here.reads) (at l)
+  pub agrees : LookAgrees (value_in here.reads) (at l)
 
 -- the run of the call stands before the first instruction of its program
 pub record HasBegun (l : Ledger) (old now : Option Progress) : Type 0 where
@@ -43,7 +43,7 @@ pub record HasBegun (l : Ledger) (old now : Option Progress) : Type 0 where
   pub same_call : here.call ≡ first.call
   pub same_header : here.header ≡ first.header
   pub counted : here.steps ≡ Some 0
-  pub agrees : Agrees (value_in here.reads) (at l)
+  pub agrees : LookAgrees (value_in here.reads) (at l)
   pub there : HasStep here.call here.header here.reads 0
 
 pub record HasNothing (l : Ledger) (old : Option Progress) : Type 0 where

@@ -7,10 +7,10 @@ use Rattle.avm_items.specs.declared.call_data.CallData.{CallData}
 use Rattle.avm_items.specs.declared.item.Item.{Item}
 use Rattle.avm_items.specs.Items.{ItemMap, value_in, with_item}
 use Rattle.avm_items.specs.LedgerItems.{at}
-use Rattle.avm_items.specs.Locality.{Agrees}
+use Rattle.avm_items.specs.Locality.{LookAgrees}
 use Rattle.avm_call.specs.declared.outcome.Ended.TheVariants as ended
 use Rattle.avm_run.specs.Advances.{AsksFor, Ends, MakesStep}
-use Rattle.avm_run.specs.Progress.{EndsPath, HasStep, next_step}
+use Rattle.avm_run.specs.Progress.{EndsPath, HasStep, next_step_number}
 use Rattle.avm_run.specs.RunState.{Progress}
 use Rattle.avm_run.specs.Showing.{ShowsPath, Sight}
 use Rattle.avm_debug.specs.declared.stepping.Went.{Went}
@@ -62,9 +62,9 @@ Goes (Some p) after (went.Faulted f) = (place : ℕ) × Ends p after (ended.Faul
 Goes None after _ = ⊥
 
 -- an item that was asked for is supplied with the ledger's value
-abbrev pub Asked : Option Progress → Item → Type 0
-Asked None x = ⊥
-Asked (Some p) x = p.asked ≡ Some x
+abbrev pub WasAsked : Option Progress → Item → Type 0
+WasAsked None x = ⊥
+WasAsked (Some p) x = p.asked ≡ Some x
 
 abbrev pub supplied : Ledger → Item → Option Progress → Option Progress
 supplied l x None = None
@@ -81,11 +81,11 @@ pub record GoesOnOver (l : Ledger) (old now : Option Progress) : Type 0 where
   pub same_call : here.call ≡ first.call
   pub same_header : here.header ≡ first.header
   pub same_steps : here.steps ≡ first.steps
-  pub agrees : Agrees (value_in here.reads) (at l)
+  pub agrees : LookAgrees (value_in here.reads) (at l)
   pub before : StandsBefore here
 
 abbrev pub LeadsBy : Progress → Progress → Option Fault → Type 0
-LeadsBy first here None = (here.steps ≡ Some (next_step first.steps)) × HasStep here.call here.header here.reads (next_step first.steps)
+LeadsBy first here None = (here.steps ≡ Some (next_step_number first.steps)) × HasStep here.call here.header here.reads (next_step_number first.steps)
 LeadsBy first here (Some f) = (here.steps ≡ first.steps) × ((place : ℕ) × EndsPath here.call here.header here.reads here.steps (ended.Faulted f place))
 
 -- It has made the step, or the step has faulted there.
@@ -96,7 +96,7 @@ pub record LeadsTo (l : Ledger) (old now : Option Progress) (fault : Option Faul
   pub is : now ≡ Some here
   pub same_call : here.call ≡ first.call
   pub same_header : here.header ≡ first.header
-  pub agrees : Agrees (value_in here.reads) (at l)
+  pub agrees : LookAgrees (value_in here.reads) (at l)
   pub leads : LeadsBy first here fault
 
 abbrev pub reads_in : Option Progress → ItemMap

@@ -6,7 +6,7 @@ ghost use Rattle.avm_ops.specs.Objects.{IsFull};
 ghost use Rattle.avm_debug.specs.declared.faults.PastFault.TheVariants.{Pruned, WrongBase};
 ghost use Rattle.avm_debug.specs.DebugSteps.{StepsTo};
 ghost use Rattle.avm_debug.specs.Shown.{IsShown};
-ghost use Rattle.avm_debug.specs.Sources.{HasWrongBase, IsOpenedFrom, IsPruned, IsRefusedFrom, past_ledger};
+ghost use Rattle.avm_debug.specs.Sources.{HasWrongBase, IsOpenedFrom, IsPrunedSource, IsRefusedFrom, past_ledger};
 
 use crate::faults::{OpenError, PastError, StepError};
 use crate::source::{Source, state_of};
@@ -71,7 +71,7 @@ impl<'a> Debugger<'a> {
         ensures ledger { IfOk result (λ ledger. ledger ≡ past_ledger self.now.source timestamp) }
         ensures wrong_base { IsErrOf result (Fault WrongBase) → HasWrongBase self.now.source }
         ensures same_base { IfOk result (λ _. HasWrongBase self.now.source → ⊥) }
-        ensures pruned { IsErrOf result (Fault Pruned) ↔ IsPruned self.now.source timestamp }
+        ensures pruned { IsErrOf result (Fault Pruned) ↔ IsPrunedSource self.now.source timestamp }
     {
         state_of(alloc, self.source, timestamp, ops)
     }

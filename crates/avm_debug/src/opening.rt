@@ -5,7 +5,7 @@ ghost use Rattle.std.specs.Option.{option_copied};
 ghost use Rattle.avm_ops.specs.Objects.{IsFull};
 ghost use Rattle.avm_ledger.specs.Spellings.{ledger_digest};
 ghost use Rattle.avm_replay.specs.Past.{ledger_until};
-ghost use Rattle.avm_debug.specs.Opening.{IsBaseRefusal, entry_at};
+ghost use Rattle.avm_debug.specs.Opening.{IsBaseRefusal, entry_numbered};
 ghost use Rattle.avm_debug.specs.Starting.{Begins, BeginsOver, IsAtTests, StartsOver};
 
 use crate::faults::{OpenError, OpenFault};
@@ -32,7 +32,7 @@ pub(crate) enum Begun {
 
 /// The entry of a number, counted from 1.
 pub(crate) fn entry_of(entries: &[Entry], number: usize) -> Option<&Entry>
-    ensures { option_copied result ≡ entry_at entries.now number }
+    ensures { option_copied result ≡ entry_numbered entries.now number }
 {
     if number == 0 {
         return None;

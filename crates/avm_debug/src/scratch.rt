@@ -1,7 +1,7 @@
 //! The scratch space of a machine.
 
 ghost use Rattle.std.specs.Prelude.{◌≡◌, ◌++◌, IfOk, OnOk, Some, length, slice_get};
-ghost use Rattle.avm_debug.specs.Scratch.{is_zero, place_if_set, places_seen, set_places};
+ghost use Rattle.avm_debug.specs.Scratch.{is_zero_value, place_if_set, places_seen, set_places};
 
 use crate::view::ScratchPlace;
 use avm_cpu::Cpu;
@@ -13,7 +13,7 @@ const PLACES: u16 = 256;
 
 /// Whether a value is the uint 0.
 fn is_zero(value: &Value) -> bool
-    ensures { result ≡ is_zero value.now }
+    ensures { result ≡ is_zero_value value.now }
 {
     match value {
         Value::Uint(number) => *number == 0,

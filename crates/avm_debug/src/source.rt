@@ -4,7 +4,7 @@ ghost use Rattle.std.specs.Prelude.{◌≡◌, ◌↔◌, IfOk, IsErrOf};
 ghost use Rattle.teal_value.specs.declared.failure.Failure.TheVariants.{Fault};
 ghost use Rattle.avm_ops.specs.Objects.{IsFull};
 ghost use Rattle.avm_debug.specs.declared.faults.PastFault.TheVariants.{Pruned, WrongBase};
-ghost use Rattle.avm_debug.specs.Sources.{HasWrongBase, IsPruned, past_ledger};
+ghost use Rattle.avm_debug.specs.Sources.{HasWrongBase, IsPrunedSource, past_ledger};
 
 use crate::faults::{PastError, PastFault};
 use avm_block::Block;
@@ -37,7 +37,7 @@ pub fn state_of(
     ensures ledger { IfOk result (λ ledger. ledger ≡ past_ledger source.entry timestamp) }
     ensures wrong_base { IsErrOf result (Fault WrongBase) → HasWrongBase source.entry }
     ensures same_base { IfOk result (λ _. HasWrongBase source.entry → ⊥) }
-    ensures pruned { IsErrOf result (Fault Pruned) ↔ IsPruned source.entry timestamp }
+    ensures pruned { IsErrOf result (Fault Pruned) ↔ IsPrunedSource source.entry timestamp }
 {
     match source {
         Source::Block(base, block) => match state_at(alloc, base, block, timestamp, ops) {

@@ -5,7 +5,7 @@ ghost use Rattle.avm_ops.specs.Objects.{IsFull};
 ghost use Rattle.avm_debug.specs.DebugSteps.{StepsTo};
 ghost use Rattle.avm_debug.specs.Shown.{IsShown};
 ghost use Rattle.avm_debug.specs.LiveOpening.{IsLiveRefusal, IsOpenedLive};
-ghost use Rattle.avm_debug.specs.Opening.{HasProgram, IsOpenRefusal, IsOpened, IsStartRefusal};
+ghost use Rattle.avm_debug.specs.Opening.{HasProgram, IsDebugRefusal, IsOpened, IsStartRefusal};
 
 use crate::faults::{OpenError, OpenFault, StepError, StepFault};
 use crate::live::{live_call, live_ledger_before};
@@ -41,13 +41,13 @@ pub struct Stepper {
 impl Model for Stepper {
     ghost use Rattle.std.specs.Prelude.{Option};
     ghost use Rattle.avm_debug.specs.Debugging.{Debugged};
-    ghost use Rattle.avm_debug.specs.DebugRuns.{IsKept, IsPreparedFor, seen};
+    ghost use Rattle.avm_debug.specs.DebugRuns.{IsKeptDebug, IsPreparedFor, seen};
 
     ghost Value = { Option Debugged };
 
     ghost view = { λ d. seen d.ledger d.fault d.run };
 
-    ghost invariant = { λ d. IsKept d.ledger d.fault d.run × IsPreparedFor d.ledger d.prepared d.run };
+    ghost invariant = { λ d. IsKeptDebug d.ledger d.fault d.run × IsPreparedFor d.ledger d.prepared d.run };
 }
 
 impl Stepper {
@@ -64,7 +64,7 @@ impl Stepper {
     ) -> Result<Stepper, OpenError>
         requires full { IsFull ⟦<BoxedOp as Op>⟧.opcode ops.now }
         ensures opened { IfOk result (λ stepper. IsOpened base.now block.now entry stepper) }
-        ensures refused { IfErr result (IsOpenRefusal base.now block.now entry) }
+        ensures refused { IfErr result (IsDebugRefusal base.now block.now entry) }
     {
         match entry_of(block.entries(), entry) {
             None => Err(Failure::Fault(OpenFault::NoEntry)),

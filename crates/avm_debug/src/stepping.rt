@@ -2,7 +2,7 @@
 
 ghost use Rattle.std.specs.Prelude.{◌≡◌, IfOk};
 ghost use Rattle.avm_ops.specs.Objects.{IsFull};
-ghost use Rattle.avm_debug.specs.Stepping.{Asked, ComesNextBy, Goes, GoesOnOver, IsBefore, IsLeft, LeadsTo, supplied};
+ghost use Rattle.avm_debug.specs.Stepping.{WasAsked, ComesNextBy, Goes, GoesOnOver, IsBefore, IsLeft, LeadsTo, supplied};
 
 use avm_call::Ended;
 use avm_items::{Item, item_of};
@@ -64,7 +64,7 @@ fn try_step(alloc: Global, ops: &OpSet, run: &mut CallRun) -> Result<Went, Alloc
 
 /// Supplies the item that a run asks for with its value in a ledger.
 pub(crate) fn supply_from(ledger: &Ledger, run: &mut CallRun, item: Item) -> Result<(), AllocError>
-    requires { Asked run.old item }
+    requires { WasAsked run.old item }
     ensures { IfOk result (λ _. run.new ≡ supplied ledger.now item run.old) }
 {
     let value = item_of(ledger, &item)?;

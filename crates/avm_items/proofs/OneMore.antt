@@ -7,7 +7,7 @@ use Rattle.sorted_entries.proofs.Maps.{is_Equal, lookup-inserted, lookup-inserte
 use Rattle.avm_items.specs.declared.item.Item.{Item}
 use Rattle.avm_items.specs.declared.item_value.ItemValue.{ItemValue}
 use Rattle.avm_items.specs.Items.{ItemMap, Look, item_cmp, value_in, with_item}
-use Rattle.avm_items.specs.Locality.{Agrees, Extends}
+use Rattle.avm_items.specs.Locality.{LookAgrees, Extends}
 use Rattle.avm_items.proofs.Puts.{item_same, item_total}
 
 pub same_or_other : {P : Type 0} (x y : Item) → (y ≡ x → P) → (is_eq (item_cmp y x) ≡ false → P) → P
@@ -36,7 +36,7 @@ one_longer (e ∷ es) x v none = by (item_cmp x e.0) none (one_longer es x v)
     by Equal n h = absurd cc
     by Greater n h = omega (arith, h n)
 
-pub agrees_after : (items : ItemMap) (x : Item) (v : ItemValue) (look : Look) → look x ≡ v → Agrees (value_in items) look → Agrees (value_in (with_item items x v)) look
+pub agrees_after : (items : ItemMap) (x : Item) (v : ItemValue) (look : Look) → look x ≡ v → LookAgrees (value_in items) look → LookAgrees (value_in (with_item items x v)) look
 agrees_after items x v look is old = record {
   at = λ y u e.
       same_or_other x y

@@ -6,7 +6,7 @@ use Rattle.avm_items.specs.declared.item.Item.{Item}
 use Rattle.avm_items.specs.declared.item_value.ItemValue.{ItemValue}
 use Rattle.avm_items.specs.Items.{Look, Known, or_else, over}
 use Rattle.avm_items.specs.Asks.{Ask, Gives, Asks, Answer, and_then, result_over, items_asked, answer_at, answer_from, remaining_at, remaining_questions}
-use Rattle.avm_items.specs.Locality.{Extends, Agrees, AlikeOn, StaysWith, then}
+use Rattle.avm_items.specs.Locality.{Extends, LookAgrees, AlikeOn, StaysWith, then}
 
 -- ---- over a ledger
 
@@ -68,11 +68,11 @@ answer_from-all look (Asks x f) = answer_from-all look (f (look x))
 ok_inj : {A : Type 0} {a b : A} → ◌≡◌ {A = Answer A} (Ok a) (Ok b) → a ≡ b
 ok_inj e = cc
 
-knows_all : (k : Known) (look : Look) → Agrees k look → Extends k (all_of look)
+knows_all : (k : Known) (look : Look) → LookAgrees k look → Extends k (all_of look)
 unfolding all_of
 knows_all k look w = record { same = λ x v e. ap Some (w.at x v e) }
 
-pub result_on_ledger : {A : Type 0} (k : Known) (look : Look) (t : Ask A) (a : A) → Agrees k look → answer_from k t ≡ Ok a → result_over look t ≡ a
+pub result_on_ledger : {A : Type 0} (k : Known) (look : Look) (t : Ask A) (a : A) → LookAgrees k look → answer_from k t ≡ Ok a → result_over look t ≡ a
 result_on_ledger k look t a w h = ok_inj (sym (answer_from-all look t) ∙ result_with_more k (all_of look) (knows_all k look w) t a h)
 
 -- ---- what is asked for is used
@@ -85,6 +85,6 @@ used_at : {A : Type 0} (k : Known) (look : Look) (x y : Item) (f : ItemValue →
 used_at k look x y f same next (Some v) e h = Contains-append_right (y ∷ []) (items_asked look (f (look y))) x (next (ap (λ u. answer_from k (f u)) (same v e) ∙ h))
 used_at k look x y f same next None e h = subst (Contains (items_asked look (Asks y f))) (err_inj h) (Contains-append_left (y ∷ []) (items_asked look (f (look y))) y (Contains-push [] y))
 
-pub question_on_ledger : {A : Type 0} (k : Known) (look : Look) (t : Ask A) (x : Item) → Agrees k look → answer_from k t ≡ Err x → Contains (items_asked look t) x
+pub question_on_ledger : {A : Type 0} (k : Known) (look : Look) (t : Ask A) (x : Item) → LookAgrees k look → answer_from k t ≡ Err x → Contains (items_asked look t) x
 question_on_ledger k look (Gives a) x w h = absurd cc
 question_on_ledger k look (Asks y f) x w h = used_at k look x y f (λ v e. w.at y v e) (question_on_ledger k look (f (look y)) x w) (k y) refl h

@@ -89,9 +89,9 @@ abbrev pub application_in : ItemValue → Option Application
 application_in (value.App row) = Some row
 application_in _ = None
 
-abbrev pub counts_in : ItemValue → Option Schema
-counts_in (value.Counts n) = Some n
-counts_in _ = None
+abbrev pub kept_counts_in : ItemValue → Option Schema
+kept_counts_in (value.Counts n) = Some n
+kept_counts_in _ = None
 
 abbrev pub entry_in : ItemValue → Option Value
 entry_in (value.Key v) = Some v

@@ -11,7 +11,7 @@ pub record Extends (known more : Known) : Type 0 where
   pub same : (x : Item) (v : ItemValue) → known x ≡ Some v → more x ≡ Some v
 
 -- the ledger has each value that is known
-pub record Agrees (known : Known) (look : Look) : Type 0 where
+pub record LookAgrees (known : Known) (look : Look) : Type 0 where
   pub at : (x : Item) (v : ItemValue) → known x ≡ Some v → look x ≡ v
 
 -- alike on these items
@@ -34,11 +34,11 @@ StaysWithMore A = (known more : Known) (t : Ask A) → Extends known more → St
 
 -- A result over some items is the result on every ledger that agrees with them.
 abbrev pub HoldsOnLedgers : Type 0 → Type 0
-HoldsOnLedgers A = (known : Known) (look : Look) (t : Ask A) (a : A) → Agrees known look → answer_from known t ≡ Ok a → result_over look t ≡ a
+HoldsOnLedgers A = (known : Known) (look : Look) (t : Ask A) (a : A) → LookAgrees known look → answer_from known t ≡ Ok a → result_over look t ≡ a
 
 -- What is asked for over some items is used on every ledger that agrees with them.
 abbrev pub AsksForWhatIsUsed : Type 0 → Type 0
-AsksForWhatIsUsed A = (known : Known) (look : Look) (t : Ask A) (x : Item) → Agrees known look → answer_from known t ≡ Err x → Contains (items_asked look t) x
+AsksForWhatIsUsed A = (known : Known) (look : Look) (t : Ask A) (x : Item) → LookAgrees known look → answer_from known t ≡ Err x → Contains (items_asked look t) x
 
 -- What is left to ask under own writes, over what was read, is the whole under both.
 abbrev pub WritesComeFirst : Type 0 → Type 0

@@ -20,8 +20,7 @@ use Rattle.avm_items.specs.declared.item.Item.TheVariants as item
 use Rattle.avm_items.specs.declared.item_value.ItemValue.{ItemValue}
 use Rattle.avm_items.specs.declared.item_value.ItemValue.TheVariants as value
 use Rattle.avm_items.specs.CallFields.{account, new_keys}
-use Rattle.avm_items.specs.Items.{ItemMap, Known, Look, item_cmp, value_in, with_item, or_else, over, application_in, entry_in, local_state_in}
-use Rattle.avm_items.specs.Items as items
+use Rattle.avm_items.specs.Items.{ItemMap, Known, Look, item_cmp, value_in, with_item, or_else, over, application_in, entry_in, local_state_in, kept_counts_in}
 use Rattle.avm_items.specs.Asks.{Ask, Gives, Asks, and_then, result_over, items_asked, remaining_at, remaining_questions}
 use Rattle.avm_items.specs.Acts.{Act, found, on_ok, reads, test}
 use Rattle.avm_items.specs.Counting.{AsksAtMost, Any}
@@ -97,7 +96,7 @@ put_over : (look : Look) (R : Item → Type 0) (c : Context) → Accounted R c.w
 put_over look R c all key v old true r = accounted_with R c.writes (item.Key c.current key) (value.Key v) all r
 put_over look R c all key v old false r =
     λ counted limited.
-    let n = counts_after old (Some v) (unwrap_or (items.counts_in (look (item.Counts c.current))) no_entries) in
+    let n = counts_after old (Some v) (unwrap_or (kept_counts_in (look (item.Counts c.current))) no_entries) in
     part.then_test (Row look R) (is_within n (schema_in (λ row. row.global_schema) (application_in (look (item.App c.current))))) fault.Schema _ tt
     (λ _. accounted_with R (with_item c.writes (item.Key c.current key) (value.Key v)) (item.Counts c.current) (value.Counts n) (accounted_with R c.writes (item.Key c.current key) (value.Key v) all r) counted)
 

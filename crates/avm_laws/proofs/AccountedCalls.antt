@@ -27,7 +27,7 @@ use Rattle.avm_call.specs.declared.outcome.Cause.TheVariants as cause
 use Rattle.avm_call.specs.declared.outcome.Outcome.{Outcome}
 use Rattle.avm_call.specs.declared.outcome.Outcome.TheVariants as outcome
 use Rattle.avm_call.specs.Runs.{program_result}
-use Rattle.avm_call.specs.Calls.{CallResult, Target, created, new_target, called_target, target, sender_item, is_opted_in, opt_in_test, admitted, new_application, prepared, execution, deleted, updated, cleared, ending, runs_on, goes_on, call_result}
+use Rattle.avm_call.specs.Calls.{CallResult, Target, created, new_target, called_target, target, sender_item, is_opted_in, opt_in_test, admitted, new_application, prepared, execution, deleted, updated, cleared, ending, runs_on, goes_on, call_result, completed_by}
 use Rattle.avm_laws.proofs.FollowedCalls.{OnTarget, kept_value, kept_only, old_fresh, new_fresh}
 use Rattle.avm_laws.proofs.Accounted.{If, if-then, Accounted, accounted_with, none_accounted, result_accounted}
 
@@ -140,14 +140,7 @@ deleted_accounted R id w all r =
     accounted_with R (filter (λ e. not (is_global_of id e.0)) w) (item.App id) value.Absent (λ x v there. all x v (kept_only (is_global_of id x) (value_in w x) v (sym (kept_value id w x) ∙ there)).1) r
 
 completed_accounted : (R : Item → Type 0) (call : CallData) (id : ℕ) (row : Application) (w : ItemMap) → Accounted R w → R (item.App id) → (c : Completion) → SenderRead R (sender_item call id) c
-    → Accounted R (elim c as (λ _. ItemMap) [
-      | completion.NoOp ↦ w
-      | completion.OptIn ↦ w
-      | completion.CloseOut ↦ with_item w (sender_item call id) value.Absent
-      | completion.ClearState ↦ with_item w (sender_item call id) value.Absent
-      | completion.UpdateApplication ↦ with_item w (item.App id) (value.App (updated call row))
-      | completion.DeleteApplication ↦ deleted id w
-    ])
+    → Accounted R (completed_by c call id row w)
 completed_accounted R call id row w all r completion.NoOp h = all
 completed_accounted R call id row w all r completion.OptIn h = all
 completed_accounted R call id row w all r completion.CloseOut h = accounted_with R w (sender_item call id) value.Absent all h

@@ -8,7 +8,7 @@ use Rattle.teal_check.specs.WellFormed.{checked}
 use Rattle.avm_items.specs.declared.call_data.CallData.{CallData}
 use Rattle.avm_items.specs.CallFields.{creates}
 use Rattle.avm_call.specs.declared.call_fault.CallFault.TheVariants as fault
-use Rattle.avm_call.specs.CallRules.{is_empty, total_length, updates, brings_programs, lacks_programs, has_programs, entries_in, fits_schemas, field_fault, program_fault, or_fault, programs_fault, call_fault, most_note_bytes, most_arguments, most_argument_bytes, most_accounts, most_foreign_applications}
+use Rattle.avm_call.specs.CallRules.{is_empty, total_length, updates, brings_programs, lacks_programs, gives_programs, entries_in, fits_schemas, field_fault, program_fault, or_fault, programs_fault, call_fault, most_note_bytes, most_arguments, most_argument_bytes, most_accounts, most_foreign_applications}
 use Rattle.avm_call.specs.Ends.{is_program}
 use Rattle.avm_call.proofs.Placed.{program_is_short}
 use Rattle.avm_call.proofs.CallFaults.{no_fault, none_of_both, program_passes}
@@ -30,7 +30,7 @@ both_pass c e true is brings =
 record KeepsFieldRules (c : CallData) : Type 0 where
   arguments : total_length c.arguments ≤ most_argument_bytes
   note : length c.note ≤ most_note_bytes
-  given : (not (brings_programs c) && has_programs c) ≡ false
+  given : (not (brings_programs c) && gives_programs c) ≡ false
   schemas : fits_schemas c ≡ true
 
 field_rules : (c : CallData) → field_fault c ≡ None → KeepsFieldRules c
@@ -41,7 +41,7 @@ field_rules c e =
     let foreign = no_fault (nat_lt most_foreign_applications (length c.foreign_applications)) fault.Foreign _ bytes.1 in
     let note = no_fault (nat_lt most_note_bytes (length c.note)) fault.Note _ foreign.1 in
     let missing = no_fault (brings_programs c && lacks_programs c) fault.ProgramsMissing _ note.1 in
-    let given = no_fault (not (brings_programs c) && has_programs c) fault.ProgramsGiven _ missing.1 in
+    let given = no_fault (not (brings_programs c) && gives_programs c) fault.ProgramsGiven _ missing.1 in
     let size = no_fault (not (fits_schemas c)) fault.SchemaSize _ given.1 in
     record {
       arguments = ltb-false most_argument_bytes (total_length c.arguments) bytes.0;
@@ -94,7 +94,7 @@ empty_short a b e = by (is_empty a) (is_empty b) refl refl e
     by true false p q h = absurd cc
     by false y p q h = absurd cc
 
-programs_short : (c : CallData) → programs_fault c ≡ None → (b : Bool) → brings_programs c ≡ b → (not b && has_programs c) ≡ false → IsShort c.approval × IsShort c.clear
+programs_short : (c : CallData) → programs_fault c ≡ None → (b : Bool) → brings_programs c ≡ b → (not b && gives_programs c) ≡ false → IsShort c.approval × IsShort c.clear
 programs_short c e true is given =
     let pass = both_pass c e true is refl in
     let approval = program_is_short c.approval pass.0 in

@@ -37,7 +37,7 @@ use Rattle.avm_call.specs.declared.outcome.Cause.TheVariants as cause
 use Rattle.avm_call.specs.declared.outcome.Outcome.{Outcome}
 use Rattle.avm_call.specs.declared.outcome.Outcome.TheVariants as outcome
 use Rattle.avm_call.specs.Runs.{Position, start, program_result}
-use Rattle.avm_call.specs.Calls.{CallResult, Target, created, new_target, called_target, target, sender_item, is_opted_in, opt_in_test, admitted, new_application, opting_in, prepared, execution, deleted, updated, cleared, ending, runs, runs_on, goes_on, call_result}
+use Rattle.avm_call.specs.Calls.{CallResult, Target, created, new_target, called_target, target, sender_item, is_opted_in, opt_in_test, admitted, new_application, opting_in, prepared, execution, deleted, updated, cleared, ending, runs, runs_on, goes_on, call_result, completed_by}
 use Rattle.avm_laws.proofs.Given.{item_same}
 use Rattle.avm_ops.proofs.ActParts as part
 use Rattle.avm_ops.proofs.Along.{Along, along-then}
@@ -226,14 +226,7 @@ deleted_leaves new l K w m id f keeps = record {
 }
 
 completed_leaves : (call : CallData) (header : Header) (id : ℕ) (row : Application) (l : Ledger) (K : Ledger → Type 0) (Kp : Position → Ledger → Type 0) → IsKept call header K Kp → (w : ItemMap) → Over (execution call header id row) row l K w
-    → (c : Completion) → call.completion ≡ c → Leaves l K (elim c as (λ _. ItemMap) [
-      | completion.NoOp ↦ w
-      | completion.OptIn ↦ w
-      | completion.CloseOut ↦ with_item w (sender_item call id) value.Absent
-      | completion.ClearState ↦ with_item w (sender_item call id) value.Absent
-      | completion.UpdateApplication ↦ with_item w (item.App id) (value.App (updated call row))
-      | completion.DeleteApplication ↦ deleted id w
-    ])
+    → (c : Completion) → call.completion ≡ c → Leaves l K (completed_by c call id row w)
 completed_leaves call header id row l K Kp kept w o completion.NoOp is = follows_leave (new_keys call id) l K w o.ledger o.follows o.keeps
 completed_leaves call header id row l K Kp kept w o completion.OptIn is = follows_leave (new_keys call id) l K w o.ledger o.follows o.keeps
 completed_leaves call header id row l K Kp kept w o completion.CloseOut is =

@@ -17,8 +17,7 @@ use Rattle.avm_items.specs.declared.item.Item.{Item}
 use Rattle.avm_items.specs.declared.item.Item.TheVariants as item
 use Rattle.avm_items.specs.declared.item_value.ItemValue.{ItemValue}
 use Rattle.avm_items.specs.declared.item_value.ItemValue.TheVariants as value
-use Rattle.avm_items.specs.Items.{ItemMap, Known, IsInItemOrder, item_cmp, value_in, with_item, or_else, over, entry_in, key_value}
-use Rattle.avm_items.specs.Items as items
+use Rattle.avm_items.specs.Items.{ItemMap, Known, IsInItemOrder, item_cmp, value_in, with_item, or_else, over, entry_in, key_value, kept_counts_in}
 use Rattle.avm_items.specs.LedgerItems.{at, put_one, row_value, counts_value, entry_value, is_of_gone}
 use Rattle.avm_items.specs.PutLaws.{MaySet, MayPut, is_counts, deletes}
 use Rattle.avm_items.proofs.Puts.{stays_in_order, keeps_others, item_total}
@@ -211,7 +210,7 @@ pub entry_there : (m : Ledger) (id : ℕ) (key : List ℕ) (app : StoredApplicat
 entry_there m id key app is = ap (λ a. entry_in (entry_value a key)) is ∙ entry_of (value_of_key app.state key)
 
 pub counts_there : (m : Ledger) (id : ℕ) (app : StoredApplication) → application_at m id ≡ Some app → old_counts m id ≡ counts_in app.state
-counts_there m id app is = ap (λ a. unwrap_or (items.counts_in (counts_value a)) no_entries) is
+counts_there m id app is = ap (λ a. unwrap_or (kept_counts_in (counts_value a)) no_entries) is
 
 put_key_counts : (m : Ledger) (id : ℕ) (key : List ℕ) (new : Option Value) (app : StoredApplication) → application_at m id ≡ Some app
     → at (put_one m (item.Key id key) (key_value new)) (item.Counts id) ≡ value.Counts (counts_in (set_key key new app.state))

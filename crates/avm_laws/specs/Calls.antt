@@ -49,8 +49,8 @@ IsAskedForAnswers =
 
 -- An item that is asked for over what was read is used on each ledger that has what was read, where the keys and the counts
 -- of an application that is gone may have been read as anything.
-abbrev pub AsksForWhatIsUsed : Type 0
-AsksForWhatIsUsed =
+abbrev pub CallsAskForWhatIsUsed : Type 0
+CallsAskForWhatIsUsed =
     (l : Ledger) (reads : ItemMap) (call : CallData) (header : Header) (x : Item) → IsOrderly l → AgreesWithReads l reads → answer_from (value_in reads) (call_result call header) ≡ Err x
     → Contains (items_asked (at l) (call_result call header)) x
 

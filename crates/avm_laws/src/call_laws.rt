@@ -1,6 +1,6 @@
 //! What calls write, ask for and change.
 
-ghost use Rattle.avm_laws.specs.Calls.{AsksForNoneGone, AsksForWhatIsUsed, ChangesWhatItRead, EndsAlike, HandsOnItsChanges, HasWhatWasWritten, IsAskedForAnswers, LosesNoWrite};
+ghost use Rattle.avm_laws.specs.Calls.{AsksForNoneGone, CallsAskForWhatIsUsed, ChangesWhatItRead, EndsAlike, HandsOnItsChanges, HasWhatWasWritten, IsAskedForAnswers, LosesNoWrite};
 ghost use Rattle.avm_laws.specs.KnownValues.{KnowsTheLedger};
 ghost use Rattle.avm_laws.specs.LedgerLooks.{CallsAreTheLedgers, LedgersAreLooks};
 
@@ -23,7 +23,7 @@ pub fn changes_are_handed_on()
 /// What is asked for over what was read is used on every ledger that has it; what was read stays what was asked for, with each
 /// answer.
 pub fn questions_are_used()
-    ensures used { AsksForWhatIsUsed }
+    ensures used { CallsAskForWhatIsUsed }
     ensures answers { IsAskedForAnswers }
 {}
 

@@ -14,7 +14,7 @@ use Rattle.avm_call.specs.Views.{View, view_after}
 use Rattle.avm_block.specs.declared.entry.Entry.{Entry}
 use Rattle.avm_block.specs.Blocks.{Block}
 use Rattle.avm_debug.specs.declared.faults.OpenFault.TheVariants as opening
-use Rattle.avm_debug.specs.Opening.{HasNoProgram, IsWithoutProgram, entry_at, ledger_before, row_of}
+use Rattle.avm_debug.specs.Opening.{HasNoProgram, IsWithoutProgram, entry_numbered, ledger_before, row_of_target}
 use Rattle.avm_node.specs.declared.refusal.Refusal.{Refusal}
 use Rattle.avm_node.specs.declared.refusal.Refusal.TheVariants as refusal
 use Rattle.avm_node.specs.DebugCommands.{CanGo, Finds, IsEnded, IsFound, OneFinding}
@@ -38,7 +38,7 @@ unseen_in l call header id None n v admits none shown =
     let never : None ≡ Some v = sym unseen ∙ shown in absurd cc
 unseen_in l call header id (Some row) n v admits none shown = absurd cc
 
-unseen_by : (l : Ledger) (call : CallData) (header : Header) (r : Result Target Why) (n : ℕ) (v : View) → result_over (at l) (admitted call) ≡ r → row_of r ≡ None → view_after l call header n ≡ Some v → ⊥
+unseen_by : (l : Ledger) (call : CallData) (header : Header) (r : Result Target Why) (n : ℕ) (v : View) → result_over (at l) (admitted call) ≡ r → row_of_target r ≡ None → view_after l call header n ≡ Some v → ⊥
 unseen_by l call header (Ok t) n v admits none shown = unseen_in l call header t.id t.row n v admits none shown
 unseen_by l call header (Err w) n v admits none shown =
     let unseen : view_after l call header n ≡ None = rw admits refl in
@@ -51,16 +51,16 @@ unseen l call header n v none shown = unseen_by l call header (result_over (at l
 
 module _ (base : Ledger) (b : Block) (number steps : ℕ) where
   abbrev NoEntry : Type 0
-  NoEntry = entry_at b.entries number ≡ None
+  NoEntry = entry_numbered b.entries number ≡ None
 
   abbrev WrongBase : Type 0
-  WrongBase = IsSome (entry_at b.entries number) × (b.base ≡ ledger_digest base → ⊥)
+  WrongBase = IsSome (entry_numbered b.entries number) × (b.base ≡ ledger_digest base → ⊥)
 
-  same_entry : (e f : Entry) → entry_at b.entries number ≡ Some e → entry_at b.entries number ≡ Some f → e ≡ f
+  same_entry : (e f : Entry) → entry_numbered b.entries number ≡ Some e → entry_numbered b.entries number ≡ Some f → e ≡ f
   same_entry e f is other = same_some (sym is ∙ other)
 
-  no_entry : (e : Entry) → NoEntry → entry_at b.entries number ≡ Some e → ⊥
-  no_entry e none is = some_or_none (entry_at b.entries number) (is_some_there (entry_at b.entries number) e is) none
+  no_entry : (e : Entry) → NoEntry → entry_numbered b.entries number ≡ Some e → ⊥
+  no_entry e none is = some_or_none (entry_numbered b.entries number) (is_some_there (entry_numbered b.entries number) e is) none
 
   one_view : (v w : View) → IsFound base b number steps v → IsFound base b number steps w → v ≡ w
   one_view v w f g =

@@ -24,7 +24,7 @@ use Rattle.avm_debug.specs.DebugSteps.{StepsTo}
 use Rattle.avm_debug.specs.Opening.{IsOpened, ledger_before}
 use Rattle.avm_debug.proofs.ViewsThere.{view_there}
 use Rattle.avm_node.specs.DebugCommands.{CanGo, HasNext, IsEnded, IsFoundReply, next_after}
-use Rattle.avm_node.specs.DebugRuns.{HasCome, HasMade, IsOver, ShowsReply}
+use Rattle.avm_node.specs.DebugRuns.{HasCome, HasMade, IsDebugOver, ShowsReply}
 use Rattle.avm_node.specs.Replies.{Reply}
 
 -- ---- after a fault no instruction comes next
@@ -68,7 +68,7 @@ module _ (l : Ledger) (call : CallData) (header : Header) where
   abbrev there : ℕ → Option Fault → Option Debugged
   there steps fault = Some (record { ledger = l; call = call; header = header; steps = steps; fault = fault })
 
-  made_by : (steps : ℕ) (fault : Option Fault) (n : ℕ) (after : Option Debugged) → steps_shown steps fault ≡ n → CanGo l call header n → IsOver l call header n fault
+  made_by : (steps : ℕ) (fault : Option Fault) (n : ℕ) (after : Option Debugged) → steps_shown steps fault ≡ n → CanGo l call header n → IsDebugOver l call header n fault
       → StepsTo (there steps fault) after (Ok tt) → HasMade l call header (n + 1) after
   made_by steps None n after counted can over (inl moved) = record {
     steps = steps + 1;

@@ -59,7 +59,7 @@ IsWritten reply held holds status = (status ≡ reply.status) × Appends held ho
 
 -- What the words after the program's name do to what a reader had and to a writer: unless there was a failure, the usage
 -- line or the command's reply was written.
-abbrev pub Answers : Option NodeCommand → Option (List ℕ) → Option (List ℕ) → Option (List ℕ) → ℕ → Type 0
-Answers None had held holds status = status ≢ failed → IsWritten usage_reply held holds status
-Answers (Some command) had held holds status = status ≢ failed
+abbrev pub CommandAnswers : Option NodeCommand → Option (List ℕ) → Option (List ℕ) → Option (List ℕ) → ℕ → Type 0
+CommandAnswers None had held holds status = status ≢ failed → IsWritten usage_reply held holds status
+CommandAnswers (Some command) had held holds status = status ≢ failed
     → (reply : Reply) × IsReply command had reply × IsWritten reply held holds status

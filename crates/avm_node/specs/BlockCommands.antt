@@ -21,12 +21,12 @@ use Rattle.avm_node.specs.declared.refusal.Refusal.TheVariants as refusal
 use Rattle.avm_node.specs.Outcomes.{outcome_text}
 use Rattle.avm_node.specs.Replies.{Reply, done, refused}
 use Rattle.avm_node.specs.Refusals.{refusal_reply}
-use Rattle.avm_node.specs.DigitLines.{DigitLine, bytes_of, digit_lines, with_no_line}
+use Rattle.avm_node.specs.DigitLines.{DigitLine, line_bytes, digit_lines, with_no_line}
 
 -- the bytes of the first line, which there has to be, and the lines behind it
 abbrev pub needed_bytes : List DigitLine → Result (List ℕ × List DigitLine) Refusal
 needed_bytes [] = Err refusal.Lines
-needed_bytes (line ∷ more) = bytes_of line >>= λ bytes. Ok (bytes, more)
+needed_bytes (line ∷ more) = line_bytes line >>= λ bytes. Ok (bytes, more)
 
 abbrev pub on_ledger : Result Ledger LedgerFault → Result Ledger Refusal
 on_ledger (Ok l) = Ok l
@@ -75,8 +75,8 @@ past_of timestamp input =
     if are_same_bytes input.1.base (ledger_digest input.0) then Ok (ledger_until input.0 input.1 timestamp) else Err (refusal.State state_fault.WrongBase)
 
 -- the ledger at a timestamp, of an input
-abbrev pub past_ledger : ℕ → List ℕ → Result Ledger Refusal
-past_ledger timestamp input = ledger_and_block (digit_lines input) >>= past_of timestamp
+abbrev pub past_ledger_at : ℕ → List ℕ → Result Ledger Refusal
+past_ledger_at timestamp input = ledger_and_block (digit_lines input) >>= past_of timestamp
 
 abbrev pub ledger_reply : Result Ledger Refusal → Reply
 ledger_reply (Ok l) = record { text = encode_lower (ledger_bytes l) ++ codes "\n"; status = done }
@@ -84,4 +84,4 @@ ledger_reply (Err why) = refusal_reply why
 
 -- what `state --at T` answers to an input
 abbrev pub state_reply : ℕ → List ℕ → Reply
-state_reply timestamp input = ledger_reply (past_ledger timestamp input)
+state_reply timestamp input = ledger_reply (past_ledger_at timestamp input)

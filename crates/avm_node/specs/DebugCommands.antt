@@ -9,7 +9,7 @@ use Rattle.avm_items.specs.declared.call_data.CallData.{CallData}
 use Rattle.avm_call.specs.Views.{NextStep, Runs, View, view_after}
 use Rattle.avm_block.specs.declared.entry.Entry.{Entry}
 use Rattle.avm_block.specs.Blocks.{Block}
-use Rattle.avm_debug.specs.Opening.{HasProgram, IsOpenRefusal, entry_at, ledger_before}
+use Rattle.avm_debug.specs.Opening.{HasProgram, IsDebugRefusal, entry_numbered, ledger_before}
 use Rattle.avm_node.specs.declared.refusal.Refusal.{Refusal}
 use Rattle.avm_node.specs.declared.refusal.Refusal.TheVariants as refusal
 use Rattle.avm_node.specs.BlockCommands.{ledger_and_block}
@@ -41,7 +41,7 @@ EndsBefore l call header steps = (n : ℕ) × (n < steps) × (HasNext l call hea
 -- the view after so many steps
 pub record IsFound (base : Ledger) (b : Block) (number steps : ℕ) (v : View) : Type 0 where
   pub entry : Entry
-  pub there : entry_at b.entries number ≡ Some entry
+  pub there : entry_numbered b.entries number ≡ Some entry
   pub same_base : b.base ≡ ledger_digest base
   pub can_go : CanGo (ledger_before base b entry) entry.call b.header steps
   pub shown : view_after (ledger_before base b entry) entry.call b.header steps ≡ Some v
@@ -49,14 +49,14 @@ pub record IsFound (base : Ledger) (b : Block) (number steps : ℕ) (v : View) :
 -- the program ends before so many steps
 pub record IsEnded (base : Ledger) (b : Block) (number steps : ℕ) : Type 0 where
   pub entry : Entry
-  pub there : entry_at b.entries number ≡ Some entry
+  pub there : entry_numbered b.entries number ≡ Some entry
   pub same_base : b.base ≡ ledger_digest base
   pub program : HasProgram (ledger_before base b entry) entry.call
   pub ends : EndsBefore (ledger_before base b entry) entry.call b.header steps
 
 abbrev pub Finds : Ledger × Block → ℕ → ℕ → Result View Refusal → Type 0
 Finds input number steps (Ok v) = IsFound input.0 input.1 number steps v
-Finds input number steps (Err (refusal.Opening fault)) = IsOpenRefusal input.0 input.1 number (failure.Fault fault)
+Finds input number steps (Err (refusal.Opening fault)) = IsDebugRefusal input.0 input.1 number (failure.Fault fault)
 Finds input number steps (Err refusal.Ended) = IsEnded input.0 input.1 number steps
 Finds input number steps (Err _) = ⊥
 

@@ -11,15 +11,15 @@ use Rattle.avm_call.specs.Views.{View}
 use Rattle.avm_block.specs.declared.entry.Entry.{Entry}
 use Rattle.avm_block.specs.Blocks.{Block}
 use Rattle.avm_debug.specs.Debugging.{Debugged, debug_view, steps_shown}
-use Rattle.avm_debug.specs.Opening.{HasProgram, entry_at, ledger_before}
+use Rattle.avm_debug.specs.Opening.{HasProgram, entry_numbered, ledger_before}
 use Rattle.avm_node.specs.declared.refusal.Refusal.{Refusal}
 use Rattle.avm_node.specs.DebugCommands.{CanGo, Finds, HasNext, view_reply}
 use Rattle.avm_node.specs.Replies.{Reply}
 
 -- where the last step has faulted, no instruction comes next
-abbrev pub IsOver : Ledger → CallData → Header → ℕ → Option Fault → Type 0
-IsOver l call header made None = Unit {0}
-IsOver l call header made (Some f) = HasNext l call header made → ⊥
+abbrev pub IsDebugOver : Ledger → CallData → Header → ℕ → Option Fault → Type 0
+IsDebugOver l call header made None = Unit {0}
+IsDebugOver l call header made (Some f) = HasNext l call header made → ⊥
 
 -- So many steps were made, the last of which may have faulted.
 pub record HasMade (l : Ledger) (call : CallData) (header : Header) (made : ℕ) (now : Option Debugged) : Type 0 where
@@ -28,20 +28,20 @@ pub record HasMade (l : Ledger) (call : CallData) (header : Header) (made : ℕ)
   pub is : now ≡ Some (record { ledger = l; call = call; header = header; steps = steps; fault = fault })
   pub counted : steps_shown steps fault ≡ made
   pub can_go : CanGo l call header made
-  pub over : IsOver l call header made fault
+  pub over : IsDebugOver l call header made fault
 
 -- So many steps of the program of an entry's call were made.
 pub record HasCome (base : Ledger) (b : Block) (number steps : ℕ) (now : Option Debugged) : Type 0 where
   pub entry : Entry
-  pub there : entry_at b.entries number ≡ Some entry
+  pub there : entry_numbered b.entries number ≡ Some entry
   pub same_base : b.base ≡ ledger_digest base
   pub program : HasProgram (ledger_before base b entry) entry.call
   pub made : HasMade (ledger_before base b entry) entry.call b.header steps now
 
 -- a refusal is what is found
-abbrev pub IsRefused : Ledger → Block → ℕ → ℕ → Failure Refusal → Type 0
-IsRefused base b number steps failure.Memory = Unit {0}
-IsRefused base b number steps (failure.Fault why) = Finds (base, b) number steps (Err why)
+abbrev pub IsDebugRefused : Ledger → Block → ℕ → ℕ → Failure Refusal → Type 0
+IsDebugRefused base b number steps failure.Memory = Unit {0}
+IsDebugRefused base b number steps (failure.Fault why) = Finds (base, b) number steps (Err why)
 
 -- the answer with what a debugger shows
 abbrev pub ShowsReply : Option Debugged → Reply → Type 0

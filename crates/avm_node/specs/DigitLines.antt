@@ -29,13 +29,13 @@ on_digits number (Ok bytes) = Ok bytes
 on_digits number (Err e) = Err (refusal.Hex number)
 
 -- the bytes of a line's digits, which may be of either case
-abbrev pub bytes_of : DigitLine → Result (List ℕ) Refusal
-bytes_of line = on_digits line.number (decode_of line.digits)
+abbrev pub line_bytes : DigitLine → Result (List ℕ) Refusal
+line_bytes line = on_digits line.number (decode_of line.digits)
 
 -- the bytes of the first line, if there is one, and the lines behind it
 abbrev pub first_bytes : List DigitLine → Result (Option (List ℕ) × List DigitLine) Refusal
 first_bytes [] = Ok (None, [])
-first_bytes (line ∷ more) = bytes_of line >>= λ bytes. Ok (Some bytes, more)
+first_bytes (line ∷ more) = line_bytes line >>= λ bytes. Ok (Some bytes, more)
 
 -- a value, where no line is left
 abbrev pub with_no_line : {A : Type 0} → List DigitLine → A → Result A Refusal

@@ -13,7 +13,7 @@ use Rattle.avm_node.specs.declared.refusal.Refusal.{Refusal}
 use Rattle.avm_node.specs.declared.refusal.Refusal.TheVariants as refusal
 use Rattle.avm_node.specs.BlockCommands.{first_ledger, needed_bytes}
 use Rattle.avm_node.specs.CallLines.{checked_call}
-use Rattle.avm_node.specs.DigitLines.{DigitLine, bytes_of}
+use Rattle.avm_node.specs.DigitLines.{DigitLine, line_bytes}
 
 -- what calls are to be made of, on which ledger and by which header
 pub record ProposeInput : Type 0 where
@@ -38,16 +38,16 @@ on_call number (Ok call) = Ok call
 on_call number (Err fault) = Err (refusal.Call number fault)
 
 -- the call of a line, whose number among the calls this is
-abbrev pub call_of : ℕ → DigitLine → Result CallData Refusal
-call_of number line = bytes_of line >>= λ bytes. on_call number (checked_call bytes)
+abbrev pub call_on_line : ℕ → DigitLine → Result CallData Refusal
+call_on_line number line = line_bytes line >>= λ bytes. on_call number (checked_call bytes)
 
 -- the calls of all lines, numbered from this on
-abbrev pub calls_of : ℕ → List DigitLine → Result (List CallData) Refusal
-calls_of number [] = Ok []
-calls_of number (line ∷ more) = call_of number line >>= λ call. calls_of (number + 1) more >>= λ calls. Ok (call ∷ calls)
+abbrev pub calls_on_lines : ℕ → List DigitLine → Result (List CallData) Refusal
+calls_on_lines number [] = Ok []
+calls_on_lines number (line ∷ more) = call_on_line number line >>= λ call. calls_on_lines (number + 1) more >>= λ calls. Ok (call ∷ calls)
 
 -- the first refusal in the order of the lines, or what they are
 abbrev pub propose_input : List DigitLine → Result ProposeInput Refusal
 propose_input lines =
-    first_ledger lines >>= λ l. first_header l.1 >>= λ h. calls_of 1 h.1 >>= λ calls.
+    first_ledger lines >>= λ l. first_header l.1 >>= λ h. calls_on_lines 1 h.1 >>= λ calls.
     Ok (record { base = l.0; header = h.0; calls = calls })

@@ -2,5 +2,5 @@
 use Rattle.avm_node.specs.declared.propose_input.ProposeInput.{ProposeInput as ReadInput}
 use Rattle.avm_node.specs.ProposeInputs.{ProposeInput}
 
-abbrev pub seen : ReadInput → ProposeInput
-seen read = record { base = read.base; header = read.header; calls = read.calls.items }
+abbrev pub input_shown : ReadInput → ProposeInput
+input_shown read = record { base = read.base; header = read.header; calls = read.calls.items }

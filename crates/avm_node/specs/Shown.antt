@@ -3,8 +3,8 @@ use Rattle.std.specs.Prelude.{ℕ, List, String, map, string_bytes}
 use Rattle.avm_node.specs.declared.output.Reply.{Reply as WrittenReply}
 use Rattle.avm_node.specs.Replies.{Reply}
 
-abbrev pub shown : WrittenReply → Reply
-shown reply = record { text = string_bytes reply.text; status = reply.status }
+abbrev pub reply_shown : WrittenReply → Reply
+reply_shown reply = record { text = string_bytes reply.text; status = reply.status }
 
 abbrev pub texts : {A : Type 0} → List (String A) → List (List ℕ)
 texts lines = map string_bytes lines

@@ -3,7 +3,7 @@
 ghost use Rattle.std.specs.Prelude.{◌≡◌, IfOk};
 ghost use Rattle.avm_node.specs.Answers.{asm_reply, assembly_reply};
 ghost use Rattle.avm_node.specs.Replies.{input_refusal};
-ghost use Rattle.avm_node.specs.Shown.{shown};
+ghost use Rattle.avm_node.specs.Shown.{reply_shown};
 
 use crate::output::{DONE, REFUSED, Reply};
 use std::alloc::{AllocError, Global};
@@ -13,7 +13,7 @@ use teal_value::Failure;
 
 /// What `asm` answers to its input.
 pub fn asm_reply(alloc: Global, input: &[u8]) -> Result<Reply, AllocError>
-    ensures { IfOk result (λ reply. shown reply ≡ asm_reply input.now) }
+    ensures { IfOk result (λ reply. reply_shown reply ≡ asm_reply input.now) }
 {
     let Ok(text) = str::from_utf8(input) else {
         return input_refusal(alloc);
@@ -27,7 +27,7 @@ pub fn asm_reply(alloc: Global, input: &[u8]) -> Result<Reply, AllocError>
 
 /// The refusal of an input that is too long, or of source text that is no UTF-8.
 pub fn input_refusal(alloc: Global) -> Result<Reply, AllocError>
-    ensures { IfOk result (λ reply. shown reply ≡ input_refusal) }
+    ensures { IfOk result (λ reply. reply_shown reply ≡ input_refusal) }
 {
     let text = String::from_str(alloc, "refused input\n")?;
     Ok(Reply {
@@ -37,7 +37,7 @@ pub fn input_refusal(alloc: Global) -> Result<Reply, AllocError>
 }
 
 fn program_reply(alloc: Global, program: &[u8]) -> Result<Reply, AllocError>
-    ensures { IfOk result (λ reply. shown reply ≡ assembly_reply (Ok program.now)) }
+    ensures { IfOk result (λ reply. reply_shown reply ≡ assembly_reply (Ok program.now)) }
 {
     let mut text = hex::encode(alloc, program)?;
     text.push('\n')?;
@@ -45,7 +45,7 @@ fn program_reply(alloc: Global, program: &[u8]) -> Result<Reply, AllocError>
 }
 
 fn fault_reply(alloc: Global, fault: AsmFault) -> Result<Reply, AllocError>
-    ensures { IfOk result (λ reply. shown reply ≡ assembly_reply (Err fault)) }
+    ensures { IfOk result (λ reply. reply_shown reply ≡ assembly_reply (Err fault)) }
 {
     let line = fault.line;
     let name = fault.kind.name();

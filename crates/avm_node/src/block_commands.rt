@@ -5,10 +5,10 @@ ghost use Rattle.teal_value.specs.Answer.{Gives};
 ghost use Rattle.avm_ops.specs.Objects.{IsFull};
 ghost use Rattle.avm_ledger.specs.LedgerRules.{KeepsRules};
 ghost use Rattle.avm_replay.specs.declared.verdict.Verdict.TheVariants as verdict;
-ghost use Rattle.avm_node.specs.BlockCommands.{IsReplayReply, IsVerdictReply, agrees_reply, first_block, first_ledger, ledger_and_block, ledger_reply, needed_bytes, past_ledger, state_reply, verdict_reply};
+ghost use Rattle.avm_node.specs.BlockCommands.{IsReplayReply, IsVerdictReply, agrees_reply, first_block, first_ledger, ledger_and_block, ledger_reply, needed_bytes, past_ledger_at, state_reply, verdict_reply};
 ghost use Rattle.avm_node.specs.Replies.{refused};
 ghost use Rattle.avm_node.specs.DigitLines.{digit_lines};
-ghost use Rattle.avm_node.specs.Shown.{shown};
+ghost use Rattle.avm_node.specs.Shown.{reply_shown};
 
 use crate::digit_lines::DigitLines;
 use crate::outcomes::outcome_text;
@@ -25,7 +25,7 @@ use teal_value::Failure;
 /// What `replay` answers to its input: whether the block replays over the ledger, or the first thing that differs.
 pub fn replay_reply(alloc: Global, input: &[u8], ops: &OpSet) -> Result<Reply, AllocError>
     requires full { IsFull ⟦<BoxedOp as Op>⟧.opcode ops.now }
-    ensures { IfOk result (λ reply. IsReplayReply input.now (shown reply)) }
+    ensures { IfOk result (λ reply. IsReplayReply input.now (reply_shown reply)) }
 {
     match ledger_and_block(alloc, input) {
         Ok((base, block)) => verdict_on(alloc, base, &block, ops),
@@ -42,7 +42,7 @@ pub fn state_reply(
     ops: &OpSet,
 ) -> Result<Reply, AllocError>
     requires full { IsFull ⟦<BoxedOp as Op>⟧.opcode ops.now }
-    ensures { IfOk result (λ reply. shown reply ≡ state_reply timestamp input.now) }
+    ensures { IfOk result (λ reply. reply_shown reply ≡ state_reply timestamp input.now) }
 {
     match past_ledger(alloc, timestamp, input, ops) {
         Ok(ledger) => ledger_reply(alloc, &ledger),
@@ -52,7 +52,7 @@ pub fn state_reply(
 }
 
 fn ledger_reply(alloc: Global, ledger: &Ledger) -> Result<Reply, AllocError>
-    ensures { IfOk result (λ reply. shown reply ≡ ledger_reply (Ok ledger.now)) }
+    ensures { IfOk result (λ reply. reply_shown reply ≡ ledger_reply (Ok ledger.now)) }
 {
     let bytes = ledger.canonical(alloc)?;
     let mut text = hex::encode(alloc, bytes.as_slice())?;
@@ -63,7 +63,7 @@ fn ledger_reply(alloc: Global, ledger: &Ledger) -> Result<Reply, AllocError>
 /// The verdict on a block, as an answer.
 fn verdict_on(alloc: Global, base: Base, block: &Block, ops: &OpSet) -> Result<Reply, AllocError>
     requires full { IsFull ⟦<BoxedOp as Op>⟧.opcode ops.now }
-    ensures { IfOk result (λ reply. IsVerdictReply (Ok (base, block.now)) (shown reply)) }
+    ensures { IfOk result (λ reply. IsVerdictReply (Ok (base, block.now)) (reply_shown reply)) }
 {
     match replay_owned(alloc, base, block, ops)? {
         Verdict::Agrees(_after) => {
@@ -78,7 +78,7 @@ fn verdict_on(alloc: Global, base: Base, block: &Block, ops: &OpSet) -> Result<R
 
 /// The answer where a block agrees: the digest of the ledger after it.
 fn agrees_reply(alloc: Global, digest: &[u8; 32]) -> Result<Reply, AllocError>
-    ensures { IfOk result (λ reply. shown reply ≡ agrees_reply digest.now) }
+    ensures { IfOk result (λ reply. reply_shown reply ≡ agrees_reply digest.now) }
 {
     let digits = hex::encode(alloc, digest.as_slice())?;
     let text = format!(in alloc; "agrees {digits}\n")?;
@@ -86,7 +86,7 @@ fn agrees_reply(alloc: Global, digest: &[u8; 32]) -> Result<Reply, AllocError>
 }
 
 fn wrong_outcome_reply(alloc: Global, entry: usize, found: Outcome) -> Result<Reply, AllocError>
-    ensures { IfOk result (λ reply. shown reply ≡ verdict_reply (verdict.WrongOutcome entry found)) }
+    ensures { IfOk result (λ reply. reply_shown reply ≡ verdict_reply (verdict.WrongOutcome entry found)) }
 {
     let found = outcome_text(alloc, found)?;
     let text = format!(in alloc; "wrong outcome {entry} {found}\n")?;
@@ -97,7 +97,7 @@ fn wrong_outcome_reply(alloc: Global, entry: usize, found: Outcome) -> Result<Re
 }
 
 fn wrong_reply(alloc: Global, text: &str) -> Result<Reply, AllocError>
-    ensures { IfOk result (λ reply. shown reply ≡ record { text = text.now; status = refused }) }
+    ensures { IfOk result (λ reply. reply_shown reply ≡ record { text = text.now; status = refused }) }
 {
     let text = String::from_str(alloc, text)?;
     Ok(Reply {
@@ -114,7 +114,7 @@ fn past_ledger(
     ops: &OpSet,
 ) -> Result<Ledger, Failure<Refusal>>
     requires full { IsFull ⟦<BoxedOp as Op>⟧.opcode ops.now }
-    ensures { Gives (λ l. l) result (past_ledger timestamp input.now) }
+    ensures { Gives (λ l. l) result (past_ledger_at timestamp input.now) }
 {
     let (base, block) = ledger_and_block(alloc, input)?;
     match state_at_owned(alloc, base, &block, timestamp, ops) {

@@ -1,11 +1,11 @@
 //! The commands of the program.
 
 ghost use Rattle.std.specs.Prelude.{◌≡◌, IfOk, IfSome, IsSome, None, Some, map};
-ghost use Rattle.avm_node.specs.Answers.{Answers, IsCommandReply, IsReply};
+ghost use Rattle.avm_node.specs.Answers.{CommandAnswers, IsCommandReply, IsReply};
 ghost use Rattle.avm_ops.specs.Objects.{IsFull};
 ghost use Rattle.avm_words.specs.CommandLine.{command_in, workers_of};
 ghost use Rattle.avm_node.specs.Replies.{failed};
-ghost use Rattle.avm_node.specs.Shown.{shown};
+ghost use Rattle.avm_node.specs.Shown.{reply_shown};
 
 use crate::asm::{asm_reply, input_refusal};
 use crate::block_commands::{replay_reply, state_reply};
@@ -34,7 +34,7 @@ pub fn answer<'a, R: Read, W: Write>(
     ops: &OpSet,
 ) -> Option<u8>
     requires full { IsFull ⟦<BoxedOp as Op>⟧.opcode ops.now }
-    ensures answers { IfSome result (Answers (command_in (map (λ word. word.now) words.now)) (R.remaining reader.old) (W.contents writer.old) (W.contents writer.new)) }
+    ensures answers { IfSome result (CommandAnswers (command_in (map (λ word. word.now) words.now)) (R.remaining reader.old) (W.contents writer.old) (W.contents writer.new)) }
     ensures other { IfSome result (λ status. IsSome (workers_of (command_in (map (λ word. word.now) words.now))) → status ≡ failed) }
     ensures propose { result ≡ None → IsSome (workers_of (command_in (map (λ word. word.now) words.now))) × (reader.new ≡ reader.old) × (writer.new ≡ writer.old) }
     ensures reads_nothing { command_in (map (λ word. word.now) words.now) ≡ None → reader.new ≡ reader.old }
@@ -58,7 +58,7 @@ pub(crate) fn answer_to<R: Read, W: Write>(
 ) -> u8
     requires full { IsFull ⟦<BoxedOp as Op>⟧.opcode ops.now }
     requires other { workers_of command ≡ None }
-    ensures answers { Answers command (R.remaining reader.old) (W.contents writer.old) (W.contents writer.new) result }
+    ensures answers { CommandAnswers command (R.remaining reader.old) (W.contents writer.old) (W.contents writer.new) result }
     ensures reads_nothing { command ≡ None → reader.new ≡ reader.old }
 {
     match command {
@@ -79,7 +79,7 @@ fn reply_of<R: Read>(
 ) -> io::Result<Reply>
     requires full { IsFull ⟦<BoxedOp as Op>⟧.opcode ops.now }
     requires other { workers_of (Some command) ≡ None }
-    ensures { IfOk result (λ reply. IsReply command (R.remaining reader.old) (shown reply)) }
+    ensures { IfOk result (λ reply. IsReply command (R.remaining reader.old) (reply_shown reply)) }
 {
     let input = read_input(alloc, reader)?;
     if input.len() > INPUT_LIMIT {
@@ -97,7 +97,7 @@ fn command_reply(
 ) -> Result<Reply, AllocError>
     requires full { IsFull ⟦<BoxedOp as Op>⟧.opcode ops.now }
     requires other { workers_of (Some command) ≡ None }
-    ensures { IfOk result (λ reply. IsCommandReply command input.now (shown reply)) }
+    ensures { IfOk result (λ reply. IsCommandReply command input.now (reply_shown reply)) }
 {
     match command {
         NodeCommand::Asm => asm_reply(alloc, input),

@@ -4,8 +4,8 @@ ghost use Rattle.std.specs.Prelude.{ℕ, IfErr, IfOk, Ok};
 ghost use Rattle.avm_ops.specs.Objects.{IsFull};
 ghost use Rattle.avm_debug.specs.Opening.{IsOpened};
 ghost use Rattle.avm_node.specs.DebugCommands.{IsDebugReply, IsFoundReply, OneFinding};
-ghost use Rattle.avm_node.specs.DebugRuns.{HasCome, IsRefused, ShowsReply};
-ghost use Rattle.avm_node.specs.Shown.{shown};
+ghost use Rattle.avm_node.specs.DebugRuns.{HasCome, IsDebugRefused, ShowsReply};
+ghost use Rattle.avm_node.specs.Shown.{reply_shown};
 
 use crate::block_commands::ledger_and_block;
 use crate::output::{DONE, Reply};
@@ -28,7 +28,7 @@ pub fn debug_reply(
     ops: &OpSet,
 ) -> Result<Reply, AllocError>
     requires full { IsFull ⟦<BoxedOp as Op>⟧.opcode ops.now }
-    ensures { IfOk result (λ reply. IsDebugReply entry steps input.now (shown reply)) }
+    ensures { IfOk result (λ reply. IsDebugReply entry steps input.now (reply_shown reply)) }
 {
     match ledger_and_block(alloc, input) {
         Ok((base, block)) => found_reply(alloc, base.ledger(), &block, entry as usize, steps, ops),
@@ -46,7 +46,7 @@ fn found_reply(
     ops: &OpSet,
 ) -> Result<Reply, AllocError>
     requires full { IsFull ⟦<BoxedOp as Op>⟧.opcode ops.now }
-    ensures { IfOk result (λ reply. IsFoundReply entry steps (Ok (ledger.now, block.now)) (shown reply)) }
+    ensures { IfOk result (λ reply. IsFoundReply entry steps (Ok (ledger.now, block.now)) (reply_shown reply)) }
 {
     match debugger_at(alloc, ledger, block, entry, steps, ops) {
         Ok(debugger) => view_reply(alloc, &debugger),
@@ -66,7 +66,7 @@ fn debugger_at<'a>(
 ) -> Result<Debugger<'a>, Failure<Refusal>>
     requires full { IsFull ⟦<BoxedOp as Op>⟧.opcode ops.now }
     ensures come { IfOk result (λ debugger. HasCome ledger.now block.now entry steps debugger.stepper) }
-    ensures refused { IfErr result (IsRefused ledger.now block.now entry steps) }
+    ensures refused { IfErr result (IsDebugRefused ledger.now block.now entry steps) }
 {
     let mut debugger = opened(alloc, ledger, block, entry, ops)?;
     for _step in 0..steps {
@@ -89,7 +89,7 @@ fn opened<'a>(
 ) -> Result<Debugger<'a>, Failure<Refusal>>
     requires full { IsFull ⟦<BoxedOp as Op>⟧.opcode ops.now }
     ensures opened { IfOk result (λ debugger. IsOpened ledger.now block.now entry debugger.stepper) }
-    ensures refused { (steps : ℕ) → IfErr result (IsRefused ledger.now block.now entry steps) }
+    ensures refused { (steps : ℕ) → IfErr result (IsDebugRefused ledger.now block.now entry steps) }
 {
     match Debugger::open(alloc, Source::Block(ledger, block), entry, ops) {
         Ok(debugger) => Ok(debugger),
@@ -99,7 +99,7 @@ fn opened<'a>(
 }
 
 fn view_reply(alloc: Global, debugger: &Debugger<'_>) -> Result<Reply, AllocError>
-    ensures { IfOk result (λ reply. ShowsReply debugger.now.stepper (shown reply)) }
+    ensures { IfOk result (λ reply. ShowsReply debugger.now.stepper (reply_shown reply)) }
 {
     match debugger.view(alloc) {
         Ok(view) => {

@@ -6,7 +6,7 @@ ghost use Rattle.std.specs.Option.{option_map};
 ghost use Rattle.std.specs.Str.Lines.{lines};
 ghost use Rattle.teal_value.specs.Answer.{Gives};
 ghost use Rattle.teal_text.specs.Tokens.{is_blank};
-ghost use Rattle.avm_node.specs.DigitLines.{bytes_of, digit_lines, first_bytes, with_no_line};
+ghost use Rattle.avm_node.specs.DigitLines.{line_bytes, digit_lines, first_bytes, with_no_line};
 ghost use Rattle.avm_node.specs.Lines.{IsTaken};
 
 use crate::refusal::Refusal;
@@ -107,7 +107,7 @@ fn is_blank(byte: u8) -> bool
 
 #[tactic(auto, using(crate::proofs::DigitLines::line_read, crate::proofs::DigitLines::line_refused))]
 fn bytes_of(alloc: Global, number: usize, digits: &[u8]) -> Result<Vec<u8>, Failure<Refusal>>
-    ensures { Gives (λ bytes. bytes.items) result (bytes_of (record { number = number; digits = digits.now })) }
+    ensures { Gives (λ bytes. bytes.items) result (line_bytes (record { number = number; digits = digits.now })) }
 {
     match decode_digits(alloc, digits)? {
         Some(bytes) => Ok(bytes),

@@ -5,7 +5,7 @@ ghost use Rattle.teal_value.specs.Answer.{Gives};
 ghost use Rattle.teal_check.specs.WellFormed.{checked};
 ghost use Rattle.avm_node.specs.DigitLines.{digit_lines};
 ghost use Rattle.avm_node.specs.Programs.{check_reply, dis_reply, first_program, on_check, only_program, program_reply, size_text};
-ghost use Rattle.avm_node.specs.Shown.{shown};
+ghost use Rattle.avm_node.specs.Shown.{reply_shown};
 
 use crate::digit_lines::DigitLines;
 use crate::output::{DONE, Reply};
@@ -17,7 +17,7 @@ use teal_value::Failure;
 
 /// What `dis` answers to its input: the program's listing.
 pub fn dis_reply(alloc: Global, input: &[u8]) -> Result<Reply, AllocError>
-    ensures { IfOk result (λ reply. shown reply ≡ dis_reply input.now) }
+    ensures { IfOk result (λ reply. reply_shown reply ≡ dis_reply input.now) }
 {
     match only_program(alloc, input) {
         Ok(program) => {
@@ -31,7 +31,7 @@ pub fn dis_reply(alloc: Global, input: &[u8]) -> Result<Reply, AllocError>
 
 /// What `check` answers to its input: how many instructions the program has, and what they cost together.
 pub fn check_reply(alloc: Global, input: &[u8]) -> Result<Reply, AllocError>
-    ensures { IfOk result (λ reply. shown reply ≡ check_reply input.now) }
+    ensures { IfOk result (λ reply. reply_shown reply ≡ check_reply input.now) }
 {
     match only_program(alloc, input) {
         Ok(program) => size_reply(alloc, &program),
@@ -41,7 +41,7 @@ pub fn check_reply(alloc: Global, input: &[u8]) -> Result<Reply, AllocError>
 }
 
 fn size_reply(alloc: Global, program: &Program) -> Result<Reply, AllocError>
-    ensures { IfOk result (λ reply. shown reply ≡ program_reply size_text (Ok program.now)) }
+    ensures { IfOk result (λ reply. reply_shown reply ≡ program_reply size_text (Ok program.now)) }
 {
     let count = program.count();
     let cost = program.cost();

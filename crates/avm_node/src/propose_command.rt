@@ -5,8 +5,8 @@ ghost use Rattle.std.specs.List.{flat_map};
 ghost use Rattle.avm_ledger.specs.declared.header.Profile.TheVariants.{Three};
 ghost use Rattle.avm_ops.specs.Objects.{IsFull};
 ghost use Rattle.avm_node.specs.ProposeCommands.{IsPoolReply, IsProposeReply, left_line, pool_reply, proposal_reply};
-ghost use Rattle.avm_node.specs.ProposeShown.{seen};
-ghost use Rattle.avm_node.specs.Shown.{shown};
+ghost use Rattle.avm_node.specs.ProposeShown.{input_shown};
+ghost use Rattle.avm_node.specs.Shown.{reply_shown};
 ghost use Rattle.avm_node.specs.WorkerSets.{AreWorkerSets};
 
 use crate::output::{DONE, REFUSED, Reply};
@@ -29,7 +29,7 @@ pub fn propose_reply<R: Threads + Wait + Sync>(
     own: &OpSet,
 ) -> Result<Reply, AllocError>
     requires sets { AreWorkerSets ⟦<BoxedOp as Op>⟧.opcode sets.items own.now }
-    ensures { IfOk result (λ reply. IsProposeReply input.now (shown reply)) }
+    ensures { IfOk result (λ reply. IsProposeReply input.now (reply_shown reply)) }
 {
     match propose_input(alloc, input) {
         Ok(read) => pool_answer(rt, alloc, read, sets, own),
@@ -48,7 +48,7 @@ fn pool_answer<R: Threads + Wait + Sync>(
 ) -> Result<Reply, AllocError>
     requires profile { read.header.profile ≡ Three }
     requires sets { AreWorkerSets ⟦<BoxedOp as Op>⟧.opcode sets.items own.now }
-    ensures { IfOk result (λ reply. IsPoolReply (seen read) (shown reply)) }
+    ensures { IfOk result (λ reply. IsPoolReply (input_shown read) (reply_shown reply)) }
 {
     let ProposeInput {
         base,
@@ -64,7 +64,7 @@ fn pool_answer<R: Threads + Wait + Sync>(
 
 /// The text of a block, and of the calls that it leaves.
 fn proposal_reply(alloc: Global, proposal: &Proposal) -> Result<Reply, AllocError>
-    ensures { IfOk result (λ reply. shown reply ≡ proposal_reply proposal.now) }
+    ensures { IfOk result (λ reply. reply_shown reply ≡ proposal_reply proposal.now) }
 {
     let bytes = encode(alloc, &proposal.block)?;
     let mut text = hex::encode(alloc, bytes.as_slice())?;
@@ -86,7 +86,7 @@ fn add_left(alloc: Global, text: &mut String, left: &[u32]) -> Result<(), AllocE
 
 /// Why there is no block.
 fn pool_reply(alloc: Global, fault: PoolFault) -> Result<Reply, AllocError>
-    ensures { IfOk result (λ reply. shown reply ≡ pool_reply fault) }
+    ensures { IfOk result (λ reply. reply_shown reply ≡ pool_reply fault) }
 {
     let name = fault.name();
     let text = format!(in alloc; "refused pool {name}\n")?;

@@ -4,9 +4,9 @@ ghost use Rattle.std.specs.Prelude.{◌≡◌, IfOk};
 ghost use Rattle.teal_value.specs.Answer.{Gives};
 ghost use Rattle.avm_ledger.specs.declared.header.Profile.TheVariants.{Three};
 ghost use Rattle.avm_node.specs.DigitLines.{DigitLine, digit_lines};
-ghost use Rattle.avm_node.specs.ProposeInputs.{calls_of, first_header, header_of, on_call, propose_input};
+ghost use Rattle.avm_node.specs.ProposeInputs.{calls_on_lines, first_header, header_of, on_call, propose_input};
 ghost use Rattle.avm_node.specs.CallLines.{checked_call};
-ghost use Rattle.avm_node.specs.ProposeShown.{seen};
+ghost use Rattle.avm_node.specs.ProposeShown.{input_shown};
 
 use crate::block_commands::{needed_bytes, next_base};
 use crate::call_line::checked_call;
@@ -28,7 +28,7 @@ pub struct ProposeInput {
 
 /// What the lines are, or the first refusal in their order.
 pub fn propose_input(alloc: Global, input: &[u8]) -> Result<ProposeInput, Failure<Refusal>>
-    ensures exact { Gives seen result (propose_input (digit_lines input.now)) }
+    ensures exact { Gives input_shown result (propose_input (digit_lines input.now)) }
     ensures profile { IfOk result (λ read. read.header.profile ≡ Three) }
 {
     let mut lines = DigitLines::new(input);
@@ -70,7 +70,7 @@ fn header_of(bytes: &[u8]) -> Result<Header, Failure<Refusal>>
 
 /// The calls of all lines that are left.
 fn calls_of(alloc: Global, mut lines: DigitLines) -> Result<Vec<Call>, Failure<Refusal>>
-    ensures { Gives (λ calls. calls.items) result (calls_of 1 lines.entry) }
+    ensures { Gives (λ calls. calls.items) result (calls_on_lines 1 lines.entry) }
 {
     let mut calls = Vec::new(alloc);
     while let Some(bytes) = lines.next_bytes(alloc)? {

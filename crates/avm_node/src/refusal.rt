@@ -2,7 +2,7 @@
 
 ghost use Rattle.std.specs.Prelude.{◌≡◌, IfOk, string_bytes};
 ghost use Rattle.avm_node.specs.Refusals.{block_text, call_text, check_place, check_text, ledger_text, opening_text, refusal_reply, state_text};
-ghost use Rattle.avm_node.specs.Shown.{shown};
+ghost use Rattle.avm_node.specs.Shown.{reply_shown};
 
 use crate::call_line::CallLineFault;
 use crate::output::{REFUSED, Reply};
@@ -40,7 +40,7 @@ pub enum Refusal {
 
 /// What is answered to a refused input.
 pub fn refusal_reply(alloc: Global, refusal: Refusal) -> Result<Reply, AllocError>
-    ensures { IfOk result (λ reply. shown reply ≡ refusal_reply refusal) }
+    ensures { IfOk result (λ reply. reply_shown reply ≡ refusal_reply refusal) }
 {
     let text = match refusal {
         Refusal::Hex(line) => format!(in alloc; "refused hex {line}\n")?,

@@ -1,10 +1,10 @@
 //! Running the program's commands, those among them that start threads.
 
 ghost use Rattle.std.specs.Prelude.{◌≡◌, IfOk, None, map};
-ghost use Rattle.avm_node.specs.Answers.{Answers, IsReply};
+ghost use Rattle.avm_node.specs.Answers.{CommandAnswers, IsReply};
 ghost use Rattle.avm_words.specs.CommandLine.{command_in};
 ghost use Rattle.avm_words.specs.declared.command_line.NodeCommand.TheVariants.{Propose};
-ghost use Rattle.avm_node.specs.Shown.{shown};
+ghost use Rattle.avm_node.specs.Shown.{reply_shown};
 ghost use Rattle.avm_node.specs.WorkerSets.{AreSets, AreWorkerSets};
 
 use crate::asm::input_refusal;
@@ -32,7 +32,7 @@ pub fn run<'a, T: Threads + Wait + Sync, R: Read, W: Write>(
     mut sets: Vec<OpSet>,
 ) -> u8
     requires sets { AreSets ⟦<BoxedOp as Op>⟧.opcode sets.items }
-    ensures answers { Answers (command_in (map (λ word. word.now) words.now)) (R.remaining reader.old) (W.contents writer.old) (W.contents writer.new) result }
+    ensures answers { CommandAnswers (command_in (map (λ word. word.now) words.now)) (R.remaining reader.old) (W.contents writer.old) (W.contents writer.new) result }
     ensures reads_nothing { command_in (map (λ word. word.now) words.now) ≡ None → reader.new ≡ reader.old }
 {
     let Some(own) = sets.pop() else {
@@ -63,7 +63,7 @@ fn proposed<T: Threads + Wait + Sync, R: Read>(
     own: &OpSet,
 ) -> io::Result<Reply>
     requires sets { AreWorkerSets ⟦<BoxedOp as Op>⟧.opcode sets.items own.now }
-    ensures { IfOk result (λ reply. IsReply (Propose workers) (R.remaining reader.old) (shown reply)) }
+    ensures { IfOk result (λ reply. IsReply (Propose workers) (R.remaining reader.old) (reply_shown reply)) }
 {
     let input = read_input(alloc, reader)?;
     if input.len() > INPUT_LIMIT {

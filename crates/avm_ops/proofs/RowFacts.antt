@@ -37,7 +37,7 @@ use Rattle.avm_ops.specs.States.{value_length, foreign_of, foreign_application, 
 use Rattle.avm_ops.specs.Effect.{effect}
 use Rattle.avm_ops.specs.Steps.{branch_target, uints_after, strings_after, IsFlowTo, RunsOn, AsksLittle}
 use Rattle.avm_ops.specs.TakenOperands.{Underflows, TestsTypes, is_kind}
-use Rattle.avm_ops.specs.LeftValues.{Leaves, LeavesItsRow}
+use Rattle.avm_ops.specs.LeftValues.{LeavesValues, LeavesItsRow}
 use Rattle.avm_ops.proofs.ActParts as part
 use Rattle.avm_ops.proofs.TakenOperands as takes
 use Rattle.avm_ops.proofs.TakenOperands.{TestsFirst, takes_none, takes_ok, takes_act}
@@ -79,7 +79,7 @@ pub record Facts (c : Context) (target : Option ℕ) (us : List ℕ) (bs : List 
   pub strings : after.machine.byte_constants ≡ bs
   pub space : length after.machine.scratch ≡ length c.machine.scratch
   pub same : writes ≡ false → after.writes ≡ c.writes
-  pub left : length pops ≤ length c.machine.stack → after.flow ≢ flow.End → Leaves pops pushes c.machine.stack after.machine.stack
+  pub left : length pops ≤ length c.machine.stack → after.flow ≢ flow.End → LeavesValues pops pushes c.machine.stack after.machine.stack
 
 -- those of a row that sets no constants
 abbrev Plain : Context → Option ℕ → Bool → List ValueKind → List ValueKind → After → Type 0
@@ -87,27 +87,27 @@ Plain c target = Facts c target c.machine.uint_constants c.machine.byte_constant
 
 -- ---- the forms in which rows end
 
-without : (pops : List ValueKind) (before : List Value) → length pops ≤ length before → Leaves pops [] before (drop (length pops) before)
+without : (pops : List ValueKind) (before : List Value) → length pops ≤ length before → LeavesValues pops [] before (drop (length pops) before)
 without pops before h = record { count = simp length-drop (omega arith); kinds = refl; below = refl }
 
-with_one : (pops : List ValueKind) (k : ValueKind) (before : List Value) (v : Value) → length pops ≤ length before → is_kind k v ≡ true → Leaves pops (k ∷ []) before (v ∷ drop (length pops) before)
+with_one : (pops : List ValueKind) (k : ValueKind) (before : List Value) (v : Value) → length pops ≤ length before → is_kind k v ≡ true → LeavesValues pops (k ∷ []) before (v ∷ drop (length pops) before)
 with_one pops k before v h is = record { count = simp length-drop (omega arith); kinds = rw is refl; below = refl }
 
 with_two : (pops : List ValueKind) (k l : ValueKind) (before : List Value) (v top : Value) → length pops ≤ length before → is_kind k v ≡ true → is_kind l top ≡ true
-    → Leaves pops (k ∷ l ∷ []) before (top ∷ v ∷ drop (length pops) before)
+    → LeavesValues pops (k ∷ l ∷ []) before (top ∷ v ∷ drop (length pops) before)
 with_two pops k l before v top h is was = record { count = simp length-drop (omega arith); kinds = rw (was, is) refl; below = refl }
 
-one_above : (before : List Value) (a : Value) → 1 ≤ length before → Leaves (kind.Any ∷ []) (kind.Any ∷ kind.Any ∷ []) before (a ∷ before)
+one_above : (before : List Value) (a : Value) → 1 ≤ length before → LeavesValues (kind.Any ∷ []) (kind.Any ∷ kind.Any ∷ []) before (a ∷ before)
 one_above [] a few = absurd (omega arith)
 one_above (b ∷ s) a few = record { count = omega arith; kinds = refl; below = refl }
 
-two_above : (before : List Value) (a b : Value) → 2 ≤ length before → Leaves (kind.Any ∷ kind.Any ∷ []) (kind.Any ∷ kind.Any ∷ kind.Any ∷ kind.Any ∷ []) before (b ∷ a ∷ before)
+two_above : (before : List Value) (a b : Value) → 2 ≤ length before → LeavesValues (kind.Any ∷ kind.Any ∷ []) (kind.Any ∷ kind.Any ∷ kind.Any ∷ kind.Any ∷ []) before (b ∷ a ∷ before)
 two_above [] a b few = absurd (omega arith)
 two_above (x ∷ []) a b few = absurd (omega arith)
 two_above (x ∷ y ∷ s) a b few = record { count = omega arith; kinds = refl; below = refl }
 
 -- another stack, and what it has of this one
-restacked : (c : Context) (target : Option ℕ) (pops pushes : List ValueKind) (stack : List Value) → (length pops ≤ length c.machine.stack → Leaves pops pushes c.machine.stack stack)
+restacked : (c : Context) (target : Option ℕ) (pops pushes : List ValueKind) (stack : List Value) → (length pops ≤ length c.machine.stack → LeavesValues pops pushes c.machine.stack stack)
     → Plain c target false pops pushes (next_with_stack c stack)
 restacked c target pops pushes stack h = record { goes = tt; uints = refl; strings = refl; space = refl; same = λ quiet. refl; left = λ enough on. h enough }
 
@@ -351,6 +351,6 @@ leaves_its_row c o i look after is on = by (nat_le (length (row_of o).pops) (len
     kept : OnOk (FactsOf c o i) (Ok after)
     kept = subst (OnOk (FactsOf c o i)) is (at_most-result (questions o) (OnOk (FactsOf c o i)) look (effect c o i) (row_facts c o i).leaves)
 
-    by : (b : Bool) → nat_le (length (row_of o).pops) (length c.machine.stack) ≡ b → Leaves (row_of o).pops (row_of o).pushes c.machine.stack after.machine.stack
+    by : (b : Bool) → nat_le (length (row_of o).pops) (length c.machine.stack) ≡ b → LeavesValues (row_of o).pops (row_of o).pushes c.machine.stack after.machine.stack
     by true enough = kept.left (leb-true _ _ enough) on
     by false few = let stops : result_over look (effect c o i) ≡ Err fault.Underflow = ap (result_over look) (underflows c o i (leb-false _ _ few)) in absurd cc

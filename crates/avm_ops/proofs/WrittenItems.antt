@@ -24,8 +24,7 @@ use Rattle.avm_ledger.specs.Ledgers.{Ledger, application_at}
 use Rattle.avm_items.specs.declared.item.Item.{Item}
 use Rattle.avm_items.specs.declared.item.Item.TheVariants as item
 use Rattle.avm_items.specs.declared.item_value.ItemValue.TheVariants as value
-use Rattle.avm_items.specs.Items.{ItemMap, Look, with_item, application_in, entry_in, local_state_in}
-use Rattle.avm_items.specs.Items as items
+use Rattle.avm_items.specs.Items.{ItemMap, Look, with_item, application_in, entry_in, local_state_in, kept_counts_in}
 use Rattle.avm_items.specs.LedgerItems.{at, row_value, is_of_gone}
 use Rattle.avm_items.specs.Asks.{Ask, Gives, Asks, and_then}
 use Rattle.avm_items.specs.Acts.{Act, on_ok, found, test, reads, done}
@@ -48,7 +47,7 @@ abbrev pub old_entry : Ledger → ℕ → List ℕ → Option Value
 old_entry m id key = entry_in (at m (item.Key id key))
 
 abbrev pub old_counts : Ledger → ℕ → Schema
-old_counts m id = unwrap_or (items.counts_in (at m (item.Counts id))) no_entries
+old_counts m id = unwrap_or (kept_counts_in (at m (item.Counts id))) no_entries
 
 abbrev pub limit_of : (Application → Schema) → Ledger → ℕ → Schema
 limit_of part m id = schema_in part (application_in (at m (item.App id)))

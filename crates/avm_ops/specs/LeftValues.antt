@@ -13,7 +13,7 @@ use Rattle.avm_ops.specs.TakenOperands.{are_kinds}
 use Rattle.avm_ops.specs.Effect.{effect}
 
 -- The operands give way to values of the kinds that the row leaves; below them the stack is as it was.
-pub record Leaves (pops pushes : List ValueKind) (before after : List Value) : Type 0 where
+pub record LeavesValues (pops pushes : List ValueKind) (before after : List Value) : Type 0 where
   pub count : length after + length pops ≡ length before + length pushes
   pub kinds : are_kinds (reverse pushes) after ≡ true
   pub below : drop (length pushes) after ≡ drop (length pops) before
@@ -23,4 +23,4 @@ pub record Leaves (pops pushes : List ValueKind) (before after : List Value) : T
 abbrev pub LeavesItsRow : Type 0
 LeavesItsRow =
     (c : Context) (o : Opcode) (i : Immediates) (look : Look) (after : After) → result_over look (effect c o i) ≡ Ok after → after.flow ≢ flow.End
-    → Leaves (row_of o).pops (row_of o).pushes c.machine.stack after.machine.stack
+    → LeavesValues (row_of o).pops (row_of o).pushes c.machine.stack after.machine.stack

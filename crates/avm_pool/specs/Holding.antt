@@ -9,7 +9,7 @@ use Rattle.avm_pool.specs.declared.holding.Worked.{Worked}
 use Rattle.avm_pool.specs.declared.holding.Worked.TheVariants as worked
 
 -- The attempt has ended; the ledger, the header and the calls are the same.
-pub record HasEnded (a : CallAttempt) (old new : Journal) : Type 0 where
+pub record AttemptHasEnded (a : CallAttempt) (old new : Journal) : Type 0 where
   pub base : new.base ≡ old.base
   pub header : new.header ≡ old.header
   pub calls : new.calls ≡ old.calls
@@ -17,7 +17,7 @@ pub record HasEnded (a : CallAttempt) (old new : Journal) : Type 0 where
 
 -- A commit ends its attempt, or hands it back and leaves the journal as it was.
 abbrev pub Works : Work → Journal → Journal → Worked → Type 0
-Works (work.Commit a f) old new worked.Done = HasEnded a old new
+Works (work.Commit a f) old new worked.Done = AttemptHasEnded a old new
 Works (work.Commit a f) old new (worked.Again back) = (back ≡ a) × (new ≡ old)
 Works (work.Commit a f) old new (worked.Memory back) = (back ≡ a) × (new ≡ old)
 Works work.Prune old new result = Unit {0}

@@ -33,6 +33,6 @@ left_to numbers zero = []
 left_to numbers (suc n) = left_to numbers n ++ (if times (suc n) numbers == 0 then suc n ∷ [] else [])
 
 -- a mark for each of the numbers 1 to n: whether it stands in the list
-pub record AreMarked (numbers : List ℕ) (n : ℕ) (marks : List Bool) : Type 0 where
+pub record AreMarkedNumbers (numbers : List ℕ) (n : ℕ) (marks : List Bool) : Type 0 where
   pub count : length marks ≡ n
   pub each : (i : ℕ) (d : Bool) → i < n → get_or marks i d ≡ nat_lt 0 (times (i + 1) numbers)

@@ -2,7 +2,7 @@
 
 ghost use Rattle.std.specs.Prelude.{◌≡◌, ◌<◌, ◌≤◌, IfOk, vec_len};
 ghost use Rattle.std.specs.List.{AllByRecursion};
-ghost use Rattle.avm_pool.specs.Proposals.{AreMarked, left_to};
+ghost use Rattle.avm_pool.specs.Proposals.{AreMarkedNumbers, left_to};
 
 use std::alloc::{AllocError, Global};
 
@@ -18,7 +18,7 @@ pub(crate) fn left_of(alloc: Global, numbers: &[u32], count: u32) -> Result<Vec<
 /// Whether each number, from 1, stands in a list.
 fn marks_of(alloc: Global, numbers: &[u32], count: u32) -> Result<Vec<bool>, AllocError>
     requires { AllByRecursion (λ n. (0 < n) × (n ≤ count)) numbers.now }
-    ensures { IfOk result (λ marks. AreMarked numbers.now count marks.items) }
+    ensures { IfOk result (λ marks. AreMarkedNumbers numbers.now count marks.items) }
 {
     let mut marks = vec![in alloc; false; count as usize]?;
     for number in numbers {
@@ -35,7 +35,7 @@ fn unmarked(
     marks: &[bool],
     count: u32,
 ) -> Result<Vec<u32>, AllocError>
-    requires { AreMarked numbers.now count marks.now }
+    requires { AreMarkedNumbers numbers.now count marks.now }
     ensures { IfOk result (λ left. left.items ≡ left_to numbers.now count) }
 {
     let mut left = Vec::new(alloc);

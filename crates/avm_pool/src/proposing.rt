@@ -4,7 +4,7 @@ ghost use Rattle.std.specs.Prelude.{◌≡◌, ◌≤◌, true, [], IfErr, IfOk,
 ghost use Rattle.std.specs.Arc.{arc_value};
 ghost use Rattle.avm_ops.specs.Objects.{IsFull};
 ghost use Rattle.mv_parts.specs.Opening.{open_fault};
-ghost use Rattle.mv_parts.specs.Sealing.{IsOf};
+ghost use Rattle.mv_parts.specs.Sealing.{IsJournalOf};
 ghost use Rattle.avm_pool.specs.Proposals.{IsProposal};
 ghost use Rattle.avm_pool.specs.Refusals.{IsRefusal, IsWant, MayPropose};
 ghost use Rattle.avm_block.specs.Blocks.{most_calls};
@@ -149,7 +149,7 @@ fn opened(
     calls: &Arc<Vec<Call>>,
 ) -> Result<(Journal, Vec<ShardLock>), AllocError>
     requires opens { open_fault header.now (arc_value calls.now).items ≡ None }
-    ensures { IfOk result (λ opened. IsOf opened.0 base.now header.now (arc_value calls.now).items) }
+    ensures { IfOk result (λ opened. IsJournalOf opened.0 base.now header.now (arc_value calls.now).items) }
 {
     match open_parts(alloc, base.clone()?, *header, Arc::try_clone(calls)?) {
         Ok((journal, held)) => {

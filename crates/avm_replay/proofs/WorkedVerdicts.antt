@@ -10,13 +10,13 @@ use Rattle.avm_call.specs.WorkedPrograms.{zero_header}
 use Rattle.avm_call.specs.Replay.{outcome_on}
 use Rattle.avm_replay.specs.declared.verdict.Verdict.TheVariants as verdict
 use Rattle.avm_replay.specs.Verdicts.{Judges}
-use Rattle.avm_replay.specs.WorkedVerdicts.{block_of_creation, created, creating_call, entry_of_creation}
+use Rattle.avm_replay.specs.WorkedVerdicts.{block_of_creation, ledger_after_creation, creating_call, entry_of_creation}
 
 approved : outcome_on empty_ledger creating_call (zero_header profile.Two) ≡ outcome.Approved
 unfolding row_of opcodes opcode_at txn_field_at global_field_at effect
 approved = refl
 
-pub agrees : Judges empty_ledger (block_of_creation outcome.Approved) (verdict.Agrees created)
+pub agrees : Judges empty_ledger (block_of_creation outcome.Approved) (verdict.Agrees ledger_after_creation)
 agrees = (record { base = refl; outcomes = λ i. approved i ∷ []; after = refl }, refl)
 
 pub other_outcome : Judges empty_ledger (block_of_creation outcome.Rejected) (verdict.WrongOutcome 1 outcome.Approved)

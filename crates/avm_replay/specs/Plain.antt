@@ -26,9 +26,9 @@ abbrev pub plain_fault : Header → List CallData → Option PlainBlockFault
 plain_fault header calls = if nat_lt most_calls (length calls) then Some fault.TooMany else option_map fault.Profile (first_beyond header.profile 1 calls)
 
 -- It is this fault, or want of memory.
-abbrev pub IsFaultOf : Option PlainBlockFault → Failure PlainBlockFault → Type 0
-IsFaultOf found failure.Memory = Unit {0}
-IsFaultOf found (failure.Fault f) = found ≡ Some f
+abbrev pub IsPlainFaultOf : Option PlainBlockFault → Failure PlainBlockFault → Type 0
+IsPlainFaultOf found failure.Memory = Unit {0}
+IsPlainFaultOf found (failure.Fault f) = found ≡ Some f
 
 -- so many timestamps, one after another
 abbrev pub timestamps_from : ℕ → List CallData → List ℕ

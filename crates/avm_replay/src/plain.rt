@@ -4,7 +4,7 @@ ghost use Rattle.std.specs.Prelude.{◌≡◌, ◌≤◌, ◌+◌, true, All, If
 ghost use Rattle.avm_ops.specs.Objects.{IsFull};
 ghost use Rattle.avm_block.specs.AcceptedCalls.{is_accepted};
 ghost use Rattle.avm_replay.specs.FaultNames.{plain_block_fault_name};
-ghost use Rattle.avm_replay.specs.Plain.{AreMade, IsFaultOf, IsPlainBlock, first_beyond, plain_fault};
+ghost use Rattle.avm_replay.specs.Plain.{AreMade, IsPlainFaultOf, IsPlainBlock, first_beyond, plain_fault};
 
 use avm_block::{Block, Entry, MAX_ENTRIES, accepts, outcome_has_place};
 use avm_call::Call;
@@ -51,7 +51,7 @@ pub fn plain_block(
     requires full { IsFull ⟦<BoxedOp as Op>⟧.opcode ops.now }
     ensures accepted { IfOk result (λ _. plain_fault header.now calls.items ≡ None) }
     ensures block { IfOk result (IsPlainBlock ledger.now header.now calls.items) }
-    ensures refused { IfErr result (IsFaultOf (plain_fault header.now calls.items)) }
+    ensures refused { IfErr result (IsPlainFaultOf (plain_fault header.now calls.items)) }
 {
     if calls.len() > MAX_ENTRIES {
         return Err(Failure::Fault(PlainBlockFault::TooMany));

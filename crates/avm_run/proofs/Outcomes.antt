@@ -2,7 +2,7 @@
 use Rattle.std.proofs.Common.{◌≡◌, Ok, Err, refl, ap, ◌∙◌}
 use Rattle.avm_items.specs.Items.{Known, Look, value_in}
 use Rattle.avm_items.specs.Asks.{Answer, answer_from, result_over}
-use Rattle.avm_items.specs.Locality.{Agrees, Extends, then}
+use Rattle.avm_items.specs.Locality.{LookAgrees, Extends, then}
 use Rattle.avm_items.proofs.Questions.{result_with_more, result_on_ledger}
 use Rattle.avm_call.specs.Calls.{CallResult, call_result}
 use Rattle.avm_run.specs.Results.{CallRecord, IsResult, ResultOverMore, ResultOnLedgers, with_changes}
@@ -15,7 +15,7 @@ over_more_by f known w (Err x) e h = absurd cc
 pub over_more : (f : CallRecord) → IsResult f.call f.header f.reads f.outcome f.writes → ResultOverMore f
 over_more f h = λ known w. over_more_by f known w (answer_from (value_in f.reads) (call_result f.call f.header)) refl h
 
-on_ledgers_by : (f : CallRecord) (look : Look) → Agrees (value_in f.reads) look → (a : Answer CallResult) → answer_from (value_in f.reads) (call_result f.call f.header) ≡ a → then (λ r. Ok (with_changes f.reads r)) a ≡ Ok (f.outcome, f.writes)
+on_ledgers_by : (f : CallRecord) (look : Look) → LookAgrees (value_in f.reads) look → (a : Answer CallResult) → answer_from (value_in f.reads) (call_result f.call f.header) ≡ a → then (λ r. Ok (with_changes f.reads r)) a ≡ Ok (f.outcome, f.writes)
     → with_changes f.reads (result_over look (call_result f.call f.header)) ≡ (f.outcome, f.writes)
 on_ledgers_by f look w (Ok r) e h =
     let same : with_changes f.reads r ≡ (f.outcome, f.writes) = cc in

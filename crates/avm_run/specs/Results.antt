@@ -5,7 +5,7 @@ use Rattle.avm_items.specs.declared.call_data.CallData.{CallData}
 use Rattle.avm_items.specs.Items.{ItemMap, Known, Look, value_in}
 use Rattle.avm_items.specs.Asks.{answer_from, result_over}
 use Rattle.avm_items.specs.LedgerItems.{pruned, value_before}
-use Rattle.avm_items.specs.Locality.{Agrees, Extends, then}
+use Rattle.avm_items.specs.Locality.{LookAgrees, Extends, then}
 use Rattle.avm_call.specs.declared.outcome.Outcome.{Outcome}
 use Rattle.avm_call.specs.Calls.{CallResult, call_result}
 use Rattle.avm_call.specs.AskedFor.{AreAskedFor}
@@ -32,9 +32,9 @@ ResultOverMore f = (known : Known) → Extends (value_in f.reads) known → then
 
 -- and on every ledger that agrees with them.
 abbrev pub ResultOnLedgers : CallRecord → Type 0
-ResultOnLedgers f = (look : Look) → Agrees (value_in f.reads) look → with_changes f.reads (result_over look (call_result f.call f.header)) ≡ (f.outcome, f.writes)
+ResultOnLedgers f = (look : Look) → LookAgrees (value_in f.reads) look → with_changes f.reads (result_over look (call_result f.call f.header)) ≡ (f.outcome, f.writes)
 
 -- what the type of a call that has ended keeps
-pub record IsFinished (f : CallRecord) : Type 0 where
+pub record IsFinishedCall (f : CallRecord) : Type 0 where
   pub result : IsResult f.call f.header f.reads f.outcome f.writes
   pub asked : AreAskedFor f.reads f.call f.header

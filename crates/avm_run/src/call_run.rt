@@ -156,13 +156,13 @@ pub struct CallRun {
 
 impl Model for CallRun {
     ghost use Rattle.std.specs.Prelude.{Option};
-    ghost use Rattle.avm_run.specs.RunState.{IsSound, Progress, progress};
+    ghost use Rattle.avm_run.specs.RunState.{IsSoundState, Progress, progress};
 
     ghost Value = { Option Progress };
 
     ghost view = { λ r. progress r.state };
 
-    ghost invariant = { λ r. IsSound r.state };
+    ghost invariant = { λ r. IsSoundState r.state };
 }
 
 impl CallRun {

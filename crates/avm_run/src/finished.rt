@@ -4,7 +4,7 @@ ghost use Rattle.std.specs.Prelude.{◌≡◌, Ok};
 ghost use Rattle.avm_ledger.specs.declared.header.Header.{Header as BlockHeader};
 ghost use Rattle.avm_items.specs.declared.call_data.CallData.{CallData as Fields};
 ghost use Rattle.avm_items.specs.Items.{Known, Look, value_in};
-ghost use Rattle.avm_items.specs.Locality.{Agrees, Extends};
+ghost use Rattle.avm_items.specs.Locality.{LookAgrees, Extends};
 ghost use Rattle.avm_call.specs.AskedFor.{AreAskedFor};
 ghost use Rattle.avm_run.specs.Results.{IsResult, ResultOverMore, ResultOnLedgers};
 
@@ -25,13 +25,13 @@ pub struct Finished {
 }
 
 impl Model for Finished {
-    ghost use Rattle.avm_run.specs.Results.{CallRecord, IsFinished};
+    ghost use Rattle.avm_run.specs.Results.{CallRecord, IsFinishedCall};
 
     ghost Value = { CallRecord };
 
     ghost view = { λ f. record { call = f.call; header = f.header; reads = f.reads; writes = f.writes; outcome = f.outcome } };
 
-    ghost invariant = { λ f. IsFinished (record { call = f.call; header = f.header; reads = f.reads; writes = f.writes; outcome = f.outcome }) };
+    ghost invariant = { λ f. IsFinishedCall (record { call = f.call; header = f.header; reads = f.reads; writes = f.writes; outcome = f.outcome }) };
 }
 
 impl Finished {

@@ -6,7 +6,7 @@ use Rattle.std.proofs.lemmas.Bool.{cases_lt}
 use Rattle.std.proofs.lemmas.List.{get_or-set_other, get_or-set_same}
 use Rattle.hex.specs.Hex.{decode_pairs, digit_or_error, hex_digit_value, pair_value, ◌>>=◌}
 use Rattle.hex.specs.declared.error.FromHexError.{FromHexError}
-use Rattle.hex_digits.specs.DigitPairs.{AreNumbers, AreRead, AreWritten, byte_of, number_at}
+use Rattle.hex_digits.specs.DigitPairs.{AreNumbers, AreRead, DigitsAreWritten, byte_of, digit_at}
 
 -- the value of a digit; 255 stands for none
 abbrev digit_number : ℕ → ℕ
@@ -54,7 +54,7 @@ pair_refused a b i which =
     ]
 
 -- one number more
-pub number_more : (digits numbers : List ℕ) (place i before most number next : ℕ) → i < length numbers → number ≡ number_at digits (place + i) → (most ≤ next) × (number ≤ next)
+pub number_more : (digits numbers : List ℕ) (place i before most number next : ℕ) → i < length numbers → number ≡ digit_at digits (place + i) → (most ≤ next) × (number ≤ next)
     → ((next ≡ most) ⊎ (next ≡ number)) → AreNumbers digits place i numbers before most → AreNumbers digits place (i + 1) (slice_set numbers i number) before next
 number_more digits numbers place i before most number next fits number-is no-less one are = record {
   same = λ k lt.
@@ -84,8 +84,8 @@ number_more digits numbers place i before most number next fits number-is no-les
 }
 
 -- the greatest of the numbers so far, and of one more
-one_more : (digits : List ℕ) (n most number next : ℕ) → number ≡ number_at digits n → ((next ≡ most) ⊎ (next ≡ number)) → ((most ≡ 0) ⊎ ((k : ℕ) × (k < n) × (most ≡ number_at digits k)))
-    → (next ≡ 0) ⊎ ((k : ℕ) × (k < n + 1) × (next ≡ number_at digits k))
+one_more : (digits : List ℕ) (n most number next : ℕ) → number ≡ digit_at digits n → ((next ≡ most) ⊎ (next ≡ number)) → ((most ≡ 0) ⊎ ((k : ℕ) × (k < n) × (most ≡ digit_at digits k)))
+    → (next ≡ 0) ⊎ ((k : ℕ) × (k < n + 1) × (next ≡ digit_at digits k))
 one_more digits n most number next number-is one was =
     elim one [
       | inl e ↦
@@ -96,8 +96,8 @@ one_more digits n most number next number-is one was =
       | inr e ↦ inr (n, omega arith, e ∙ number-is)
     ]
 
-bound_more : (digits : List ℕ) (n most number next : ℕ) → number ≡ number_at digits n → (most ≤ next) × (number ≤ next) → ((k : ℕ) → k < n → number_at digits k ≤ most)
-    → (k : ℕ) → k < n + 1 → number_at digits k ≤ next
+bound_more : (digits : List ℕ) (n most number next : ℕ) → number ≡ digit_at digits n → (most ≤ next) × (number ≤ next) → ((k : ℕ) → k < n → digit_at digits k ≤ most)
+    → (k : ℕ) → k < n + 1 → digit_at digits k ≤ next
 bound_more digits n most number next number-is no-less was k lt =
     elim (cases_lt k n) [
       | inl below ↦ omega (arith, was k below, no-less.0)
@@ -107,7 +107,7 @@ bound_more digits n most number next number-is no-less was k lt =
     ]
 
 -- one pair more
-pub pair_more : (digits bytes : List ℕ) (i most high low next last byte : ℕ) → i < length bytes → high ≡ number_at digits (2 * i) → low ≡ number_at digits (2 * i + 1)
+pub pair_more : (digits bytes : List ℕ) (i most high low next last byte : ℕ) → i < length bytes → high ≡ digit_at digits (2 * i) → low ≡ digit_at digits (2 * i + 1)
     → (most ≤ next) × (high ≤ next) → ((next ≡ most) ⊎ (next ≡ high)) → (next ≤ last) × (low ≤ last) → ((last ≡ next) ⊎ (last ≡ low)) → byte ≡ byte_of high low
     → AreRead digits bytes i most → AreRead digits (slice_set bytes i byte) (i + 1) last
 pair_more digits bytes i most high low next last byte room high-is low-is no-less one no-less-2 one-2 byte-is are =
@@ -130,14 +130,14 @@ same_bytes a b c d high low = rw (high, low) refl
 -- a byte of a block
 read_there : (digits numbers bytes : List ℕ) (start before most j : ℕ) → j < 32 → AreNumbers digits (2 * start) 64 numbers before most
     → slice_index bytes (start + j) ≡ byte_of (slice_index numbers (2 * j)) (slice_index numbers (2 * j + 1))
-    → slice_index bytes (start + j) ≡ byte_of (number_at digits (2 * (start + j))) (number_at digits (2 * (start + j) + 1))
+    → slice_index bytes (start + j) ≡ byte_of (digit_at digits (2 * (start + j))) (digit_at digits (2 * (start + j) + 1))
 read_there digits numbers bytes start before most j lt are e =
-    let high : slice_index numbers (2 * j) ≡ number_at digits (2 * (start + j)) = are.same (2 * j) (omega (arith, lt)) ∙ ap (number_at digits) (omega arith) in
-    let low : slice_index numbers (2 * j + 1) ≡ number_at digits (2 * (start + j) + 1) = are.same (2 * j + 1) (omega (arith, lt)) ∙ ap (number_at digits) (omega arith) in
+    let high : slice_index numbers (2 * j) ≡ digit_at digits (2 * (start + j)) = are.same (2 * j) (omega (arith, lt)) ∙ ap (digit_at digits) (omega arith) in
+    let low : slice_index numbers (2 * j + 1) ≡ digit_at digits (2 * (start + j) + 1) = are.same (2 * j + 1) (omega (arith, lt)) ∙ ap (digit_at digits) (omega arith) in
     e ∙ same_bytes _ _ _ _ high low
 
 -- a block more
-pub block_more : (digits numbers old bytes : List ℕ) (start before most : ℕ) → AreNumbers digits (2 * start) 64 numbers before most → AreWritten numbers old bytes start 32
+pub block_more : (digits numbers old bytes : List ℕ) (start before most : ℕ) → AreNumbers digits (2 * start) 64 numbers before most → DigitsAreWritten numbers old bytes start 32
     → AreRead digits old start before → AreRead digits bytes (start + 32) most
 block_more digits numbers old bytes start before most are written was = record {
   read = λ k lt.
@@ -170,13 +170,13 @@ block_more digits numbers old bytes start before most are written was = record {
 pub none_read : (digits bytes : List ℕ) → AreRead digits bytes 0 0
 none_read digits bytes = record { read = λ k lt. absurd (omega (arith, lt)); bound = λ k lt. absurd (omega (arith, lt)); one = inl refl }
 
-two_on : (a b : ℕ) (digits : List ℕ) (i k : ℕ) → i ≡ suc (suc k) → number_at (a ∷ b ∷ digits) i ≡ number_at digits k
+two_on : (a b : ℕ) (digits : List ℕ) (i k : ℕ) → i ≡ suc (suc k) → digit_at (a ∷ b ∷ digits) i ≡ digit_at digits k
 two_on a b digits i k e = rw e refl
 
 -- pairs of digits spell the bytes of their numbers
 all_spelled : (place : ℕ) (digits bytes : List ℕ) → length digits ≡ 2 * length bytes
-    → ((k : ℕ) → k < length bytes → slice_index bytes k ≡ byte_of (number_at digits (2 * k)) (number_at digits (2 * k + 1)))
-    → ((k : ℕ) → k < length digits → number_at digits k < 16) → decode_pairs place digits ≡ Ok bytes
+    → ((k : ℕ) → k < length bytes → slice_index bytes k ≡ byte_of (digit_at digits (2 * k)) (digit_at digits (2 * k + 1)))
+    → ((k : ℕ) → k < length digits → digit_at digits k < 16) → decode_pairs place digits ≡ Ok bytes
 unfolding decode_pairs
 all_spelled place [] [] len same few = refl
 all_spelled place [] (x ∷ bytes) len same few = absurd (omega (arith, len))
@@ -191,7 +191,7 @@ all_spelled place (a ∷ b ∷ digits) (x ∷ bytes) len same few =
     rw (pair_read a b place high low, more, byte) refl
 
 -- a digit that is none is refused
-bad_refused : (place n k : ℕ) (digits : List ℕ) → length digits ≡ 2 * n → k < 2 * n → 16 ≤ number_at digits k → (e : FromHexError) × (decode_pairs place digits ≡ Err e)
+bad_refused : (place n k : ℕ) (digits : List ℕ) → length digits ≡ 2 * n → k < 2 * n → 16 ≤ digit_at digits k → (e : FromHexError) × (decode_pairs place digits ≡ Err e)
 unfolding decode_pairs
 bad_refused place zero k digits len lt le = absurd (omega (arith, lt))
 bad_refused place (suc n) k [] len lt le = absurd (omega (arith, len))

@@ -4,7 +4,7 @@ ghost use Rattle.std.specs.Prelude.{◌≡◌, ◌≤◌, ◌<◌, ◌+◌, ◌*
 ghost use Rattle.std.specs.Option.{option_map};
 ghost use Rattle.std.specs.Result.{result_ok};
 ghost use Rattle.hex.specs.Hex.{decode_of, decode_pairs, hex_digit_value};
-ghost use Rattle.hex_digits.specs.DigitPairs.{AreNumbers, AreRead, AreWritten};
+ghost use Rattle.hex_digits.specs.DigitPairs.{AreNumbers, AreRead, DigitsAreWritten};
 
 use std::alloc::{AllocError, Global};
 
@@ -86,7 +86,7 @@ fn block_numbers(digits: &[u8], place: usize, before: u8) -> ([u8; 64], u8)
 fn put_pairs(numbers: &[u8; 64], bytes: &mut [u8], start: usize)
     requires { start + 32 ≤ length bytes.old }
     ensures len { length bytes.new ≡ length bytes.old }
-    ensures written { AreWritten numbers.now bytes.old bytes.new start 32 }
+    ensures written { DigitsAreWritten numbers.now bytes.old bytes.new start 32 }
 {
     'pairs: for i in 0..BLOCK {
         bytes[start + i] = numbers[2 * i]

@@ -11,7 +11,7 @@ use Rattle.avm_items.specs.Items.{ItemMap, Look, item_cmp, value_in}
 use Rattle.avm_items.specs.LedgerItems.{AgreesWithReads, put}
 use Rattle.avm_call.specs.Calls.{CallResult}
 use Rattle.avm_call.specs.Replay.{outcome_on, changes_on, ledger_after, replayed}
-use Rattle.avm_run.specs.Results.{CallRecord, IsFinished}
+use Rattle.avm_run.specs.Results.{CallRecord, IsFinishedCall}
 use Rattle.avm_laws.specs.LedgerLooks.{IsLookOf, IsOfLedger, was_given}
 use Rattle.avm_run.proofs.FinishedCalls.{on_ledgers}
 use Rattle.avm_laws.proofs.Given.{item_same}
@@ -36,7 +36,7 @@ reads_agree l look reads is agrees x v there stands = sym (is.same x (ap (λ b. 
 
 -- ---- a finished call over a look-up of a ledger
 
-pub finished_calls_are_entries : (calls : List CallData) (f : CallRecord) (timestamp number : ℕ) → IsFinished f → call_of calls number ≡ Some f.call
+pub finished_calls_are_entries : (calls : List CallData) (f : CallRecord) (timestamp number : ℕ) → IsFinishedCall f → call_of calls number ≡ Some f.call
     → history.IsFinished same_item IsOfLedger (meaning_of f.header calls) (entry_of timestamp number f)
 finished_calls_are_entries calls f timestamp number is numbered look (l, of) agrees =
     let over = on_ledgers f is.result is.asked l of.orderly (reads_agree l look f.reads of agrees) in

@@ -7,7 +7,7 @@ use Rattle.avm_items.specs.Items.{Look}
 use Rattle.avm_items.specs.LedgerItems.{put}
 use Rattle.avm_call.specs.Replay.{outcome_on, changes_on, ledger_after, outcomes, replayed}
 use Rattle.avm_laws.specs.LedgerLooks.{IsLookOf, IsOfLedger}
-use Rattle.avm_run.specs.Results.{CallRecord, IsFinished}
+use Rattle.avm_run.specs.Results.{CallRecord, IsFinishedCall}
 use Rattle.mv_history.specs.History as history
 use Rattle.mv_history.specs.History.{IsEquality, lookup_after, Replays, state_after}
 use Rattle.mv_calls.specs.CallHistory.{CallEntry, same_item, call_of, result_in, meaning_of}
@@ -32,7 +32,7 @@ entry_of timestamp number f = record { timestamp = timestamp; number = number; o
 -- What a finished call keeps is what the order theorem asks of an entry.
 abbrev pub FinishedCallsAreEntries : Type 0
 FinishedCallsAreEntries =
-    (calls : List CallData) (f : CallRecord) (timestamp number : ℕ) → IsFinished f → call_of calls number ≡ Some f.call
+    (calls : List CallData) (f : CallRecord) (timestamp number : ℕ) → IsFinishedCall f → call_of calls number ≡ Some f.call
     → history.IsFinished same_item IsOfLedger (meaning_of f.header calls) (entry_of timestamp number f)
 
 -- the entry has the number of a call

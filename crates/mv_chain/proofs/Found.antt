@@ -2,7 +2,7 @@
 use Rattle.std.proofs.Common.{◌≡◌, ℕ, suc, ◌-◌, ◌<◌, ◌≤◌, ◌≢◌, max, insert, Bool, true, false, if◌then◌else◌, nat_le, List, [], ◌∷◌, length, drop, get_or, refl, sym, ap, ◌∙◌, subst, arith, le-leb}
 use Rattle.std.specs.List.{AllByRecursion}
 use Rattle.mv_chain.specs.declared.Version.{Version}
-use Rattle.mv_chain.specs.Versions.{count_not_above, IsChain, IsRising, newest_at, oldest_timestamp, marked_at_index, versions_read_at, versions_with, versions_from}
+use Rattle.mv_chain.specs.Versions.{count_not_above, IsChain, AreRising, newest_at, oldest_timestamp, marked_at_index, versions_read_at, versions_with, versions_from}
 use Rattle.mv_chain.specs.Laws.{IsNewestAt, EveryReadFindsTheNewest, EveryReadMarksItsVersionAlone, EveryInstallIsFound, EveryPruneKeepsReads}
 use Rattle.mv_chain.proofs.Places.{AtMost, within, above, at_most}
 
@@ -23,7 +23,7 @@ module _ {V : Type 0} where
           rw outer (subst (λ b. get_or (w ∷ ws) ((if b then suc (count_not_above t ws) else 0) - 1) d ≡ found t w ws) (le-leb w.timestamp t k) (rest k))
       at_test c (above k) rest = refl
 
-  rising_above : (t bound : ℕ) (ws : List (Version V)) → t ≤ bound → IsRising bound ws → AllByRecursion (λ u. t < u.timestamp) ws
+  rising_above : (t bound : ℕ) (ws : List (Version V)) → t ≤ bound → AreRising bound ws → AllByRecursion (λ u. t < u.timestamp) ws
   rising_above t bound [] h r = tt
   rising_above t bound (w ∷ ws) h r = (omega arith, rising_above t w.timestamp ws (omega arith) r.1)
 
@@ -32,7 +32,7 @@ module _ {V : Type 0} where
   none_greater t bound (w ∷ ws) h = ((λ k. let a : t < w.timestamp = h.0 in absurd (omega arith)), none_greater t bound ws h.1)
 
   -- a read finds the newest
-  pub found-newest : (t : ℕ) (v : Version V) (ws : List (Version V)) → v.timestamp ≤ t → IsRising v.timestamp ws → IsNewestAt t (v ∷ ws) (found t v ws)
+  pub found-newest : (t : ℕ) (v : Version V) (ws : List (Version V)) → v.timestamp ≤ t → AreRising v.timestamp ws → IsNewestAt t (v ∷ ws) (found t v ws)
   found-newest t v [] h r = record { held = (0, omega arith, refl); not_above = h; greatest = ((λ k. omega arith), tt) }
   found-newest t v (w ∷ ws) h r = at_test (nat_le w.timestamp t) (at_most w.timestamp t) (λ k. found-newest t w ws k r.1)
     where
@@ -53,7 +53,7 @@ module _ {V : Type 0} where
   from low v [] = v ∷ []
   from low v (w ∷ ws) = if nat_le w.timestamp low then from low w ws else v ∷ w ∷ ws
 
-  pub versions_from-from : (low : ℕ) (v : Version V) (ws : List (Version V)) → IsRising v.timestamp ws → versions_from low (v ∷ ws) ≡ from low v ws
+  pub versions_from-from : (low : ℕ) (v : Version V) (ws : List (Version V)) → AreRising v.timestamp ws → versions_from low (v ∷ ws) ≡ from low v ws
   versions_from-from low v [] r = at_test (nat_le v.timestamp low)
     where
       at_test : (c : Bool) → drop ((if c then 1 else 0) - 1) (v ∷ []) ≡ v ∷ []
@@ -69,7 +69,7 @@ module _ {V : Type 0} where
       at_tests b c (above h) (within k) rest = let here : v.timestamp < w.timestamp = r.0 in absurd (omega arith)
       at_tests b c (above h) (above k) rest = refl
 
-  from-chain : (low : ℕ) (v : Version V) (ws : List (Version V)) → IsRising v.timestamp ws → IsChain (from low v ws)
+  from-chain : (low : ℕ) (v : Version V) (ws : List (Version V)) → AreRising v.timestamp ws → IsChain (from low v ws)
   from-chain low v [] r = tt
   from-chain low v (w ∷ ws) r = at_test (nat_le w.timestamp low) (from-chain low w ws r.1)
     where
@@ -85,7 +85,7 @@ module _ {V : Type 0} where
       at_test c (within k) rest = rest k
       at_test c (above k) rest = h
 
-  from-rest : (low : ℕ) (v : Version V) (ws : List (Version V)) → IsRising v.timestamp ws → AllByRecursion (λ version. low < version.timestamp) (drop 1 (from low v ws))
+  from-rest : (low : ℕ) (v : Version V) (ws : List (Version V)) → AreRising v.timestamp ws → AllByRecursion (λ version. low < version.timestamp) (drop 1 (from low v ws))
   from-rest low v [] r = tt
   from-rest low v (w ∷ ws) r = at_test (nat_le w.timestamp low) (at_most w.timestamp low) (from-rest low w ws r.1)
     where
@@ -104,7 +104,7 @@ module _ {V : Type 0} where
           found-next t v w ws below = rw (le-leb w.timestamp t below) refl
       at_test c (above m) rest = newest_at-found t v (w ∷ ws) d k
 
-  pub found-at_least : (t : ℕ) (v : Version V) (ws : List (Version V)) → IsRising v.timestamp ws → v.timestamp ≤ (found t v ws).timestamp
+  pub found-at_least : (t : ℕ) (v : Version V) (ws : List (Version V)) → AreRising v.timestamp ws → v.timestamp ≤ (found t v ws).timestamp
   found-at_least t v [] r = omega arith
   found-at_least t v (w ∷ ws) r = at_test (nat_le w.timestamp t) (found-at_least t w ws r.1)
     where
@@ -118,7 +118,7 @@ module _ {V : Type 0} where
     older : n < before.timestamp → after ≡ before
     above : t < n → after ≡ before
 
-  found-insert : (t : ℕ) (new v : Version V) (ws : List (Version V)) → v.timestamp < new.timestamp → IsRising v.timestamp ws → AllByRecursion (λ u. u.timestamp ≢ new.timestamp) ws
+  found-insert : (t : ℕ) (new v : Version V) (ws : List (Version V)) → v.timestamp < new.timestamp → AreRising v.timestamp ws → AllByRecursion (λ u. u.timestamp ≢ new.timestamp) ws
       → IsFoundAfter new.timestamp t new (found t v ws) (found t v (insert ws (count_not_above new.timestamp ws) new))
   found-insert t new v [] h r fresh = at_test (nat_le new.timestamp t) (at_most new.timestamp t)
     where
@@ -177,7 +177,7 @@ module _ {V : Type 0} where
     same : before.timestamp ≡ marked.timestamp → after ≡ read_by r before
     another : before.timestamp ≢ marked.timestamp → after ≡ before
 
-  found-read : (r t : ℕ) (v : Version V) (ws : List (Version V)) → IsRising v.timestamp ws → IsFoundAfterRead r (found r v ws) (found t v ws) (found t (first_read r v ws) (others_read r v ws))
+  found-read : (r t : ℕ) (v : Version V) (ws : List (Version V)) → AreRising v.timestamp ws → IsFoundAfterRead r (found r v ws) (found t v ws) (found t (first_read r v ws) (others_read r v ws))
   found-read r t v [] rising = record { same = λ h. refl; another = λ h. absurd (h refl) }
   found-read r t v (w ∷ ws) rising =
       at_tests (nat_le w.timestamp r) (nat_le w.timestamp t) (at_most w.timestamp r) (at_most w.timestamp t) refl (ap (λ n. nat_le n t) (first_read-timestamp r w ws)) (found-read r t w ws rising.1)

@@ -2,7 +2,7 @@
 use Rattle.std.proofs.Common.{◌≡◌, ℕ, suc, ◌-◌, ◌<◌, ◌≤◌, ◌≢◌, ◌==◌, max, insert, Bool, true, false, if◌then◌else◌, nat_le, List, [], ◌∷◌, get_or, refl, sym, ap, ◌∙◌, subst, arith}
 use Rattle.std.specs.List.{AllByRecursion}
 use Rattle.mv_chain.specs.declared.Version.{Version}
-use Rattle.mv_chain.specs.Versions.{count_not_above, IsChain, IsRising, mark_in}
+use Rattle.mv_chain.specs.Versions.{count_not_above, IsChain, AreRising, mark_in}
 use Rattle.mv_chain.specs.Laws.{EveryInstallKeepsMarks, EveryMarkIsOfItsVersion, EveryPruneKeepsMarks, EveryReadRaisesOneMark}
 use Rattle.mv_chain.proofs.Places.{AtMost, within, above, at_most}
 use Rattle.mv_chain.proofs.Found.{found, newest_at-found, found-at_least, from, versions_from-from, read_by, first_read, others_read, versions_read_at-first}
@@ -39,11 +39,11 @@ module _ {V : Type 0} where
   mark_in-absent n [] h = refl
   mark_in-absent n (v ∷ vs) h = mark_in-rest n v vs h.0 ∙ mark_in-absent n vs h.1
 
-  mark_in-below : (n bound : ℕ) (vs : List (Version V)) → n ≤ bound → IsRising bound vs → mark_in n vs ≡ 0
+  mark_in-below : (n bound : ℕ) (vs : List (Version V)) → n ≤ bound → AreRising bound vs → mark_in n vs ≡ 0
   mark_in-below n bound [] h r = refl
   mark_in-below n bound (v ∷ vs) h r = mark_in-rest n v vs (let k : bound < v.timestamp = r.0 in omega arith) ∙ mark_in-below n v.timestamp vs (let k : bound < v.timestamp = r.0 in omega arith) r.1
 
-  mark_in-found : (t : ℕ) (v : Version V) (ws : List (Version V)) → IsRising v.timestamp ws → mark_in (found t v ws).timestamp (v ∷ ws) ≡ (found t v ws).mark
+  mark_in-found : (t : ℕ) (v : Version V) (ws : List (Version V)) → AreRising v.timestamp ws → mark_in (found t v ws).timestamp (v ∷ ws) ≡ (found t v ws).mark
   mark_in-found t v [] r = mark_in-first v.timestamp v [] refl
   mark_in-found t v (w ∷ ws) r = at_test (nat_le w.timestamp t) (mark_in-found t w ws r.1)
     where
@@ -52,7 +52,7 @@ module _ {V : Type 0} where
       at_test false rest = mark_in-first v.timestamp v (w ∷ ws) refl
 
   -- where the version found has another timestamp, none has this one
-  mark_in-another : (n : ℕ) (v : Version V) (ws : List (Version V)) → v.timestamp ≤ n → IsRising v.timestamp ws → (found n v ws).timestamp ≢ n → mark_in n (v ∷ ws) ≡ 0
+  mark_in-another : (n : ℕ) (v : Version V) (ws : List (Version V)) → v.timestamp ≤ n → AreRising v.timestamp ws → (found n v ws).timestamp ≢ n → mark_in n (v ∷ ws) ≡ 0
   mark_in-another n v [] h r other = mark_in-rest n v [] other
   mark_in-another n v (w ∷ ws) h r other = at_test (nat_le w.timestamp n) (at_most w.timestamp n) other (λ k. mark_in-another n w ws k r.1)
     where
@@ -61,7 +61,7 @@ module _ {V : Type 0} where
       at_test c (above k) other rest = mark_in-rest n v (w ∷ ws) other ∙ mark_in-below n n (w ∷ ws) (omega arith) (k, r.1)
 
   -- a read
-  mark_in-read : (t n : ℕ) (v : Version V) (ws : List (Version V)) → IsRising v.timestamp ws
+  mark_in-read : (t n : ℕ) (v : Version V) (ws : List (Version V)) → AreRising v.timestamp ws
       → mark_in n (first_read t v ws ∷ others_read t v ws) ≡ (if (found t v ws).timestamp == n then max (mark_in n (v ∷ ws)) t else mark_in n (v ∷ ws))
   mark_in-read t n v [] r = at_test (v.timestamp == n)
     where
@@ -115,7 +115,7 @@ module _ {V : Type 0} where
       at_test false rest = at_new (new.timestamp == n) (equals new.timestamp n)
 
   -- the versions from the newest one not above a timestamp on
-  mark_in-from : (low n : ℕ) (v : Version V) (ws : List (Version V)) → IsRising v.timestamp ws → (found low v ws).timestamp ≤ n → mark_in n (from low v ws) ≡ mark_in n (v ∷ ws)
+  mark_in-from : (low n : ℕ) (v : Version V) (ws : List (Version V)) → AreRising v.timestamp ws → (found low v ws).timestamp ≤ n → mark_in n (from low v ws) ≡ mark_in n (v ∷ ws)
   mark_in-from low n v [] r h = refl
   mark_in-from low n v (w ∷ ws) r h = at_test (nat_le w.timestamp low) h (λ k. mark_in-from low n w ws r.1 k)
     where
@@ -123,7 +123,7 @@ module _ {V : Type 0} where
       at_test true k rest = rest k ∙ sym (mark_in-rest n v (w ∷ ws) (let here : v.timestamp < w.timestamp = r.0 in let next : w.timestamp ≤ (found low w ws).timestamp = found-at_least low w ws r.1 in omega arith))
       at_test false k rest = refl
 
-  mark_in-dropped : (low n : ℕ) (v : Version V) (ws : List (Version V)) → IsRising v.timestamp ws → n < (found low v ws).timestamp → mark_in n (from low v ws) ≡ 0
+  mark_in-dropped : (low n : ℕ) (v : Version V) (ws : List (Version V)) → AreRising v.timestamp ws → n < (found low v ws).timestamp → mark_in n (from low v ws) ≡ 0
   mark_in-dropped low n v [] r h = mark_in-rest n v [] (omega arith)
   mark_in-dropped low n v (w ∷ ws) r h = at_test (nat_le w.timestamp low) h (λ k. mark_in-dropped low n w ws r.1 k)
     where

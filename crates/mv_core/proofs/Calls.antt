@@ -22,13 +22,13 @@ use Rattle.mv_shards.specs.Helds.{ArePruned, IsHeld, IsPrunedIn, Places, shard_f
 use Rattle.mv_parts.specs.declared.begin_fault.BeginFault.{BeginFault}
 use Rattle.mv_parts.specs.declared.begin_fault.BeginFault.TheVariants.{ClockEnd, Done, NoCall, Taken}
 use Rattle.mv_parts.specs.Journals as journal
-use Rattle.mv_parts.specs.Journals.{IsBeginRefusal, IsOfNumber, IsOver, Journal, begin_fault, versions_indexed}
+use Rattle.mv_parts.specs.Journals.{IsBeginRefusal, IsOfNumber, IsShardOver, Journal, begin_fault, versions_indexed}
 use Rattle.mv_parts.proofs.Opens.{index_within}
 use Rattle.mv_shards.specs.Writing.{versions_for}
-use Rattle.mv_core.specs.Places.{IsLive, IsNowhere, IsPlaced, live_in}
+use Rattle.mv_core.specs.Places.{HasLiveNumber, IsNowhere, IsPlaced, live_in}
 use Rattle.mv_core.specs.declared.faults.ReadFault.{ReadFault as StoreReadFault}
 use Rattle.mv_core.specs.declared.faults.ReadFault.TheVariants.{Unknown}
-use Rattle.mv_core.specs.Calls.{AreMarksBelow, IsKeptBy, as_journal, shown_by}
+use Rattle.mv_core.specs.Calls.{AreMarksBelow, IsKeptByJournal, as_journal, shown_by}
 use Rattle.mv_core.specs.Stores.{CallSlots, IsFirstRead, IsPrune, IsPrunedFor, IsPrunedPlace, IsReadAgain, IsReadPlace, Store}
 use Rattle.mv_core.proofs.Attempts.{attempt_here, count_in, live_here, live_there, not_live_none, not_live_other}
 use Rattle.mv_core.proofs.Events.{kept_abandoned, kept_again, kept_begun, kept_pruned, kept_read, marks_left, never_pruned, once, still_above}
@@ -71,30 +71,30 @@ module _ (j : Journal) (places : Places) (slots : CallSlots) where
   refusal_shown n failure.Memory h = same_fault n ∙ h
   refusal_shown n (failure.Fault f) h = same_fault n ∙ h
 
-  pub store_begun : (new : Journal) (n : ℕ) (a : CallAttempt) → begin_fault j n ≡ None → new ≡ record j { world = after_begin j.world n } → a ≡ fresh_attempt n (j.world.clock + 1) → IsKeptBy j places slots
-      → IsKeptBy new places (set slots (n - 1) (Some a)) × (shown_by new places (set slots (n - 1) (Some a)) ≡ record (shown_by j places slots) { world = after_begin (shown_by j places slots).world n })
+  pub store_begun : (new : Journal) (n : ℕ) (a : CallAttempt) → begin_fault j n ≡ None → new ≡ record j { world = after_begin j.world n } → a ≡ fresh_attempt n (j.world.clock + 1) → IsKeptByJournal j places slots
+      → IsKeptByJournal new places (set slots (n - 1) (Some a)) × (shown_by new places (set slots (n - 1) (Some a)) ≡ record (shown_by j places slots) { world = after_begin (shown_by j places slots).world n })
   store_begun new n a none is begun k =
       let b = begins_at j n none in
-      subst (λ c. IsKeptBy new places (set slots (n - 1) (Some c)) × (shown_by new places (set slots (n - 1) (Some c)) ≡ record (shown_by j places slots) { world = after_begin (shown_by j places slots).world n })) (sym begun)
-      (subst (λ i. IsKeptBy i places (set slots (n - 1) (Some (fresh_attempt n (j.world.clock + 1)))) × (shown_by i places (set slots (n - 1) (Some (fresh_attempt n (j.world.clock + 1)))) ≡ record (shown_by j places slots) { world = after_begin (shown_by j places slots).world n })) (sym is)
+      subst (λ c. IsKeptByJournal new places (set slots (n - 1) (Some c)) × (shown_by new places (set slots (n - 1) (Some c)) ≡ record (shown_by j places slots) { world = after_begin (shown_by j places slots).world n })) (sym begun)
+      (subst (λ i. IsKeptByJournal i places (set slots (n - 1) (Some (fresh_attempt n (j.world.clock + 1)))) × (shown_by i places (set slots (n - 1) (Some (fresh_attempt n (j.world.clock + 1)))) ≡ record (shown_by j places slots) { world = after_begin (shown_by j places slots).world n })) (sym is)
       (let h = kept_begun j.base j.header j.calls j.world places slots k.kept n b.above b.within b.uncommitted b.idle in (record { kept = h.0; marks = k.marks }, h.1)))
 
-  pub begun_within : (n : ℕ) → begin_fault j n ≡ None → IsKeptBy j places slots → n - 1 < length slots
+  pub begun_within : (n : ℕ) → begin_fault j n ≡ None → IsKeptByJournal j places slots → n - 1 < length slots
   begun_within n none k = let b = begins_at j n none in omega (arith, b.above, b.within, k.kept.count)
 
   -- ---- tickets
 
-  module _ (n t place : ℕ) (p : IsPlaced slots n t place) (k : IsKeptBy j places slots) where
+  module _ (n t place : ℕ) (p : IsPlaced slots n t place) (k : IsKeptByJournal j places slots) where
     own : get_or slots (n - 1) None ≡ Some p.attempt
     own = ap (λ i. get_or slots i None) (sym p.is) ∙ p.found
 
-    is_here : (IsLive j.world.live n p.attempt.timestamp) × (p.attempt.number ≡ n) × (attempt_at p.attempt.timestamp (live_in slots j.world.live) ≡ Some p.attempt)
+    is_here : (HasLiveNumber j.world.live n p.attempt.timestamp) × (p.attempt.number ≡ n) × (attempt_at p.attempt.timestamp (live_in slots j.world.live) ≡ Some p.attempt)
     is_here = attempt_here slots j.world.live n p.attempt p.above p.within own k.kept.attempts
 
-    is_live : IsLive j.world.live n t
-    is_live = subst (λ u. IsLive j.world.live n u) p.time is_here.0
+    is_live : HasLiveNumber j.world.live n t
+    is_live = subst (λ u. HasLiveNumber j.world.live n u) p.time is_here.0
 
-    pub store_placed : IsLive (shown_by j places slots).world.live n t
+    pub store_placed : HasLiveNumber (shown_by j places slots).world.live n t
     store_placed = live_here slots j.world.live n t is_live
 
     -- its attempt is live in the journal
@@ -103,18 +103,18 @@ module _ (j : Journal) (places : Places) (slots : CallSlots) where
         (subst (λ o. IsOfNumber p.attempt.number o) (sym is_here.0.live) (is_here.0.number ∙ sym is_here.1))
 
     pub store_abandoned : (new : Journal) (a : CallAttempt) → get_or slots place None ≡ Some a → new ≡ record j { world = after_abandon j.world a.timestamp }
-        → IsKeptBy new places (set slots place None) × (shown_by new places (set slots place None) ≡ record (shown_by j places slots) { world = after_abandon (shown_by j places slots).world t })
+        → IsKeptByJournal new places (set slots place None) × (shown_by new places (set slots place None) ≡ record (shown_by j places slots) { world = after_abandon (shown_by j places slots).world t })
     store_abandoned new a found is =
-        subst (λ i. IsKeptBy i places (set slots place None) × (shown_by i places (set slots place None) ≡ record (shown_by j places slots) { world = after_abandon (shown_by j places slots).world t }))
+        subst (λ i. IsKeptByJournal i places (set slots place None) × (shown_by i places (set slots place None) ≡ record (shown_by j places slots) { world = after_abandon (shown_by j places slots).world t }))
         (sym (is ∙ ap (λ (b : CallAttempt). record j { world = after_abandon j.world b.timestamp }) (same_Some _ _ (sym found ∙ p.found)) ∙ ap (λ u. record j { world = after_abandon j.world u }) p.time))
-        (subst (λ i. IsKeptBy (record j { world = after_abandon j.world t }) places (set slots i None) × (shown_by (record j { world = after_abandon j.world t }) places (set slots i None) ≡ record (shown_by j places slots) { world = after_abandon (shown_by j places slots).world t })) (sym p.is)
+        (subst (λ i. IsKeptByJournal (record j { world = after_abandon j.world t }) places (set slots i None) × (shown_by (record j { world = after_abandon j.world t }) places (set slots i None) ≡ record (shown_by j places slots) { world = after_abandon (shown_by j places slots).world t })) (sym p.is)
         (let h = kept_abandoned j.base j.header j.calls j.world places slots k.kept n t p.above p.within is_live in (record { kept = h.0; marks = k.marks }, h.1)))
 
     -- what was taken from the place
     pub store_abandoned_at : (new : Journal) (o : Option CallAttempt) (a : CallAttempt) (left d : Option CallAttempt) → o ≡ d → d ≡ get_or slots place d → o ≡ Some a → left ≡ None → new ≡ record j { world = after_abandon j.world a.timestamp }
-        → IsKeptBy new places (set slots place left) × (shown_by new places (set slots place left) ≡ record (shown_by j places slots) { world = after_abandon (shown_by j places slots).world t })
+        → IsKeptByJournal new places (set slots place left) × (shown_by new places (set slots place left) ≡ record (shown_by j places slots) { world = after_abandon (shown_by j places slots).world t })
     store_abandoned_at new o a left d taken there found gone is =
-        subst (λ e. IsKeptBy new places (set slots place e) × (shown_by new places (set slots place e) ≡ record (shown_by j places slots) { world = after_abandon (shown_by j places slots).world t })) (sym gone)
+        subst (λ e. IsKeptByJournal new places (set slots place e) × (shown_by new places (set slots place e) ≡ record (shown_by j places slots) { world = after_abandon (shown_by j places slots).world t })) (sym gone)
         (store_abandoned new a (at_none slots place d (Some a) (omega (arith, p.is, p.within)) (sym there ∙ sym taken ∙ found)) is)
 
     -- ---- a read
@@ -122,7 +122,7 @@ module _ (j : Journal) (places : Places) (slots : CallSlots) where
     pub all_held : (x : Item) → IsHeld places x
     all_held x = by (shard_for places x) (k.kept.shards.each (shard_of x) (index_within x))
       where
-        by : (o : Option Shard) → IsOver j.base j.world.low (shard_of x) o → IsSome o
+        by : (o : Option Shard) → IsShardOver j.base j.world.low (shard_of x) o → IsSome o
         by None over = absurd over
         by (Some s) over = refl
 
@@ -137,13 +137,13 @@ module _ (j : Journal) (places : Places) (slots : CallSlots) where
             value_of s x = at s.base x
 
     pub store_read : (new : Places) (new_slots : CallSlots) (x : Item) (v : ItemValue) → IsReadPlace places new slots new_slots place x v
-        → IsKeptBy j new new_slots × (IsFirstRead (shown_by j places slots) (shown_by j new new_slots) n t x v ⊎ IsReadAgain (shown_by j places slots) (shown_by j new new_slots) n t x v)
+        → IsKeptByJournal j new new_slots × (IsFirstRead (shown_by j places slots) (shown_by j new new_slots) n t x v ⊎ IsReadAgain (shown_by j places slots) (shown_by j new new_slots) n t x v)
     store_read new new_slots x v r =
         subst (λ ss. Goal new ss) (sym (r.others ∙ ap (λ i. set slots i (Some r.after)) p.is))
         (subst (λ ps. Goal ps (set slots (n - 1) (Some r.after))) (sym r.read.others) (by r.read.read))
       where
         Goal : Places → CallSlots → Type 0
-        Goal ps ss = IsKeptBy j ps ss × (IsFirstRead (shown_by j places slots) (shown_by j ps ss) n t x v ⊎ IsReadAgain (shown_by j places slots) (shown_by j ps ss) n t x v)
+        Goal ps ss = IsKeptByJournal j ps ss × (IsFirstRead (shown_by j places slots) (shown_by j ps ss) n t x v ⊎ IsReadAgain (shown_by j places slots) (shown_by j ps ss) n t x v)
 
         found : get_or slots (n - 1) None ≡ Some r.before
         found = ap (λ i. get_or slots i None) (sym p.is) ∙ r.found
@@ -168,10 +168,10 @@ module _ (j : Journal) (places : Places) (slots : CallSlots) where
             let same : versions_for places ≡ versions_for (set places (shard_of x) (Some r.read.read_shard)) = ap (λ (s : Store). versions_for s.places) (sym h.1.unchanged) in
             (record { kept = h.0; marks = subst (AreMarksBelow j.base j.world.low j.world.entries (versions_indexed j)) same k.marks }, inr (subst (λ u. IsReadAgain (shown_by j places slots) (shown_by j (set places (shard_of x) (Some r.read.read_shard)) (set slots (n - 1) (Some r.after))) n u x v) time h.1))
 
-  pub store_nowhere : (n t : ℕ) → IsNowhere slots n t → IsKeptBy j places slots → IsLive (shown_by j places slots).world.live n t → ⊥
+  pub store_nowhere : (n t : ℕ) → IsNowhere slots n t → IsKeptByJournal j places slots → HasLiveNumber (shown_by j places slots).world.live n t → ⊥
   store_nowhere n t nowhere k live = by (get_or slots (n - 1) None) refl
     where
-      l : IsLive j.world.live n t
+      l : HasLiveNumber j.world.live n t
       l = live_there slots j.world.live n t live
 
       numbered : (0 < n) × (n ≤ length j.calls)
@@ -186,9 +186,9 @@ module _ (j : Journal) (places : Places) (slots : CallSlots) where
 
   -- ---- a prune
 
-  pub store_pruned : (new_journal : Journal) (new : Places) (t : ℕ) → new_journal ≡ record j { world = record (j.world) { low = low_after_prune j.world t } } → ArePruned (low_after_prune j.world t) places new → IsKeptBy j places slots
-      → IsKeptBy new_journal new slots × IsPrune (shown_by j places slots) (shown_by new_journal new slots) t
-  store_pruned new_journal new t is pruned k = subst (λ i. IsKeptBy i new slots × IsPrune (shown_by j places slots) (shown_by i new slots) t) (sym is)
+  pub store_pruned : (new_journal : Journal) (new : Places) (t : ℕ) → new_journal ≡ record j { world = record (j.world) { low = low_after_prune j.world t } } → ArePruned (low_after_prune j.world t) places new → IsKeptByJournal j places slots
+      → IsKeptByJournal new_journal new slots × IsPrune (shown_by j places slots) (shown_by new_journal new slots) t
+  store_pruned new_journal new t is pruned k = subst (λ i. IsKeptByJournal i new slots × IsPrune (shown_by j places slots) (shown_by i new slots) t) (sym is)
       (let h = kept_pruned j.base j.header j.calls j.world places slots k.kept t new pruned in (record { kept = h.0; marks = marks }, h.1))
     where
       marks : AreMarksBelow j.base (low_after_prune j.world t) j.world.entries (versions_indexed j) (versions_for new)
@@ -200,8 +200,8 @@ module _ (j : Journal) (places : Places) (slots : CallSlots) where
 
   -- ---- nothing changed
 
-  pub store_same : (new : Places) (new_slots : CallSlots) → new ≡ places → new_slots ≡ slots → IsKeptBy j places slots → IsKeptBy j new new_slots
-  store_same new new_slots same_places same_slots k = subst (λ ss. IsKeptBy j new ss) (sym same_slots) (subst (λ ps. IsKeptBy j ps slots) (sym same_places) k)
+  pub store_same : (new : Places) (new_slots : CallSlots) → new ≡ places → new_slots ≡ slots → IsKeptByJournal j places slots → IsKeptByJournal j new new_slots
+  store_same new new_slots same_places same_slots k = subst (λ ss. IsKeptByJournal j new ss) (sym same_slots) (subst (λ ps. IsKeptByJournal j ps slots) (sym same_places) k)
 
 -- the shards refuse for one reason alone
 pub only_pruned : (r : ReadFault) → r ≡ Pruned

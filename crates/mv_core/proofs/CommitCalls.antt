@@ -5,7 +5,7 @@ use Rattle.std.proofs.lemmas.Option.{same_Some}
 use Rattle.teal_value.specs.declared.failure.Failure.{Failure}
 use Rattle.teal_value.specs.declared.failure.Failure.TheVariants as failure
 use Rattle.avm_items.specs.declared.item.Item.{Item}
-use Rattle.avm_run.specs.Results.{CallRecord, IsFinished}
+use Rattle.avm_run.specs.Results.{CallRecord, IsFinishedCall}
 use Rattle.mv_history.specs.History.{entries_with}
 use Rattle.mv_history.specs.World.{after_commit, attempt_at}
 use Rattle.mv_agreement.specs.Stores.{after_entry}
@@ -21,10 +21,10 @@ use Rattle.mv_parts.specs.Commits.{IsOwnCall}
 use Rattle.mv_parts.specs.Commits as parts
 use Rattle.mv_core.specs.declared.faults.CommitFault.{CommitFault}
 use Rattle.mv_core.specs.declared.faults.CommitFault.TheVariants as fault
-use Rattle.mv_core.specs.Places.{IsLive, IsPlaced, live_in}
-use Rattle.mv_core.specs.Calls.{AreMarksBelow, IsKeptBy, shown_by}
+use Rattle.mv_core.specs.Places.{HasLiveNumber, IsPlaced, live_in}
+use Rattle.mv_core.specs.Calls.{AreMarksBelow, IsKeptByJournal, shown_by}
 use Rattle.mv_core.specs.Commits.{IsCommitRefusal, IsCommitted, IsCommittedPlace, IsOwn, IsRefusedFor, MayCommit, store_error}
-use Rattle.mv_core.specs.Stores.{CallSlots, IsKept, Store, shown}
+use Rattle.mv_core.specs.Stores.{CallSlots, IsKeptStore, Store, store_shown}
 use Rattle.mv_core.proofs.Attempts.{attempt_here}
 use Rattle.mv_core.proofs.Calls.{live_in_journal, store_placed}
 use Rattle.mv_core.proofs.Commits.{fresh, from, in_time_here, kept_committed, late_shown, none_foreign, positive, unmoved, versions_new}
@@ -36,16 +36,16 @@ put_back [] i o left d a b taken there is same = refl
 put_back (x ∷ xs) zero o left d a b taken there is same = ap (λ y. y ∷ xs) (ap Some same ∙ sym is ∙ taken ∙ there)
 put_back (x ∷ xs) (suc i) o left d a b taken there is same = ap (λ ys. x ∷ ys) (put_back xs i o left d a b taken there is same)
 
-pub same_parts : (j : Journal) (places : Places) (slots : CallSlots) (new : Journal) (new_places : Places) (new_slots : CallSlots) → new ≡ j → new_places ≡ places → new_slots ≡ slots → IsKeptBy j places slots → IsKeptBy new new_places new_slots
-same_parts j places slots new new_places new_slots same_journal same_places same_slots k = subst (λ i. IsKeptBy i new_places new_slots) (sym same_journal) (subst (λ ps. IsKeptBy j ps new_slots) (sym same_places) (subst (λ ss. IsKeptBy j places ss) (sym same_slots) k))
+pub same_parts : (j : Journal) (places : Places) (slots : CallSlots) (new : Journal) (new_places : Places) (new_slots : CallSlots) → new ≡ j → new_places ≡ places → new_slots ≡ slots → IsKeptByJournal j places slots → IsKeptByJournal new new_places new_slots
+same_parts j places slots new new_places new_slots same_journal same_places same_slots k = subst (λ i. IsKeptByJournal i new_places new_slots) (sym same_journal) (subst (λ ps. IsKeptByJournal j ps new_slots) (sym same_places) (subst (λ ss. IsKeptByJournal j places ss) (sym same_slots) k))
 
 -- what a commit makes of a store
 pub record CommitsStore (s : Store) (new : Journal) (new_places : Places) (new_slots : CallSlots) (n t : ℕ) (f : CallRecord) : Type 0 where
   pub may : MayCommit s n t f
-  pub kept : IsKeptBy new new_places new_slots
+  pub kept : IsKeptByJournal new new_places new_slots
   pub committed : IsCommitted s (shown_by new new_places new_slots) n t f
 
-module _ (j : Journal) (places : Places) (slots : CallSlots) (n t place : ℕ) (p : IsPlaced slots n t place) (k : IsKeptBy j places slots) (indexed : IsIndexedStore j) (f : CallRecord) (fin : IsFinished f) where
+module _ (j : Journal) (places : Places) (slots : CallSlots) (n t place : ℕ) (p : IsPlaced slots n t place) (k : IsKeptByJournal j places slots) (indexed : IsIndexedStore j) (f : CallRecord) (fin : IsFinishedCall f) where
   abbrev a : CallAttempt
   a = p.attempt
 
@@ -55,7 +55,7 @@ module _ (j : Journal) (places : Places) (slots : CallSlots) (n t place : ℕ) (
   own_place : get_or slots (n - 1) None ≡ Some a
   own_place = ap (λ i. get_or slots i None) (sym p.is) ∙ p.found
 
-  is_here : (IsLive j.world.live n a.timestamp) × (a.number ≡ n) × (attempt_at a.timestamp (live_in slots j.world.live) ≡ Some a)
+  is_here : (HasLiveNumber j.world.live n a.timestamp) × (a.number ≡ n) × (attempt_at a.timestamp (live_in slots j.world.live) ≡ Some a)
   is_here = attempt_here slots j.world.live n a p.above p.within own_place k.kept.attempts
 
   live_there : journal.IsLive j.world a
@@ -136,8 +136,8 @@ module _ (j : Journal) (places : Places) (slots : CallSlots) (n t place : ℕ) (
         index = new.index;
       }
 
-      h : IsKept j.base j.header j.calls (after_commit j.world (entry_of a.timestamp n f)) new_places (set slots (n - 1) None)
-          × IsCommitted s (shown j.base j.header j.calls (after_commit j.world (entry_of a.timestamp n f)) new_places (set slots (n - 1) None)) n a.timestamp f
+      h : IsKeptStore j.base j.header j.calls (after_commit j.world (entry_of a.timestamp n f)) new_places (set slots (n - 1) None)
+          × IsCommitted s (store_shown j.base j.header j.calls (after_commit j.world (entry_of a.timestamp n f)) new_places (set slots (n - 1) None)) n a.timestamp f
       h = kept_committed j.base j.header j.calls j.world places slots k.kept n a p.above p.within own_place f fin may.own (may_shown may).in_time new_places done.shards
 
       index_is : (x : Item) → versions_indexed new x ≡ after_entry (λ value. value) same_item (entry_of a.timestamp n f) (versions_indexed j) x

@@ -13,7 +13,7 @@ use Rattle.avm_items.specs.Items.{ItemMap, Look}
 use Rattle.avm_items.specs.LedgerItems.{at}
 use Rattle.avm_items.specs.SameValues.{is_same_value}
 use Rattle.avm_call.specs.declared.outcome.Outcome.{Outcome}
-use Rattle.avm_run.specs.Results.{CallRecord, IsFinished}
+use Rattle.avm_run.specs.Results.{CallRecord, IsFinishedCall}
 use Rattle.avm_laws.specs.LedgerLooks.{IsOfLedger}
 use Rattle.avm_laws.proofs.Pruned.{value_itself}
 use Rattle.mv_chain.specs.declared.Late.{Late as LateVersion}
@@ -46,10 +46,10 @@ use Rattle.mv_parts.specs.declared.commit_fault.CommitFault.{CommitFault as Part
 use Rattle.mv_parts.specs.declared.commit_fault.CommitFault.TheVariants as parts_fault
 use Rattle.mv_core.specs.declared.faults.CommitFault.{CommitFault}
 use Rattle.mv_core.specs.declared.faults.CommitFault.TheVariants as fault
-use Rattle.mv_core.specs.Places.{IsLive, live_in}
+use Rattle.mv_core.specs.Places.{HasLiveNumber, live_in}
 use Rattle.mv_core.specs.Calls.{AreMarksBelow}
 use Rattle.mv_core.specs.Commits.{IsCommitted, late_write}
-use Rattle.mv_core.specs.Stores.{CallSlots, IsKept, marks_in, shown}
+use Rattle.mv_core.specs.Stores.{CallSlots, IsKeptStore, marks_in, store_shown}
 use Rattle.mv_core.proofs.Attempts.{attempt_here, live_ended, places_ended}
 use Rattle.mv_core.proofs.Events.{marks_are, once}
 use Rattle.mv_core.proofs.Held.{marks_of_places}
@@ -99,8 +99,8 @@ as_parts fault.Unknown = parts_fault.Unknown
 as_parts fault.Stranger = parts_fault.Stranger
 as_parts (fault.Late x version mark) = parts_fault.Late x version mark
 
-module _ (base : Ledger) (header : Header) (calls : List CallData) (w : CallWorld) (places : Places) (slots : CallSlots) (k : IsKept base header calls w places slots) (n : ℕ) (a : CallAttempt) (above : 0 < n) (inside : n - 1 < length slots) (here : get_or slots (n - 1) None ≡ Some a) where
-  is_here : (IsLive w.live n a.timestamp) × (a.number ≡ n) × (attempt_at a.timestamp (live_in slots w.live) ≡ Some a)
+module _ (base : Ledger) (header : Header) (calls : List CallData) (w : CallWorld) (places : Places) (slots : CallSlots) (k : IsKeptStore base header calls w places slots) (n : ℕ) (a : CallAttempt) (above : 0 < n) (inside : n - 1 < length slots) (here : get_or slots (n - 1) None ≡ Some a) where
+  is_here : (HasLiveNumber w.live n a.timestamp) × (a.number ≡ n) × (attempt_at a.timestamp (live_in slots w.live) ≡ Some a)
   is_here = attempt_here slots w.live n a above inside here k.attempts
 
   pub from : w.low ≤ a.timestamp
@@ -167,11 +167,11 @@ module _ (base : Ledger) (header : Header) (calls : List CallData) (w : CallWorl
         ∙ later_of a.timestamp (followed x) (mark_in (followed x) (versions_for index x)) (mark_in (followed x) (versions_for places x)) (below x (followed x) reached)
         ∙ ap (late_by a.timestamp (followed x)) (sym (marks_are base header calls w places slots k x (followed x)))
 
-    late_same : (writes : ItemMap) → parts.late_write index places a.timestamp writes ≡ option_map as_parts (late_write (shown base header calls w places slots) a.timestamp writes)
+    late_same : (writes : ItemMap) → parts.late_write index places a.timestamp writes ≡ option_map as_parts (late_write (store_shown base header calls w places slots) a.timestamp writes)
     late_same [] = refl
     late_same (e ∷ es) =
         (λ i. late_or e.0 (late_here e.0 i) (late_same es i))
-        ∙ by (nat_lt a.timestamp (greatest_mark same_item (marks_in places) e.0 (followed e.0))) (late_write (shown base header calls w places slots) a.timestamp es)
+        ∙ by (nat_lt a.timestamp (greatest_mark same_item (marks_in places) e.0 (followed e.0))) (late_write (store_shown base header calls w places slots) a.timestamp es)
       where
         mark : ℕ
         mark = greatest_mark same_item (marks_in places) e.0 (followed e.0)
@@ -180,16 +180,16 @@ module _ (base : Ledger) (header : Header) (calls : List CallData) (w : CallWorl
         by true rest = refl
         by false rest = refl
 
-    pub in_time_here : (writes : ItemMap) → parts.late_write index places a.timestamp writes ≡ None → late_write (shown base header calls w places slots) a.timestamp writes ≡ None
-    in_time_here writes none = by (late_write (shown base header calls w places slots) a.timestamp writes) (sym (late_same writes) ∙ none)
+    pub in_time_here : (writes : ItemMap) → parts.late_write index places a.timestamp writes ≡ None → late_write (store_shown base header calls w places slots) a.timestamp writes ≡ None
+    in_time_here writes none = by (late_write (store_shown base header calls w places slots) a.timestamp writes) (sym (late_same writes) ∙ none)
       where
         by : (o : Option CommitFault) → option_map as_parts o ≡ None → o ≡ None
         by None h = refl
         by (Some f) h = absurd cc
 
     pub late_shown : (writes : ItemMap) (x : Item) (version mark : ℕ) → parts.late_write index places a.timestamp writes ≡ Some (parts_fault.Late x version mark)
-        → late_write (shown base header calls w places slots) a.timestamp writes ≡ Some (fault.Late x version mark)
-    late_shown writes x version mark is = by (late_write (shown base header calls w places slots) a.timestamp writes) (sym (late_same writes) ∙ is)
+        → late_write (store_shown base header calls w places slots) a.timestamp writes ≡ Some (fault.Late x version mark)
+    late_shown writes x version mark is = by (late_write (store_shown base header calls w places slots) a.timestamp writes) (sym (late_same writes) ∙ is)
       where
         by : (o : Option CommitFault) → option_map as_parts o ≡ Some (parts_fault.Late x version mark) → o ≡ Some (fault.Late x version mark)
         by None h = absurd cc
@@ -203,18 +203,18 @@ module _ (base : Ledger) (header : Header) (calls : List CallData) (w : CallWorl
 
   -- ---- the commit
 
-  module _ (f : CallRecord) (fin : IsFinished f) (own : IsOwnCall calls header a f) (in_time : late_write (shown base header calls w places slots) a.timestamp f.writes ≡ None) (new : Places) (written : AreWritten a.timestamp a.reads f.writes places new) where
+  module _ (f : CallRecord) (fin : IsFinishedCall f) (own : IsOwnCall calls header a f) (in_time : late_write (store_shown base header calls w places slots) a.timestamp f.writes ≡ None) (new : Places) (written : AreWritten a.timestamp a.reads f.writes places new) where
     abbrev e : CallEntry
     e = entry_of a.timestamp n f
 
-    in_time_by : (writes : ItemMap) → late_write (shown base header calls w places slots) a.timestamp writes ≡ None
+    in_time_by : (writes : ItemMap) → late_write (store_shown base header calls w places slots) a.timestamp writes ≡ None
         → AllByRecursion (λ write. marks_of (versions_for places) write.0 (version_below same_item (at base) w.entries (suc a.timestamp) write.0).0 ≤ a.timestamp) writes
     in_time_by [] none = tt
     in_time_by (x ∷ xs) none = by (nat_lt a.timestamp (greatest_mark same_item (marks_in places) x.0 (followed x.0))) (compared a.timestamp (greatest_mark same_item (marks_in places) x.0 (followed x.0))) none (in_time_by xs)
       where
         by : (b : Bool) → Compared a.timestamp (greatest_mark same_item (marks_in places) x.0 (followed x.0)) b
-            → (if b then Some (fault.Late x.0 (followed x.0) (greatest_mark same_item (marks_in places) x.0 (followed x.0))) else late_write (shown base header calls w places slots) a.timestamp xs) ≡ None
-            → (late_write (shown base header calls w places slots) a.timestamp xs ≡ None → AllByRecursion (λ write. marks_of (versions_for places) write.0 (version_below same_item (at base) w.entries (suc a.timestamp) write.0).0 ≤ a.timestamp) xs)
+            → (if b then Some (fault.Late x.0 (followed x.0) (greatest_mark same_item (marks_in places) x.0 (followed x.0))) else late_write (store_shown base header calls w places slots) a.timestamp xs) ≡ None
+            → (late_write (store_shown base header calls w places slots) a.timestamp xs ≡ None → AllByRecursion (λ write. marks_of (versions_for places) write.0 (version_below same_item (at base) w.entries (suc a.timestamp) write.0).0 ≤ a.timestamp) xs)
             → AllByRecursion (λ write. marks_of (versions_for places) write.0 (version_below same_item (at base) w.entries (suc a.timestamp) write.0).0 ≤ a.timestamp) (x ∷ xs)
         by b (less h) never others = absurd cc
         by b (not_less h) rest others =
@@ -258,7 +258,7 @@ module _ (base : Ledger) (header : Header) (calls : List CallData) (w : CallWorl
             (subst (λ y. a.timestamp ≤ mark_in (version_below same_item (at base) w.entries a.timestamp y).0 (versions_for places y)) (sym (items_have_an_equality.exact x r.0 same)) h.0)))
         by false other rest = rest
 
-    pub kept_committed : IsKept base header calls (after_commit w e) new (set slots (n - 1) None) × IsCommitted (shown base header calls w places slots) (shown base header calls (after_commit w e) new (set slots (n - 1) None)) n a.timestamp f
+    pub kept_committed : IsKeptStore base header calls (after_commit w e) new (set slots (n - 1) None) × IsCommitted (store_shown base header calls w places slots) (store_shown base header calls (after_commit w e) new (set slots (n - 1) None)) n a.timestamp f
     kept_committed = (
       record {
         orderly = k.orderly;

@@ -35,12 +35,12 @@ use Rattle.mv_shards.specs.Shards.{Shard, versions_held}
 use Rattle.mv_shards.specs.Shards as shard
 use Rattle.mv_shards.specs.Helds.{ArePruned, Places, shard_for}
 use Rattle.mv_shards.specs.Writing.{versions_for, versions_or_none}
-use Rattle.mv_parts.specs.Journals.{IsOver}
+use Rattle.mv_parts.specs.Journals.{IsShardOver}
 use Rattle.mv_parts.proofs.Opens.{index_within}
-use Rattle.mv_running.specs.Running.{place_of}
+use Rattle.mv_running.specs.Running.{place_among}
 use Rattle.mv_running.proofs.Workers.{with_item-new}
-use Rattle.mv_core.specs.Places.{IsLive, live_in}
-use Rattle.mv_core.specs.Stores.{CallSlots, IsFirstRead, IsKept, IsPrune, IsReadAgain, marks_in, shown}
+use Rattle.mv_core.specs.Places.{HasLiveNumber, live_in}
+use Rattle.mv_core.specs.Stores.{CallSlots, IsFirstRead, IsKeptStore, IsPrune, IsReadAgain, marks_in, store_shown}
 use Rattle.mv_core.proofs.Attempts.{all_in, attempt_here, count_in, live_begun, live_ended, live_read, places_begun, places_ended, places_read}
 use Rattle.mv_core.proofs.Held.{IsRaisedPlace, marks_of_places, none_stays, raised_place, shards_after_read, versions_after_read}
 
@@ -64,12 +64,12 @@ set_same [] i x found = refl
 set_same (o ∷ os) zero x found = ap (λ p. p ∷ os) (sym found)
 set_same (o ∷ os) (suc i) x found = ap (λ ps. o ∷ ps) (set_same os i x found)
 
-module _ (base : Ledger) (header : Header) (calls : List CallData) (w : CallWorld) (places : Places) (slots : CallSlots) (k : IsKept base header calls w places slots) where
+module _ (base : Ledger) (header : Header) (calls : List CallData) (w : CallWorld) (places : Places) (slots : CallSlots) (k : IsKeptStore base header calls w places slots) where
   -- the marks that are listed are the versions'
   pub marks_are : (x : Item) (n : ℕ) → greatest_mark same_item (marks_in places) x n ≡ marks_of (versions_for places) x n
   marks_are = marks_of_places places (λ x. (k.store.holds x).chain)
 
-  pub consistent_world : IsConsistentWorld same_item IsOfLedger (meaning_of header calls) (at base) (shown base header calls w places slots).world
+  pub consistent_world : IsConsistentWorld same_item IsOfLedger (meaning_of header calls) (at base) (store_shown base header calls w places slots).world
   consistent_world =
       let same : greatest_mark same_item (marks_in places) ≡ marks_of (versions_for places) = λ i x n. marks_are x n i in
       subst (λ mark. IsConsistent same_item IsOfLedger (meaning_of header calls) (at base) mark w.clock w.low w.entries (live_in slots w.live)) (sym same) k.store.consistent
@@ -80,8 +80,8 @@ module _ (base : Ledger) (header : Header) (calls : List CallData) (w : CallWorl
   -- ---- a call begins
 
   pub kept_begun : (n : ℕ) → 0 < n → n ≤ length calls → commit_count n w.entries ≡ 0 → live_count n w.live ≡ 0
-      → IsKept base header calls (after_begin w n) places (set slots (n - 1) (Some (fresh_attempt n (w.clock + 1))))
-      × (shown base header calls (after_begin w n) places (set slots (n - 1) (Some (fresh_attempt n (w.clock + 1)))) ≡ record (shown base header calls w places slots) { world = after_begin (shown base header calls w places slots).world n })
+      → IsKeptStore base header calls (after_begin w n) places (set slots (n - 1) (Some (fresh_attempt n (w.clock + 1))))
+      × (store_shown base header calls (after_begin w n) places (set slots (n - 1) (Some (fresh_attempt n (w.clock + 1)))) ≡ record (store_shown base header calls w places slots) { world = after_begin (store_shown base header calls w places slots).world n })
   kept_begun n above within uncommitted idle = (
     record {
       orderly = k.orderly;
@@ -116,9 +116,9 @@ module _ (base : Ledger) (header : Header) (calls : List CallData) (w : CallWorl
 
   -- ---- an attempt is abandoned
 
-  pub kept_abandoned : (n t : ℕ) → 0 < n → n - 1 < length slots → IsLive w.live n t
-      → IsKept base header calls (after_abandon w t) places (set slots (n - 1) None)
-      × (shown base header calls (after_abandon w t) places (set slots (n - 1) None) ≡ record (shown base header calls w places slots) { world = after_abandon (shown base header calls w places slots).world t })
+  pub kept_abandoned : (n t : ℕ) → 0 < n → n - 1 < length slots → HasLiveNumber w.live n t
+      → IsKeptStore base header calls (after_abandon w t) places (set slots (n - 1) None)
+      × (store_shown base header calls (after_abandon w t) places (set slots (n - 1) None) ≡ record (store_shown base header calls w places slots) { world = after_abandon (store_shown base header calls w places slots).world t })
   kept_abandoned n t above inside is_live = (
     record {
       orderly = k.orderly;
@@ -145,7 +145,7 @@ module _ (base : Ledger) (header : Header) (calls : List CallData) (w : CallWorl
   -- ---- an item is read
 
   module _ (n : ℕ) (before after : CallAttempt) (x : Item) (v : ItemValue) (s new : Shard) (above : 0 < n) (inside : n - 1 < length slots) (found : get_or slots (n - 1) None ≡ Some before) (here : shard_for places x ≡ Some s) where
-    is_here : (IsLive w.live n before.timestamp) × (before.number ≡ n) × (attempt_at before.timestamp (live_in slots w.live) ≡ Some before)
+    is_here : (HasLiveNumber w.live n before.timestamp) × (before.number ≡ n) × (attempt_at before.timestamp (live_in slots w.live) ≡ Some before)
     is_here = attempt_here slots w.live n before above inside found k.attempts
 
     from : w.low ≤ before.timestamp
@@ -182,28 +182,28 @@ module _ (base : Ledger) (header : Header) (calls : List CallData) (w : CallWorl
         by false other = sym (marks_are y m)
 
     pub kept_read : shard.IsFirstRead s new before after x v
-        → IsKept base header calls w (set places (shard_of x) (Some new)) new_slots × IsFirstRead (shown base header calls w places slots) (shown base header calls w (set places (shard_of x) (Some new)) new_slots) n before.timestamp x v
+        → IsKeptStore base header calls w (set places (shard_of x) (Some new)) new_slots × IsFirstRead (store_shown base header calls w places slots) (store_shown base header calls w (set places (shard_of x) (Some new)) new_slots) n before.timestamp x v
     kept_read read = subst
-        (λ (c : Shard). IsKept base header calls w (set places (shard_of x) (Some c)) new_slots × IsFirstRead (shown base header calls w places slots) (shown base header calls w (set places (shard_of x) (Some c)) new_slots) n before.timestamp x v)
+        (λ (c : Shard). IsKeptStore base header calls w (set places (shard_of x) (Some c)) new_slots × IsFirstRead (store_shown base header calls w places slots) (store_shown base header calls w (set places (shard_of x) (Some c)) new_slots) n before.timestamp x v)
         (sym read.marks) (kept, event)
       where
         value : v ≡ (version_below same_item (at base) w.entries (suc before.timestamp) x).1
         value = value_found read.value
 
-        more : after ≡ record before { reads = insert before.reads (place_of before.reads x) (x, (version_below same_item (at base) w.entries (suc before.timestamp) x).1) }
+        more : after ≡ record before { reads = insert before.reads (place_among before.reads x) (x, (version_below same_item (at base) w.entries (suc before.timestamp) x).1) }
         more =
             read.joins ∙ ap (λ rs. record before { reads = rs }) (with_item-new before.reads x v read.first)
-            ∙ ap (λ u. record before { reads = insert before.reads (place_of before.reads x) (x, u) }) value
+            ∙ ap (λ u. record before { reads = insert before.reads (place_among before.reads x) (x, u) }) value
 
-        live : live_in new_slots w.live ≡ attempts_with_read before.timestamp (place_of before.reads x) (x, (version_below same_item (at base) w.entries (suc before.timestamp) x).1) (live_in slots w.live)
-        live = live_read slots before after n before.timestamp (place_of before.reads x) (x, (version_below same_item (at base) w.entries (suc before.timestamp) x).1) w.live above inside found more is_here.0 (once n)
+        live : live_in new_slots w.live ≡ attempts_with_read before.timestamp (place_among before.reads x) (x, (version_below same_item (at base) w.entries (suc before.timestamp) x).1) (live_in slots w.live)
+        live = live_read slots before after n before.timestamp (place_among before.reads x) (x, (version_below same_item (at base) w.entries (suc before.timestamp) x).1) w.live above inside found more is_here.0 (once n)
 
         store : IsStore (λ value. value) same_item IsOfLedger (meaning_of header calls) (at base) w.low w.clock w.low w.entries (live_in new_slots w.live) (versions_for new_places)
         store = subst (λ l. IsStore (λ value. value) same_item IsOfLedger (meaning_of header calls) (at base) w.low w.clock w.low w.entries l (versions_for new_places)) (sym live)
             (every_read_leaves_a_store_lem Item ItemValue Outcome ItemValue IsOfLedger (λ value. value) same_item items_have_an_equality (meaning_of header calls) (at base) w.low w.clock w.low w.entries (live_in slots w.live)
-            (versions_for places) (versions_for new_places) k.store before.timestamp (place_of before.reads x) x before is_here.2 from (versions_after_read places x before.timestamp s here))
+            (versions_for places) (versions_for new_places) k.store before.timestamp (place_among before.reads x) x before is_here.2 from (versions_after_read places x before.timestamp s here))
 
-        kept : IsKept base header calls w new_places new_slots
+        kept : IsKeptStore base header calls w new_places new_slots
         kept = record {
           orderly = k.orderly;
           store = store;
@@ -211,10 +211,10 @@ module _ (base : Ledger) (header : Header) (calls : List CallData) (w : CallWorl
           are_calls = k.are_calls;
           live_calls = k.live_calls;
           count = length-set slots (n - 1) (Some after) ∙ k.count;
-          attempts = places_read slots before after n (place_of before.reads x) (x, (version_below same_item (at base) w.entries (suc before.timestamp) x).1) w.live above inside found more k.attempts;
+          attempts = places_read slots before after n (place_among before.reads x) (x, (version_below same_item (at base) w.entries (suc before.timestamp) x).1) w.live above inside found more k.attempts;
         }
 
-        event : IsFirstRead (shown base header calls w places slots) (shown base header calls w new_places new_slots) n before.timestamp x v
+        event : IsFirstRead (store_shown base header calls w places slots) (store_shown base header calls w new_places new_slots) n before.timestamp x v
         event = record {
           attempt = before;
           live = is_here.2;
@@ -233,10 +233,10 @@ module _ (base : Ledger) (header : Header) (calls : List CallData) (w : CallWorl
         }
 
     pub kept_again : shard.IsReadAgain s new before after x v
-        → IsKept base header calls w (set places (shard_of x) (Some new)) new_slots × IsReadAgain (shown base header calls w places slots) (shown base header calls w (set places (shard_of x) (Some new)) new_slots) n before.timestamp x v
+        → IsKeptStore base header calls w (set places (shard_of x) (Some new)) new_slots × IsReadAgain (store_shown base header calls w places slots) (store_shown base header calls w (set places (shard_of x) (Some new)) new_slots) n before.timestamp x v
     kept_again read =
-        subst (λ ps. IsKept base header calls w ps new_slots × IsReadAgain (shown base header calls w places slots) (shown base header calls w ps new_slots) n before.timestamp x v) (sym same_places)
-        (subst (λ ss. IsKept base header calls w places ss × IsReadAgain (shown base header calls w places slots) (shown base header calls w places ss) n before.timestamp x v) (sym same_slots)
+        subst (λ ps. IsKeptStore base header calls w ps new_slots × IsReadAgain (store_shown base header calls w places slots) (store_shown base header calls w ps new_slots) n before.timestamp x v) (sym same_places)
+        (subst (λ ss. IsKeptStore base header calls w places ss × IsReadAgain (store_shown base header calls w places slots) (store_shown base header calls w places ss) n before.timestamp x v) (sym same_slots)
         (k, record { attempt = before; live = is_here.2; number = is_here.1; known = read.known; unchanged = refl }))
       where
         same_places : set places (shard_of x) (Some new) ≡ places
@@ -247,7 +247,7 @@ module _ (base : Ledger) (header : Header) (calls : List CallData) (w : CallWorl
 
     -- a live attempt is never below the low mark of its item's shard
     pub never_pruned : shard.IsPruned s before x → ⊥
-    never_pruned pruned = omega (arith, pruned.below, from, (subst (λ o. IsOver base w.low (shard_of x) o) here (k.shards.each (shard_of x) (index_within x))).1)
+    never_pruned pruned = omega (arith, pruned.below, from, (subst (λ o. IsShardOver base w.low (shard_of x) o) here (k.shards.each (shard_of x) (index_within x))).1)
 
   -- ---- the low mark rises
 
@@ -258,7 +258,7 @@ module _ (base : Ledger) (header : Header) (calls : List CallData) (w : CallWorl
     past_clock : low_after_prune w t ≤ w.clock
     past_clock = omega (arith, k.store.consistent.schedule.low_past, lowest_live-at_most (min t w.clock) w.live)
 
-    same_low : low_after_prune (shown base header calls w places slots).world t ≡ low_after_prune w t
+    same_low : low_after_prune (store_shown base header calls w places slots).world t ≡ low_after_prune w t
     same_low = ap (max w.low) (lowest_in (min t w.clock) slots w.live)
 
     bound : IsLowerBound (low_after_prune w t) (live_in slots w.live)
@@ -266,7 +266,7 @@ module _ (base : Ledger) (header : Header) (calls : List CallData) (w : CallWorl
 
     -- what is seen, where the marks are kept that count
     pruned_world : HaveSameMarks same_item (at base) (low_after_prune w t) w.entries (marks_in places) (marks_in new) → KeepsNeededMarks same_item (at base) (low_after_prune w t) w.entries (marks_in places) (marks_in new)
-        → ((x : Item) → versions_for new x ≡ versions_from (low_after_prune w t) (versions_for places x)) → IsPrune (shown base header calls w places slots) (shown base header calls (record w { low = low_after_prune w t }) new slots) t
+        → ((x : Item) → versions_for new x ≡ versions_from (low_after_prune w t) (versions_for places x)) → IsPrune (store_shown base header calls w places slots) (store_shown base header calls (record w { low = low_after_prune w t }) new slots) t
     pruned_world same needed versions = record {
       same = same;
       event = ap (λ l. record { clock = w.clock; low = l; entries = w.entries; marks = marks_in new; live = live_in slots w.live }) (sym same_low);
@@ -311,7 +311,7 @@ module _ (base : Ledger) (header : Header) (calls : List CallData) (w : CallWorl
           ∙ raised_store.1 x (version_below same_item (at base) w.entries (suc u) x).0 (version_below-monotone same_item (at base) (suc (low_after_prune w t)) (suc u) w.entries x (omega (arith, above)) k.store.consistent.journal.rising)
           ∙ sym (marks_are x (version_below same_item (at base) w.entries (suc u) x).0)
 
-      raised : IsKept base header calls (record w { low = low_after_prune w t }) new slots × IsPrune (shown base header calls w places slots) (shown base header calls (record w { low = low_after_prune w t }) new slots) t
+      raised : IsKeptStore base header calls (record w { low = low_after_prune w t }) new slots × IsPrune (store_shown base header calls w places slots) (store_shown base header calls (record w { low = low_after_prune w t }) new slots) t
       raised = (
         record {
           orderly = k.orderly;
@@ -333,5 +333,5 @@ module _ (base : Ledger) (header : Header) (calls : List CallData) (w : CallWorl
     still_above x = version_below-monotone same_item (at base) (suc w.low) (suc (low_after_prune w t)) w.entries x (omega (arith, low_below)) k.store.consistent.journal.rising
 
     pub kept_pruned : ArePruned (low_after_prune w t) places new
-        → IsKept base header calls (record w { low = low_after_prune w t }) new slots × IsPrune (shown base header calls w places slots) (shown base header calls (record w { low = low_after_prune w t }) new slots) t
+        → IsKeptStore base header calls (record w { low = low_after_prune w t }) new slots × IsPrune (store_shown base header calls w places slots) (store_shown base header calls (record w { low = low_after_prune w t }) new slots) t
     kept_pruned = raised

@@ -20,7 +20,7 @@ use Rattle.mv_shards.specs.Shards.{Shard, versions_held}
 use Rattle.mv_shards.specs.Helds.{IsPrunedPlace, Places, shard_for}
 use Rattle.mv_shards.specs.Writing.{versions_for, versions_or_none}
 use Rattle.mv_shards.proofs.Steps.{set_here}
-use Rattle.mv_parts.specs.Journals.{AreAllOver, IsOver}
+use Rattle.mv_parts.specs.Journals.{AreAllOver, IsShardOver}
 use Rattle.mv_parts.proofs.Agreeing.{read_in}
 use Rattle.mv_core.specs.Stores.{items_in, items_or_none, marks_in}
 use Rattle.mv_core.proofs.MarkLists.{among_both, is_among, marks_listed}
@@ -85,19 +85,19 @@ shards_after_read places base low i s new inside here same_index same_low same_b
   each = λ j within. by j within (j == i) (equals j i);
 }
   where
-    by : (j : ℕ) → j < shard_count → (b : Bool) → Equals j i b → IsOver base low j (get_or (set places i (Some new)) j None)
+    by : (j : ℕ) → j < shard_count → (b : Bool) → Equals j i b → IsShardOver base low j (get_or (set places i (Some new)) j None)
     by j within b (equal e) =
-        subst (λ o. IsOver base low j o) (sym (ap (λ m. get_or (set places i (Some new)) m None) e ∙ set_here places i s new here))
-        (let was : IsOver base low j (Some s) = subst (λ o. IsOver base low j o) (ap (λ m. get_or places m None) e ∙ here) (k.each j within) in (same_index ∙ was.0, same_low ∙ was.1, same_base ∙ was.2))
-    by j within b (unequal e) = subst (λ o. IsOver base low j o) (sym (get_or-set_other places i j (Some new) None e)) (k.each j within)
+        subst (λ o. IsShardOver base low j o) (sym (ap (λ m. get_or (set places i (Some new)) m None) e ∙ set_here places i s new here))
+        (let was : IsShardOver base low j (Some s) = subst (λ o. IsShardOver base low j o) (ap (λ m. get_or places m None) e ∙ here) (k.each j within) in (same_index ∙ was.0, same_low ∙ was.1, same_base ∙ was.2))
+    by j within b (unequal e) = subst (λ o. IsShardOver base low j o) (sym (get_or-set_other places i j (Some new) None e)) (k.each j within)
 
 -- ---- a prune
 
 pub record IsRaisedPlace (higher i : ℕ) (base : Ledger) (old new : Option Shard) : Type 0 where
-  pub over : IsOver base higher i new
+  pub over : IsShardOver base higher i new
   pub versions : (x : Item) → versions_or_none new x ≡ versions_from higher (versions_or_none old x)
 
-pub raised_place : (higher low i : ℕ) (base : Ledger) (old new : Option Shard) → low ≤ higher → IsOver base low i old → IsPrunedPlace higher old new → IsRaisedPlace higher i base old new
+pub raised_place : (higher low i : ℕ) (base : Ledger) (old new : Option Shard) → low ≤ higher → IsShardOver base low i old → IsPrunedPlace higher old new → IsRaisedPlace higher i base old new
 raised_place higher low i base None new below over pruned = absurd over
 raised_place higher low i base (Some s) None below over pruned = absurd pruned
 raised_place higher low i base (Some s) (Some n) below over pruned =

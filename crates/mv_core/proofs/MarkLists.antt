@@ -1,12 +1,12 @@
 -- The greatest mark in the list of the marks of versions is the version's.
 use Rattle.std.proofs.Common.{◌≡◌, ℕ, ◌≤◌, ◌&&◌, ◌==◌, max, Bool, true, false, if◌then◌else◌, List, [], ◌∷◌, ◌++◌, refl, sym, ap, ◌∙◌, arith}
 use Rattle.mv_chain.specs.declared.Version.{Version}
-use Rattle.mv_chain.specs.Versions.{IsChain, IsRising, mark_in}
+use Rattle.mv_chain.specs.Versions.{IsChain, AreRising, mark_in}
 use Rattle.mv_history.specs.World.{Mark, greatest_mark}
 use Rattle.mv_history.proofs.Lists.{Equals, equal, unequal, equals}
 use Rattle.mv_core.specs.Marks.{marks_among, marks_at}
 
-mark_below : {V : Type 0} (n bound : ℕ) (vs : List (Version V)) → n ≤ bound → IsRising bound vs → mark_in n vs ≡ 0
+mark_below : {V : Type 0} (n bound : ℕ) (vs : List (Version V)) → n ≤ bound → AreRising bound vs → mark_in n vs ≡ 0
 mark_below n bound [] h r = refl
 mark_below n bound (v ∷ vs) h r = by (v.timestamp == n) (equals v.timestamp n) (mark_below n v.timestamp vs (omega (arith, h, r.0)) r.1)
   where
@@ -29,7 +29,7 @@ module _ {Item : Type 0} (same : Item → Item → Bool) where
       by false rest = rest
 
   module _ {V : Type 0} where
-    own_marks : (x y : Item) (n bound : ℕ) (vs : List (Version V)) → same x y ≡ true → IsRising bound vs → greatest_mark same (marks_at y vs) x n ≡ mark_in n vs
+    own_marks : (x y : Item) (n bound : ℕ) (vs : List (Version V)) → same x y ≡ true → AreRising bound vs → greatest_mark same (marks_at y vs) x n ≡ mark_in n vs
     own_marks x y n bound [] e r = refl
     own_marks x y n bound (v ∷ vs) e r = by (same x y) e (v.timestamp == n) (equals v.timestamp n) (own_marks x y n v.timestamp vs e r.1)
       where

@@ -17,7 +17,7 @@ use Rattle.mv_shards.specs.Writing.{versions_for}
 use Rattle.mv_parts.specs.Opening.{first_places}
 use Rattle.mv_parts.proofs.Opens.{first_over, no_marks, versions_first}
 use Rattle.mv_core.specs.Places.{AreEmpty, IsPlaceOf}
-use Rattle.mv_core.specs.Stores.{CallSlots, IsKept}
+use Rattle.mv_core.specs.Stores.{CallSlots, IsKeptStore}
 
 pub none_empty : AreEmpty {Item = Item} {Value = ItemValue} 0 []
 none_empty = record { are = refl; each = λ i. refl }
@@ -31,7 +31,7 @@ still_empty (x ∷ xs) h (suc i) = still_empty xs (λ k. h (suc k)) i
 pub one_more_empty : (n : ℕ) (xs : List (Option CallAttempt)) → AreEmpty n xs → AreEmpty (n + 1) (xs ++ None ∷ [])
 one_more_empty n xs k = record { are = omega (arith, length-append xs (None ∷ []), k.are); each = still_empty xs k.each }
 
-pub kept_first : (base : Ledger) (header : Header) (calls : List CallData) (slots : CallSlots) → IsOrderly base → AreEmpty (length calls) slots → IsKept base header calls first_world (first_places base) slots
+pub kept_first : (base : Ledger) (header : Header) (calls : List CallData) (slots : CallSlots) → IsOrderly base → AreEmpty (length calls) slots → IsKeptStore base header calls first_world (first_places base) slots
 kept_first base header calls slots orderly empty = record {
   orderly = orderly;
   store = record {

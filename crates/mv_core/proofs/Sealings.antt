@@ -12,7 +12,7 @@ use Rattle.mv_shards.specs.Helds.{Places}
 use Rattle.mv_parts.specs.declared.seal_fault.SealFault.{SealFault}
 use Rattle.mv_parts.specs.declared.seal_fault.SealFault.TheVariants.{StillLive}
 use Rattle.mv_parts.specs.Journals.{Journal}
-use Rattle.mv_parts.specs.Sealing.{IsOf, IsSealRefusal, IsSealed}
+use Rattle.mv_parts.specs.Sealing.{IsJournalOf, IsSealRefusal, IsSealed}
 use Rattle.mv_core.specs.Calls.{as_journal, shown_by}
 use Rattle.mv_core.specs.Places.{live_in}
 use Rattle.mv_core.specs.Stores.{CallSlots}
@@ -44,7 +44,7 @@ module _ (j : Journal) (places : Places) (slots : CallSlots) where
   seal_refused failure.Memory h = over_shown h
   seal_refused (failure.Fault StillLive) h = λ none. h (none_hidden slots j.world.live none)
 
-  pub of_shown : (l : Ledger) (h : Header) (cs : List CallData) → IsOf j l h cs ↔ IsOf (as_journal (shown_by j places slots)) l h cs
+  pub of_shown : (l : Ledger) (h : Header) (cs : List CallData) → IsJournalOf j l h cs ↔ IsJournalOf (as_journal (shown_by j places slots)) l h cs
   of_shown l h cs = (
     λ o. record { base = o.base; header = o.header; calls = o.calls; none_live = over_shown o.none_live },
     λ o. record { base = o.base; header = o.header; calls = o.calls; none_live = none_hidden slots j.world.live o.none_live },

@@ -2,7 +2,7 @@
 use Rattle.std.proofs.Common.{◌≡◌, ◌≢◌, ℕ, zero, suc, ◌-◌, ◌<◌, ◌≤◌, List, [], ◌∷◌, length, Option, None, Some, get_or, refl, sym, ap, ◌∙◌, subst, arith}
 use Rattle.std.proofs.lemmas.Option.{same_Some}
 use Rattle.mv_history.specs.World.{Attempt}
-use Rattle.mv_core.specs.Places.{IsNowhere, Slots}
+use Rattle.mv_core.specs.Places.{IsNowhere, AttemptSlots}
 
 beyond : {A : Type 0} (xs : List (Option A)) (i : ℕ) → length xs ≤ i → get_or xs i None ≡ None
 beyond [] i h = refl
@@ -14,7 +14,7 @@ at_none [] i d o within found = absurd (omega (arith, within))
 at_none (y ∷ ys) zero d o within found = found
 at_none (y ∷ ys) (suc i) d o within found = at_none ys i d o (omega (arith, within)) found
 
-module _ {Item Value : Type 0} (slots : Slots Item Value) (n t : ℕ) where
+module _ {Item Value : Type 0} (slots : AttemptSlots Item Value) (n t : ℕ) where
   pub nowhere_zero : n ≡ 0 → IsNowhere slots n t
   nowhere_zero none a above found = absurd (omega (arith, none, above))
 

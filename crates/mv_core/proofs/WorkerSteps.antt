@@ -22,24 +22,24 @@ use Rattle.mv_calls.specs.Laws.{entry_of}
 use Rattle.mv_running.specs.declared.Event.{Event}
 use Rattle.mv_running.specs.declared.Event.TheVariants as event
 use Rattle.mv_running.specs.Laws.{IsSameRunning}
-use Rattle.mv_running.specs.Running.{RunInput, Running, answer_of, by_worker, commit_by, entry_by, may_begin, place_of, read_by, running_after, with_worker, worker_at, writes_in_time}
+use Rattle.mv_running.specs.Running.{RunInput, Running, answer_of, by_worker, commit_by, entry_by, may_begin, place_among, read_by, running_after, with_worker, worker_at, writes_in_time}
 use Rattle.mv_core.specs.declared.faults.CommitFault.{CommitFault}
 use Rattle.mv_core.specs.declared.faults.CommitFault.TheVariants as fault
 use Rattle.mv_core.specs.declared.ticket.Ticket.{Ticket}
 use Rattle.mv_core.specs.declared.world.Worker.{Worker}
 use Rattle.mv_core.specs.declared.world.Worker.TheVariants as worker
 use Rattle.mv_core.specs.Commits.{late_write}
-use Rattle.mv_core.specs.Places.{IsLive}
+use Rattle.mv_core.specs.Places.{HasLiveNumber}
 use Rattle.mv_core.specs.Stores.{IsFirstRead, IsPrune, IsReadAgain, Store}
-use Rattle.mv_core.specs.Worlds.{AreSound, AsksFor, HasEnded, IsAbandonBy, IsAdvanced, IsBegunBy, IsCommitBy, IsLiveIfAny, IsLiveWith, IsRead, IsReadBy, IsSound, IsStep, IsWork, attempt_by, attempt_of, input_of, may_begin_call, reads_or_none, running_of, ticket_of, worker_in}
+use Rattle.mv_core.specs.Worlds.{AreSound, TicketAsksFor, TicketHasEnded, IsAbandonBy, IsAdvanced, IsBegunBy, IsCommitBy, IsLiveIfAny, IsLiveWith, IsReadByStore, IsReadBy, IsSoundWorker, IsStep, IsWork, attempt_by, attempt_of, input_of, may_begin_call, reads_or_none, running_of, ticket_of, worker_in}
 
 -- ---- a worker reads
 
 pub record ReadsOn (old new : Store) (ticket : Ticket) (run : Option Progress) (x : Item) (after : Worker) : Type 0 where
-  pub read : IsRead old new (attempt_by ticket (reads_or_none run)) x (attempt_of after)
-  pub sound : IsSound (input_of old) after
+  pub read : IsReadByStore old new (attempt_by ticket (reads_or_none run)) x (attempt_of after)
+  pub sound : IsSoundWorker (input_of old) after
 
-module _ (old new : Store) (ticket : Ticket) (x : Item) (v : ItemValue) (p : Progress) (asks : AsksFor (input_of old) ticket (Some p) x) (live : IsLiveWith old (attempt_by ticket p.reads)) where
+module _ (old new : Store) (ticket : Ticket) (x : Item) (v : ItemValue) (p : Progress) (asks : TicketAsksFor (input_of old) ticket (Some p) x) (live : IsLiveWith old (attempt_by ticket p.reads)) where
   supplied : Progress
   supplied = record { call = p.call; header = p.header; reads = with_item p.reads x v; asked = None; steps = p.steps }
 
@@ -57,7 +57,7 @@ module _ (old new : Store) (ticket : Ticket) (x : Item) (v : ItemValue) (p : Pro
 
   went_on : (after : Worker) (run : Option Progress) → run ≡ Some (record p { reads = with_item p.reads x v; asked = None }) → IsAdvanced ticket run after
       → v ≡ (version_below same_item (at old.base) old.world.entries (suc ticket.timestamp) x).1
-      → (attempt_of after ≡ Some (record (attempt_by ticket p.reads) { reads = with_item p.reads x (version_below same_item (at old.base) old.world.entries (suc ticket.timestamp) x).1 })) × IsSound (input_of old) after
+      → (attempt_of after ≡ Some (record (attempt_by ticket p.reads) { reads = with_item p.reads x (version_below same_item (at old.base) old.world.entries (suc ticket.timestamp) x).1 })) × IsSoundWorker (input_of old) after
   went_on after None is h value = absurd cc
   went_on worker.Idle (Some q) is h value = absurd h
   went_on (worker.Running own run' y) (Some q) is (same, next) value =
@@ -92,7 +92,7 @@ module _ (old new : Store) (ticket : Ticket) (x : Item) (v : ItemValue) (p : Pro
       record {
         read = record {
           input = ap input_of read.others;
-          event = subst (λ (a : CallAttempt). IsSameWorld same_item (at old.base) new.world (after_read same_item (at old.base) old.world ticket.timestamp (place_of a.reads x) x)) own read.event;
+          event = subst (λ (a : CallAttempt). IsSameWorld same_item (at old.base) new.world (after_read same_item (at old.base) old.world ticket.timestamp (place_among a.reads x) x)) own read.event;
           joins = on.0;
         };
         sound = on.1;
@@ -107,7 +107,7 @@ module _ (old new : Store) (ticket : Ticket) (x : Item) (v : ItemValue) (p : Pro
       never : None ≡ Some v → ⊥
       never e = cc
 
-pub reads_on : (old new : Store) (ticket : Ticket) (run : Option Progress) (x y : Item) (v : ItemValue) (supplied : Option Progress) → AsksFor (input_of old) ticket run x → IsLiveWith old (attempt_by ticket (reads_or_none run)) → y ≡ x
+pub reads_on : (old new : Store) (ticket : Ticket) (run : Option Progress) (x y : Item) (v : ItemValue) (supplied : Option Progress) → TicketAsksFor (input_of old) ticket run x → IsLiveWith old (attempt_by ticket (reads_or_none run)) → y ≡ x
     → (IsFirstRead old new ticket.number ticket.timestamp y v ⊎ IsReadAgain old new ticket.number ticket.timestamp y v) → Supplies run supplied x v None → (after : Worker) → IsAdvanced ticket supplied after → ReadsOn old new ticket run x after
 reads_on old new ticket None x y v supplied asks live same read supplies after h = absurd (never asks.goes_on)
   where
@@ -117,9 +117,9 @@ reads_on old new ticket (Some p) x y v supplied asks live same (inl first) suppl
     first_read old new ticket x v p asks live (subst (λ z. IsFirstRead old new ticket.number ticket.timestamp z v) same first) after supplied supplies.1 h
 reads_on old new ticket (Some p) x y v supplied asks live same (inr again) supplies after h = absurd (never_again old new ticket x v p asks live (subst (λ z. IsReadAgain old new ticket.number ticket.timestamp z v) same again))
 
-pub ticket_live : (s : Store) (o : Option CallAttempt) (t : Ticket) → option_map ticket_of o ≡ Some t → IsLiveIfAny s o → IsLive s.world.live t.number t.timestamp
+pub ticket_live : (s : Store) (o : Option CallAttempt) (t : Ticket) → option_map ticket_of o ≡ Some t → IsLiveIfAny s o → HasLiveNumber s.world.live t.number t.timestamp
 ticket_live s None t is live = absurd cc
-ticket_live s (Some a) t is live = subst (λ (u : Ticket). IsLive s.world.live u.number u.timestamp) (same_Some _ _ is) (record { attempt = a; live = live; number = refl })
+ticket_live s (Some a) t is live = subst (λ (u : Ticket). HasLiveNumber s.world.live u.number u.timestamp) (same_Some _ _ is) (record { attempt = a; live = live; number = refl })
 
 -- ---- at a worker's place
 
@@ -128,12 +128,12 @@ at_map [] i d inside is = absurd (omega (arith, inside))
 at_map (w ∷ ws) zero d inside is = ap attempt_of (sym is)
 at_map (w ∷ ws) (suc i) d inside is = at_map ws i d (omega (arith, inside)) is
 
-sound_at : (input : RunInput) (ws : List Worker) (i : ℕ) (d : Worker) → i < length ws → d ≡ get_or ws i d → AreSound input ws → IsSound input d
+sound_at : (input : RunInput) (ws : List Worker) (i : ℕ) (d : Worker) → i < length ws → d ≡ get_or ws i d → AreSound input ws → IsSoundWorker input d
 sound_at input [] i d inside is h = absurd (omega (arith, inside))
-sound_at input (w ∷ ws) zero d inside is h = subst (IsSound input) (sym is) h.0
+sound_at input (w ∷ ws) zero d inside is h = subst (IsSoundWorker input) (sym is) h.0
 sound_at input (w ∷ ws) (suc i) d inside is h = sound_at input ws i d (omega (arith, inside)) is h.1
 
-sound_set : (input : RunInput) (ws : List Worker) (i : ℕ) (w : Worker) → AreSound input ws → IsSound input w → AreSound input (set ws i w)
+sound_set : (input : RunInput) (ws : List Worker) (i : ℕ) (w : Worker) → AreSound input ws → IsSoundWorker input w → AreSound input (set ws i w)
 sound_set input [] i w h k = h
 sound_set input (v ∷ vs) zero w h k = (k, h.1)
 sound_set input (v ∷ vs) (suc i) w h k = (h.0, sound_set input vs i w h.1 k)
@@ -177,7 +177,7 @@ in_time_same s ws t (e ∷ es) = by (nat_le mark t) (nat_lt t mark) refl refl (i
 
 -- ---- what a worker's call answers
 
-asked : (s : Store) (ticket : Ticket) (run : Option Progress) (x : Item) → AsksFor (input_of s) ticket run x → answer_of s.header (reads_or_none run) (call_of s.calls ticket.number) ≡ Some (Err x)
+asked : (s : Store) (ticket : Ticket) (run : Option Progress) (x : Item) → TicketAsksFor (input_of s) ticket run x → answer_of s.header (reads_or_none run) (call_of s.calls ticket.number) ≡ Some (Err x)
 asked s ticket run x asks =
     ap (answer_of s.header (reads_or_none run)) asks.call
     ∙ (λ i. Some (answer_from (value_in (reads_or_none (asks.goes_on i))) (call_result asks.progress.call (sym asks.header i))))
@@ -193,7 +193,7 @@ pub record GivesResult (s : Store) (ticket : Ticket) (f : CallRecord) : Type 0 w
   outcome : result.0 ≡ f.outcome
   writes : pruned (value_before (value_in f.reads)) result.1 ≡ f.writes
 
-ended : (s : Store) (ticket : Ticket) (f : CallRecord) → HasEnded (input_of s) ticket f → GivesResult s ticket f
+ended : (s : Store) (ticket : Ticket) (f : CallRecord) → TicketHasEnded (input_of s) ticket f → GivesResult s ticket f
 ended s ticket f has = by (answer_from (value_in f.reads) (call_result f.call f.header)) refl has.finished.result
   where
     by : (a : Answer CallResult) → answer_from (value_in f.reads) (call_result f.call f.header) ≡ a → (then) (λ r. Ok (with_changes f.reads r)) a ≡ Ok (f.outcome, f.writes) → GivesResult s ticket f
@@ -297,16 +297,16 @@ module _ (old new : Store) (ws : List Worker) (i : ℕ) (w after : Worker) (insi
     ap (by_worker r (λ b. commit_by (input_of old) r i b (answer_of old.header b.reads (call_of old.calls b.number)))) (here ∙ own) ∙ ap (commit_by (input_of old) r i a) is,
   )
 
-  read_moves : (ticket : Ticket) (run : Option Progress) (x : Item) → attempt_of w ≡ Some (attempt_by ticket (reads_or_none run)) → AsksFor (input_of old) ticket run x → IsRead old new (attempt_by ticket (reads_or_none run)) x (attempt_of after)
+  read_moves : (ticket : Ticket) (run : Option Progress) (x : Item) → attempt_of w ≡ Some (attempt_by ticket (reads_or_none run)) → TicketAsksFor (input_of old) ticket run x → IsReadByStore old new (attempt_by ticket (reads_or_none run)) x (attempt_of after)
       → Worked (event.Read i)
   read_moves ticket run x own asks read = record {
     input = read.input;
-    running = moves (event.Read i) (after_read same_item (at old.base) old.world ticket.timestamp (place_of (reads_or_none run) x) x)
+    running = moves (event.Read i) (after_read same_item (at old.base) old.world ticket.timestamp (place_among (reads_or_none run) x) x)
         (Some (record (attempt_by ticket (reads_or_none run)) { reads = with_item (reads_or_none run) x (version_below same_item (at old.base) old.world.entries (suc ticket.timestamp) x).1 }))
-        (answers (attempt_by ticket (reads_or_none run)) (Some (Err x)) own (asked old ticket run x asks)).0 (same_world-sym same_item (at old.base) new.world (after_read same_item (at old.base) old.world ticket.timestamp (place_of (reads_or_none run) x) x) read.event) read.joins;
+        (answers (attempt_by ticket (reads_or_none run)) (Some (Err x)) own (asked old ticket run x asks)).0 (same_world-sym same_item (at old.base) new.world (after_read same_item (at old.base) old.world ticket.timestamp (place_among (reads_or_none run) x) x) read.event) read.joins;
   }
 
-  read_by_worker : (v : Worker) → w ≡ v → IsSound (input_of old) v → IsReadBy old new v (attempt_of after) → Worked (event.Read i)
+  read_by_worker : (v : Worker) → w ≡ v → IsSoundWorker (input_of old) v → IsReadBy old new v (attempt_of after) → Worked (event.Read i)
   read_by_worker worker.Idle own sound (same, none) = record { input = ap input_of same; running = stays (event.Read i) (idle_reads (ap attempt_of own)) same (none ∙ sym (ap attempt_of own)) }
   read_by_worker (worker.Running ticket run x) own asks read = read_moves ticket run x (ap attempt_of own) asks read
   read_by_worker (worker.Finished ticket f) own has (same, again) =
@@ -318,7 +318,7 @@ module _ (old new : Store) (ws : List Worker) (i : ℕ) (w after : Worker) (insi
   idle_commits : attempt_of w ≡ None → running_after (input_of old) r (event.Commit i) ≡ r
   idle_commits own = ap (by_worker r (λ a. commit_by (input_of old) r i a (answer_of old.header a.reads (call_of old.calls a.number)))) (here ∙ own)
 
-  commits : (ticket : Ticket) (f : CallRecord) → w ≡ worker.Finished ticket f → HasEnded (input_of old) ticket f → (o : Option CommitFault) → late_write old ticket.timestamp f.writes ≡ o
+  commits : (ticket : Ticket) (f : CallRecord) → w ≡ worker.Finished ticket f → TicketHasEnded (input_of old) ticket f → (o : Option CommitFault) → late_write old ticket.timestamp f.writes ≡ o
       → running_after (input_of old) r (event.Commit i) ≡ (if not (is_some o) then with_worker r (after_commit old.world (entry_of ticket.timestamp ticket.number f)) i None else r)
   commits ticket f own has o late =
       let g = ended old ticket f has in
@@ -327,7 +327,7 @@ module _ (old new : Store) (ws : List Worker) (i : ℕ) (w after : Worker) (insi
       ∙ ap (λ (e : CallEntry). if writes_in_time (input_of old) r ticket.timestamp e.writes then with_worker r (after_commit old.world e) i None else r) entry
       ∙ ap (λ b. if b then with_worker r (after_commit old.world (entry_of ticket.timestamp ticket.number f)) i None else r) (in_time_same old ws ticket.timestamp f.writes ∙ ap (λ p. not (is_some p)) late)
 
-  commit_by_worker : (v : Worker) → w ≡ v → IsSound (input_of old) v → (o : Option CallAttempt) → attempt_of after ≡ o → IsCommitBy old new v o → Worked (event.Commit i)
+  commit_by_worker : (v : Worker) → w ≡ v → IsSoundWorker (input_of old) v → (o : Option CallAttempt) → attempt_of after ≡ o → IsCommitBy old new v o → Worked (event.Commit i)
   commit_by_worker worker.Idle own sound o result (same, none) = record { input = ap input_of same; running = stays (event.Commit i) (idle_commits (ap attempt_of own)) same (result ∙ none ∙ sym (ap attempt_of own)) }
   commit_by_worker (worker.Running ticket run x) own asks o result (same, again) =
       record {
@@ -351,7 +351,7 @@ module _ (old new : Store) (ws : List Worker) (i : ℕ) (w after : Worker) (insi
 
   -- ---- any event of the worker
 
-  worked : (e : Event) → worker_in e ≡ Some i → IsSound (input_of old) w → IsWork e old new w (attempt_of after) → Worked e
+  worked : (e : Event) → worker_in e ≡ Some i → IsSoundWorker (input_of old) w → IsWork e old new w (attempt_of after) → Worked e
   worked (event.Begin k n) own sound h = subst (λ j. Worked (event.Begin j n)) (sym (same_Some _ _ own)) (begun n (attempt_of w) refl (attempt_of after) refl h)
   worked (event.Read k) own sound h = subst (λ j. Worked (event.Read j)) (sym (same_Some _ _ own)) (read_by_worker w refl sound h)
   worked (event.Commit k) own sound h = subst (λ j. Worked (event.Commit j)) (sym (same_Some _ _ own)) (commit_by_worker w refl sound (attempt_of after) refl h)
@@ -359,7 +359,7 @@ module _ (old new : Store) (ws : List Worker) (i : ℕ) (w after : Worker) (insi
   worked (event.Prune t) own sound h = absurd h
 
 -- what was at its place comes back changed
-pub stepped : (e : Event) (old new : Store) (ws : List Worker) (i : ℕ) (w d x after : Worker) → worker_in e ≡ Some i → i < length ws → w ≡ d → d ≡ get_or ws i d → AreSound (input_of old) ws → IsSound (input_of old) after
+pub stepped : (e : Event) (old new : Store) (ws : List Worker) (i : ℕ) (w d x after : Worker) → worker_in e ≡ Some i → i < length ws → w ≡ d → d ≡ get_or ws i d → AreSound (input_of old) ws → IsSoundWorker (input_of old) after
     → IsWork e old new w (attempt_of after) → IsStep e old new ws (slice_set (slice_set ws i x) i after)
 stepped e old new ws i w d x after own inside taken there sound sound_after h =
     subst (IsStep e old new ws) (sym (set_twice ws i x after))

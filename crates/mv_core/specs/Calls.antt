@@ -15,21 +15,21 @@ use Rattle.mv_shards.specs.Helds.{Places}
 use Rattle.mv_shards.specs.Writing.{versions_for}
 use Rattle.mv_parts.specs.Journals.{Journal, versions_indexed}
 use Rattle.mv_parts.specs.Opening.{first_places}
-use Rattle.mv_core.specs.Stores.{CallSlots, IsKept, Store, shown}
+use Rattle.mv_core.specs.Stores.{CallSlots, IsKeptStore, Store, store_shown}
 
 -- what a journal with all marks and reads would show
 abbrev pub as_journal : Store → Journal
 as_journal s = record { base = s.base; header = s.header; calls = s.calls; world = s.world; index = [] }
 
 abbrev pub shown_by : Journal → Places → CallSlots → Store
-shown_by j places slots = shown j.base j.header j.calls j.world places slots
+shown_by j places slots = store_shown j.base j.header j.calls j.world places slots
 
 -- The marks of the journal's own versions are not above those of the shards, but for versions that the shards have dropped.
 abbrev pub AreMarksBelow : Ledger → ℕ → List CallEntry → (Item → List (Version ItemValue)) → (Item → List (Version ItemValue)) → Type 0
 AreMarksBelow base low es index all = (x : Item) (n : ℕ) → (version_below same_item (at base) es (suc low) x).0 ≤ n → mark_in n (index x) ≤ mark_in n (all x)
 
-pub record IsKeptBy (j : Journal) (places : Places) (slots : CallSlots) : Type 0 where
-  pub kept : IsKept j.base j.header j.calls j.world places slots
+pub record IsKeptByJournal (j : Journal) (places : Places) (slots : CallSlots) : Type 0 where
+  pub kept : IsKeptStore j.base j.header j.calls j.world places slots
   pub marks : AreMarksBelow j.base j.world.low j.world.entries (versions_indexed j) (versions_for places)
 
 -- ---- a store in which nothing has begun

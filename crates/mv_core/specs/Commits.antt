@@ -21,7 +21,7 @@ use Rattle.mv_parts.specs.Commits.{IsOwnCall}
 use Rattle.mv_parts.specs.Commits as parts
 use Rattle.mv_core.specs.declared.faults.CommitFault.{CommitFault}
 use Rattle.mv_core.specs.declared.faults.CommitFault.TheVariants as fault
-use Rattle.mv_core.specs.Places.{IsLive}
+use Rattle.mv_core.specs.Places.{HasLiveNumber}
 use Rattle.mv_core.specs.Stores.{CallSlots, Store}
 
 -- the finished call is that of the live attempt: the call of its number, for the store's header, over what it has read
@@ -54,8 +54,8 @@ pub record MayCommit (s : Store) (n t : ℕ) (f : CallRecord) : Type 0 where
 
 -- The first of the tests that fails.
 abbrev pub IsTestRefusal : Store → ℕ → ℕ → CallRecord → CommitFault → Type 0
-IsTestRefusal s n t f fault.Unknown = IsLive s.world.live n t → ⊥
-IsTestRefusal s n t f fault.Stranger = IsLive s.world.live n t × (IsOwn s n t f → ⊥)
+IsTestRefusal s n t f fault.Unknown = HasLiveNumber s.world.live n t → ⊥
+IsTestRefusal s n t f fault.Stranger = HasLiveNumber s.world.live n t × (IsOwn s n t f → ⊥)
 IsTestRefusal s n t f (fault.Late x version mark) = IsOwn s n t f × (late_write s t f.writes ≡ Some (fault.Late x version mark))
 
 -- It is this fault, or want of memory where there is none.

@@ -3,24 +3,24 @@ use Rattle.std.specs.Prelude.{◌≡◌, ◌≢◌, ℕ, ◌+◌, ◌-◌, ◌<�
 use Rattle.mv_history.specs.World.{Attempt, attempt_at, live_count}
 
 -- a place for each call, the first for call 1
-abbrev pub Slots : Type 0 → Type 0 → Type 0
-Slots Item Value = List (Option (Attempt Item Value))
+abbrev pub AttemptSlots : Type 0 → Type 0 → Type 0
+AttemptSlots Item Value = List (Option (Attempt Item Value))
 
 abbrev pub reads_or : {Item Value : Type 0} → Option (Attempt Item Value) → List (Item × Value)
 reads_or None = []
 reads_or (Some a) = a.reads
 
 -- what the attempt of a call has read
-abbrev pub reads_in : {Item Value : Type 0} → Slots Item Value → ℕ → List (Item × Value)
-reads_in slots number = if number == 0 then [] else reads_or (get_or slots (number - 1) None)
+abbrev pub reads_of_call : {Item Value : Type 0} → AttemptSlots Item Value → ℕ → List (Item × Value)
+reads_of_call slots number = if number == 0 then [] else reads_or (get_or slots (number - 1) None)
 
 -- live attempts, with what they have read
-abbrev pub live_in : {Item Value : Type 0} → Slots Item Value → List (Attempt Item Value) → List (Attempt Item Value)
+abbrev pub live_in : {Item Value : Type 0} → AttemptSlots Item Value → List (Attempt Item Value) → List (Attempt Item Value)
 live_in slots [] = []
-live_in slots (a ∷ as') = record a { reads = reads_in slots a.number } ∷ live_in slots as'
+live_in slots (a ∷ as') = record a { reads = reads_of_call slots a.number } ∷ live_in slots as'
 
 -- the live attempt at a timestamp is of this call
-pub record IsLive {Item Value : Type 0} (attempts : List (Attempt Item Value)) (n t : ℕ) : Type 0 where
+pub record HasLiveNumber {Item Value : Type 0} (attempts : List (Attempt Item Value)) (n t : ℕ) : Type 0 where
   pub attempt : Attempt Item Value
   pub live : attempt_at t attempts ≡ Some attempt
   pub number : attempt.number ≡ n
@@ -28,15 +28,15 @@ pub record IsLive {Item Value : Type 0} (attempts : List (Attempt Item Value)) (
 -- the place of a call has an attempt of it where the call is live, with its timestamp, and else none
 abbrev pub IsPlaceOf : {Item Value : Type 0} → List (Attempt Item Value) → ℕ → Option (Attempt Item Value) → Type 0
 IsPlaceOf live number None = live_count number live ≡ 0
-IsPlaceOf live number (Some a) = (a.number ≡ number) × IsLive live number a.timestamp
+IsPlaceOf live number (Some a) = (a.number ≡ number) × HasLiveNumber live number a.timestamp
 
-abbrev pub ArePlacesOf : {Item Value : Type 0} → List (Attempt Item Value) → Slots Item Value → Type 0
+abbrev pub ArePlacesOf : {Item Value : Type 0} → List (Attempt Item Value) → AttemptSlots Item Value → Type 0
 ArePlacesOf live slots = (i : ℕ) → i < length slots → IsPlaceOf live (i + 1) (get_or slots i None)
 
 -- ---- by number and timestamp
 
 -- the place has an attempt with the timestamp
-pub record IsPlaced {Item Value : Type 0} (slots : Slots Item Value) (n t place : ℕ) : Type 0 where
+pub record IsPlaced {Item Value : Type 0} (slots : AttemptSlots Item Value) (n t place : ℕ) : Type 0 where
   pub attempt : Attempt Item Value
   pub found : get_or slots place None ≡ Some attempt
   pub time : attempt.timestamp ≡ t
@@ -45,10 +45,10 @@ pub record IsPlaced {Item Value : Type 0} (slots : Slots Item Value) (n t place 
   pub is : place ≡ n - 1
 
 -- the place of the number, if it is one, has no such attempt
-abbrev pub IsNowhere : {Item Value : Type 0} → Slots Item Value → ℕ → ℕ → Type 0
+abbrev pub IsNowhere : {Item Value : Type 0} → AttemptSlots Item Value → ℕ → ℕ → Type 0
 IsNowhere {Item} {Value} slots n t = (a : Attempt Item Value) → 0 < n → get_or slots (n - 1) None ≡ Some a → a.timestamp ≢ t
 
 -- so many places, none with an attempt
-pub record AreEmpty {Item Value : Type 0} (count : ℕ) (places : Slots Item Value) : Type 0 where
+pub record AreEmpty {Item Value : Type 0} (count : ℕ) (places : AttemptSlots Item Value) : Type 0 where
   pub are : length places ≡ count
   pub each : (i : ℕ) → get_or places i None ≡ None

@@ -20,9 +20,9 @@ use Rattle.mv_shards.specs.Shards.{Shard}
 use Rattle.mv_shards.specs.Helds.{IsHeldPruned, IsHeldRead, Places}
 use Rattle.mv_shards.specs.Writing.{versions_for}
 use Rattle.mv_parts.specs.Journals.{AreAllOver, AreLiveCalls}
-use Rattle.mv_running.specs.Running.{place_of}
+use Rattle.mv_running.specs.Running.{place_among}
 use Rattle.mv_core.specs.Marks.{marks_among}
-use Rattle.mv_core.specs.Places.{ArePlacesOf, Slots, live_in}
+use Rattle.mv_core.specs.Places.{ArePlacesOf, AttemptSlots, live_in}
 
 -- what is seen of it: the world that its events lead to, and the versions of all items, in shards
 pub record Store : Type 0 where
@@ -46,11 +46,11 @@ abbrev pub marks_in : Places → List (Mark Item)
 marks_in places = marks_among (versions_for places) (items_in places)
 
 abbrev pub CallSlots : Type 0
-CallSlots = Slots Item ItemValue
+CallSlots = AttemptSlots Item ItemValue
 
 -- what is seen, where a journal's world lists no marks and no reads
-abbrev pub shown : Ledger → Header → List CallData → CallWorld → Places → CallSlots → Store
-shown base header calls w places slots = record {
+abbrev pub store_shown : Ledger → Header → List CallData → CallWorld → Places → CallSlots → Store
+store_shown base header calls w places slots = record {
   base = base;
   header = header;
   calls = calls;
@@ -62,7 +62,7 @@ shown base header calls w places slots = record {
 
 -- The facts of the order theorem, with the marks of its versions, each of which is an entry's; all shards, as far as the
 -- journal is; a place for each call. `w` is the journal's world.
-pub record IsKept (base : Ledger) (header : Header) (calls : List CallData) (w : CallWorld) (places : Places) (slots : CallSlots) : Type 0 where
+pub record IsKeptStore (base : Ledger) (header : Header) (calls : List CallData) (w : CallWorld) (places : Places) (slots : CallSlots) : Type 0 where
   pub orderly : IsOrderly base
   pub store : IsStore (λ value. value) same_item IsOfLedger (meaning_of header calls) (at base) w.low w.clock w.low w.entries (live_in slots w.live) (versions_for places)
   pub shards : AreAllOver base w.low places
@@ -81,7 +81,7 @@ pub record IsFirstRead (old new : Store) (n t : ℕ) (x : Item) (v : ItemValue) 
   pub number : attempt.number ≡ n
   pub first : value_in attempt.reads x ≡ None
   pub value : v ≡ (version_below same_item (at old.base) old.world.entries (suc t) x).1
-  pub event : IsSameWorld same_item (at old.base) new.world (after_read same_item (at old.base) old.world t (place_of attempt.reads x) x)
+  pub event : IsSameWorld same_item (at old.base) new.world (after_read same_item (at old.base) old.world t (place_among attempt.reads x) x)
   pub versions : (y : Item) → versions_for new.places y ≡ after_item_read same_item t x (versions_for old.places) y
   pub others : new ≡ record old { world = new.world; places = new.places }
 

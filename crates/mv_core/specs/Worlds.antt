@@ -6,7 +6,7 @@ use Rattle.avm_items.specs.Asks.{answer_from}
 use Rattle.avm_items.specs.Items.{ItemMap, value_in, with_item}
 use Rattle.avm_items.specs.LedgerItems.{at}
 use Rattle.avm_call.specs.Calls.{call_result}
-use Rattle.avm_run.specs.Results.{CallRecord, IsFinished}
+use Rattle.avm_run.specs.Results.{CallRecord, IsFinishedCall}
 use Rattle.avm_run.specs.RunState.{Progress}
 use Rattle.mv_history.specs.History.{commit_count, version_below}
 use Rattle.mv_history.specs.SameWorlds.{IsSameWorld}
@@ -16,7 +16,7 @@ use Rattle.mv_calls.specs.Laws.{entry_of}
 use Rattle.mv_running.specs.declared.Event.{Event}
 use Rattle.mv_running.specs.declared.Event.TheVariants as event
 use Rattle.mv_running.specs.Laws.{IsSameRunning}
-use Rattle.mv_running.specs.Running.{RunInput, Running, first_running, place_of, running_after, running_from}
+use Rattle.mv_running.specs.Running.{RunInput, Running, first_running, place_among, running_after, running_from}
 use Rattle.mv_core.specs.declared.ticket.Ticket.{Ticket}
 use Rattle.mv_core.specs.declared.world.Worker.{Worker}
 use Rattle.mv_core.specs.declared.world.Worker.TheVariants as worker
@@ -46,7 +46,7 @@ abbrev pub ticket_of : CallAttempt → Ticket
 ticket_of a = record { number = a.number; timestamp = a.timestamp }
 
 -- the run of a call, which asks for an item that it was not supplied with
-pub record AsksFor (input : RunInput) (ticket : Ticket) (run : Option Progress) (x : Item) : Type 0 where
+pub record TicketAsksFor (input : RunInput) (ticket : Ticket) (run : Option Progress) (x : Item) : Type 0 where
   pub progress : Progress
   pub goes_on : run ≡ Some progress
   pub call : call_of input.calls ticket.number ≡ Some progress.call
@@ -56,18 +56,18 @@ pub record AsksFor (input : RunInput) (ticket : Ticket) (run : Option Progress) 
   pub not_supplied : value_in progress.reads x ≡ None
 
 -- the call of an attempt, which has ended
-pub record HasEnded (input : RunInput) (ticket : Ticket) (f : CallRecord) : Type 0 where
+pub record TicketHasEnded (input : RunInput) (ticket : Ticket) (f : CallRecord) : Type 0 where
   pub call : call_of input.calls ticket.number ≡ Some f.call
   pub header : f.header ≡ input.header
-  pub finished : IsFinished f
+  pub finished : IsFinishedCall f
 
-abbrev pub IsSound : RunInput → Worker → Type 0
-IsSound input worker.Idle = Unit {0}
-IsSound input (worker.Running ticket run asks) = AsksFor input ticket run asks
-IsSound input (worker.Finished ticket finished) = HasEnded input ticket finished
+abbrev pub IsSoundWorker : RunInput → Worker → Type 0
+IsSoundWorker input worker.Idle = Unit {0}
+IsSoundWorker input (worker.Running ticket run asks) = TicketAsksFor input ticket run asks
+IsSoundWorker input (worker.Finished ticket finished) = TicketHasEnded input ticket finished
 
 abbrev pub AreSound : RunInput → List Worker → Type 0
-AreSound input workers = AllByRecursion (IsSound input) workers
+AreSound input workers = AllByRecursion (IsSoundWorker input) workers
 
 -- what is seen of a store and its workers
 abbrev pub running_of : Store → List Worker → Running
@@ -119,7 +119,7 @@ pub record EndsNow (before : Progress) (f : CallRecord) : Type 0 where
   pub same_call : f.call ≡ before.call
   pub same_header : f.header ≡ before.header
   pub same_reads : f.reads ≡ before.reads
-  pub finished : IsFinished f
+  pub finished : IsFinishedCall f
 
 abbrev pub ComesTo : Ticket → Progress → Worker → Type 0
 ComesTo ticket before worker.Idle = ⊥
@@ -144,14 +144,14 @@ IsBegunBy old new n None after = IsBegun old new n after
 IsBegunBy old new n (Some a) after = (new ≡ old) × (after ≡ Some a)
 
 -- the version that an attempt finds joins its reads, and is marked
-pub record IsRead (old new : Store) (a : CallAttempt) (x : Item) (after : Option CallAttempt) : Type 0 where
+pub record IsReadByStore (old new : Store) (a : CallAttempt) (x : Item) (after : Option CallAttempt) : Type 0 where
   pub input : input_of new ≡ input_of old
-  pub event : IsSameWorld same_item (at old.base) new.world (after_read same_item (at old.base) old.world a.timestamp (place_of a.reads x) x)
+  pub event : IsSameWorld same_item (at old.base) new.world (after_read same_item (at old.base) old.world a.timestamp (place_among a.reads x) x)
   pub joins : after ≡ Some (record a { reads = with_item a.reads x (version_below same_item (at old.base) old.world.entries (suc a.timestamp) x).1 })
 
 abbrev pub IsReadBy : Store → Store → Worker → Option CallAttempt → Type 0
 IsReadBy old new worker.Idle after = (new ≡ old) × (after ≡ None)
-IsReadBy old new (worker.Running ticket run x) after = IsRead old new (attempt_by ticket (reads_or_none run)) x after
+IsReadBy old new (worker.Running ticket run x) after = IsReadByStore old new (attempt_by ticket (reads_or_none run)) x after
 IsReadBy old new (worker.Finished ticket f) after = (new ≡ old) × (after ≡ Some (attempt_by ticket f.reads))
 
 -- a call that has ended commits, or is late

@@ -1,7 +1,7 @@
 //! The block of a store.
 
 ghost use Rattle.std.specs.Prelude.{◌≡◌, ◌↔◌, [], IfErr, IfOk, IsTrue, OnOk};
-ghost use Rattle.mv_parts.specs.Sealing.{IsOf, IsSealRefusal, IsSealed};
+ghost use Rattle.mv_parts.specs.Sealing.{IsJournalOf, IsSealRefusal, IsSealed};
 ghost use Rattle.mv_core.specs.Calls.{as_journal};
 
 use crate::store::Store;
@@ -47,7 +47,7 @@ impl Store {
     /// Whether the store is of this ledger, header and calls, and no attempt is live. It takes no memory; it goes
     /// through the ledger and the calls.
     pub fn is_of(&self, base: &Ledger, header: &Header, calls: &[Call]) -> bool
-        ensures { IsTrue result ↔ IsOf (as_journal self.now) base.now header.now calls.now }
+        ensures { IsTrue result ↔ IsJournalOf (as_journal self.now) base.now header.now calls.now }
     {
         self.journal.is_of(base, header, calls)
     }

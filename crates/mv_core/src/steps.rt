@@ -2,7 +2,7 @@
 
 ghost use Rattle.std.specs.Prelude.{◌≡◌, Some, IfOk, IsSome};
 ghost use Rattle.avm_ops.specs.Objects.{IsFull};
-ghost use Rattle.mv_core.specs.Worlds.{AsksFor, HasEnded, IsAbandonBy, IsAdvanced, IsBegun, IsBegunBy, IsCommit, IsCommitBy, IsGoing, IsLiveIfAny, IsLiveWith, IsRead, IsReadBy, IsSound, IsWork, attempt_by, attempt_of, input_of, reads_or_none, worker_in};
+ghost use Rattle.mv_core.specs.Worlds.{TicketAsksFor, TicketHasEnded, IsAbandonBy, IsAdvanced, IsBegun, IsBegunBy, IsCommit, IsCommitBy, IsGoing, IsLiveIfAny, IsLiveWith, IsReadByStore, IsReadBy, IsSoundWorker, IsWork, attempt_by, attempt_of, input_of, reads_or_none, worker_in};
 
 use crate::faults::{CommitFault, RefusedCommit};
 use crate::store::Store;
@@ -24,11 +24,11 @@ pub(crate) fn work(
     event: Event,
 ) -> Result<Worker, AllocError>
     requires full { IsFull ⟦<BoxedOp as Op>⟧.opcode ops.now }
-    requires sound { IsSound (input_of store.old) worker }
+    requires sound { IsSoundWorker (input_of store.old) worker }
     requires live { IsLiveIfAny store.old (attempt_of worker) }
     requires own { IsSome (worker_in event) }
     ensures work { IfOk result (λ after. IsWork event store.old store.new worker (attempt_of after)) }
-    ensures sound { IfOk result (λ after. IsSound (input_of store.old) after) }
+    ensures sound { IfOk result (λ after. IsSoundWorker (input_of store.old) after) }
 {
     match event {
         Event::Begin(_worker, number) => begin_by(alloc, ops, store, worker, number),
@@ -51,9 +51,9 @@ fn begin_by(
     number: u32,
 ) -> Result<Worker, AllocError>
     requires full { IsFull ⟦<BoxedOp as Op>⟧.opcode ops.now }
-    requires sound { IsSound (input_of store.old) worker }
+    requires sound { IsSoundWorker (input_of store.old) worker }
     ensures begun { IfOk result (λ after. IsBegunBy store.old store.new number (attempt_of worker) (attempt_of after)) }
-    ensures sound { IfOk result (λ after. IsSound (input_of store.old) after) }
+    ensures sound { IfOk result (λ after. IsSoundWorker (input_of store.old) after) }
 {
     match worker {
         Worker::Idle => begin(alloc, ops, store, number),
@@ -69,10 +69,10 @@ fn read_by(
     worker: Worker,
 ) -> Result<Worker, AllocError>
     requires full { IsFull ⟦<BoxedOp as Op>⟧.opcode ops.now }
-    requires sound { IsSound (input_of store.old) worker }
+    requires sound { IsSoundWorker (input_of store.old) worker }
     requires live { IsLiveIfAny store.old (attempt_of worker) }
     ensures read { IfOk result (λ after. IsReadBy store.old store.new worker (attempt_of after)) }
-    ensures sound { IfOk result (λ after. IsSound (input_of store.old) after) }
+    ensures sound { IfOk result (λ after. IsSoundWorker (input_of store.old) after) }
 {
     match worker {
         Worker::Running { ticket, run, asks } => read(alloc, ops, store, ticket, run, asks),
@@ -82,10 +82,10 @@ fn read_by(
 
 /// Commits the worker's call, if it has ended.
 fn commit_by(store: &mut Store, worker: Worker) -> Result<Worker, AllocError>
-    requires sound { IsSound (input_of store.old) worker }
+    requires sound { IsSoundWorker (input_of store.old) worker }
     requires live { IsLiveIfAny store.old (attempt_of worker) }
     ensures commit { IfOk result (λ after. IsCommitBy store.old store.new worker (attempt_of after)) }
-    ensures sound { IfOk result (λ after. IsSound (input_of store.old) after) }
+    ensures sound { IfOk result (λ after. IsSoundWorker (input_of store.old) after) }
 {
     match worker {
         Worker::Finished { ticket, finished } => commit(store, ticket, finished),
@@ -110,7 +110,7 @@ fn abandon_by(store: &mut Store, worker: Worker)
 fn begin(alloc: Global, ops: &OpSet, store: &mut Store, number: u32) -> Result<Worker, AllocError>
     requires full { IsFull ⟦<BoxedOp as Op>⟧.opcode ops.now }
     ensures begun { IfOk result (λ after. IsBegun store.old store.new number (attempt_of after)) }
-    ensures sound { IfOk result (λ after. IsSound (input_of store.old) after) }
+    ensures sound { IfOk result (λ after. IsSoundWorker (input_of store.old) after) }
 {
     match store.begin(number) {
         Ok(ticket) => match store.call(number) {
@@ -135,10 +135,10 @@ fn read(
     asks: Item,
 ) -> Result<Worker, AllocError>
     requires full { IsFull ⟦<BoxedOp as Op>⟧.opcode ops.now }
-    requires asks { AsksFor (input_of store.old) ticket run asks }
+    requires asks { TicketAsksFor (input_of store.old) ticket run asks }
     requires live { IsLiveWith store.old (attempt_by ticket (reads_or_none run)) }
-    ensures read { IfOk result (λ after. IsRead store.old store.new (attempt_by ticket (reads_or_none run)) asks (attempt_of after)) }
-    ensures sound { IfOk result (λ after. IsSound (input_of store.old) after) }
+    ensures read { IfOk result (λ after. IsReadByStore store.old store.new (attempt_by ticket (reads_or_none run)) asks (attempt_of after)) }
+    ensures sound { IfOk result (λ after. IsSoundWorker (input_of store.old) after) }
 {
     let mut run = run;
     match store.read(&ticket, asks.copied()) {
@@ -175,10 +175,10 @@ fn advance(alloc: Global, ops: &OpSet, ticket: Ticket, run: CallRun) -> Result<W
 
 /// Commits a call that has ended. Where it is late, it stays as it is.
 fn commit(store: &mut Store, ticket: Ticket, finished: Finished) -> Result<Worker, AllocError>
-    requires ended { HasEnded (input_of store.old) ticket finished }
+    requires ended { TicketHasEnded (input_of store.old) ticket finished }
     requires live { IsLiveWith store.old (attempt_by ticket finished.reads) }
     ensures commit { IfOk result (λ after. IsCommit store.old store.new (attempt_by ticket finished.reads) finished (attempt_of after)) }
-    ensures sound { IfOk result (λ after. IsSound (input_of store.old) after) }
+    ensures sound { IfOk result (λ after. IsSoundWorker (input_of store.old) after) }
 {
     match store.commit(&ticket, finished) {
         Ok(_timestamp) => Ok(Worker::Idle),

@@ -15,7 +15,7 @@ ghost use Rattle.mv_shards.specs.Writing.{versions_for};
 ghost use Rattle.mv_parts.specs.Journals.{IsBeginRefusal, begin_fault};
 ghost use Rattle.mv_core.specs.declared.faults.ReadFault.TheVariants.{Unknown};
 ghost use Rattle.mv_core.specs.declared.faults.StateFault.TheVariants.{Pruned};
-ghost use Rattle.mv_core.specs.Places.{IsLive};
+ghost use Rattle.mv_core.specs.Places.{HasLiveNumber};
 ghost use Rattle.std.specs.Arc.{arc_value};
 ghost use Rattle.mv_parts.specs.Opening.{IsOpenRefusal, open_fault};
 ghost use Rattle.mv_core.specs.Calls.{as_journal, first_store};
@@ -50,14 +50,14 @@ pub struct Store {
 }
 
 impl Model for Store {
-    ghost use Rattle.mv_core.specs.Calls.{IsKeptBy, shown_by};
+    ghost use Rattle.mv_core.specs.Calls.{IsKeptByJournal, shown_by};
     ghost use Rattle.mv_core.specs.Stores.{Store};
 
     ghost Value = { Store };
 
     ghost view = { λ s. shown_by s.journal s.held s.attempts.items };
 
-    ghost invariant = { λ s. IsKeptBy s.journal s.held s.attempts.items };
+    ghost invariant = { λ s. IsKeptByJournal s.journal s.held s.attempts.items };
 }
 
 impl Store {
@@ -110,7 +110,7 @@ impl Store {
     pub fn read(&mut self, ticket: &Ticket, item: Item) -> Result<ItemValue, ReadError>
         ensures ok { IfOk result (λ value. IsFirstRead self.old self.new ticket.now.number ticket.now.timestamp item value ⊎ IsReadAgain self.old self.new ticket.now.number ticket.now.timestamp item value) }
         ensures unchanged { OnErr result (self.new ≡ self.old) }
-        ensures unknown { IsErrOf result (Fault Unknown) ↔ (IsLive self.old.world.live ticket.now.number ticket.now.timestamp → ⊥) }
+        ensures unknown { IsErrOf result (Fault Unknown) ↔ (HasLiveNumber self.old.world.live ticket.now.number ticket.now.timestamp → ⊥) }
     {
         match place_of(&self.attempts, ticket) {
             Some(place) => match read_at(&mut self.held, &mut self.attempts, place, item) {
@@ -161,8 +161,8 @@ impl Store {
     /// A live attempt ends, and leaves its marks.
     pub fn abandon(&mut self, ticket: &Ticket) -> Result<(), AbandonFault>
         ensures event { OnOk result (self.new ≡ record self.old { world = after_abandon self.old.world ticket.now.timestamp }) }
-        ensures live { OnOk result (IsLive self.old.world.live ticket.now.number ticket.now.timestamp) }
-        ensures unknown { OnErr result (IsLive self.old.world.live ticket.now.number ticket.now.timestamp → ⊥) }
+        ensures live { OnOk result (HasLiveNumber self.old.world.live ticket.now.number ticket.now.timestamp) }
+        ensures unknown { OnErr result (HasLiveNumber self.old.world.live ticket.now.number ticket.now.timestamp → ⊥) }
         ensures unchanged { OnErr result (self.new ≡ self.old) }
     {
         match place_of(&self.attempts, ticket) {

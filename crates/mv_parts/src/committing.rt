@@ -4,7 +4,7 @@ ghost use Rattle.std.specs.Prelude.{◌≡◌, ◌-◌, ◌<◌, OnErr, OnOk, ve
 ghost use Rattle.mv_history.specs.History.{IsRising, entries_with};
 ghost use Rattle.mv_calls.specs.Laws.{entry_of as entry_at};
 ghost use Rattle.mv_shards.specs.Writing.{AreWritten, CanTake};
-ghost use Rattle.mv_parts.specs.Commits.{count_not_above};
+ghost use Rattle.mv_parts.specs.Commits.{entries_not_above};
 
 use crate::entry::Entry;
 use avm_run::Finished;
@@ -68,7 +68,7 @@ pub(crate) fn insert_entry(entries: &mut Vec<Entry>, entry: Entry)
 /// How many entries are not above a timestamp.
 fn place_of(entries: &[Entry], timestamp: u64) -> usize
     requires { IsRising 0 entries.now }
-    ensures { result ≡ count_not_above timestamp entries.now }
+    ensures { result ≡ entries_not_above timestamp entries.now }
 {
     entries.partition_point(|entry| entry.timestamp <= timestamp)
 }

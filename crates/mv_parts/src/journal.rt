@@ -49,13 +49,13 @@ pub struct Journal {
 
 impl Model for Journal {
     ghost use Rattle.std.specs.Arc.{arc_value};
-    ghost use Rattle.mv_parts.specs.Journals.{IsKept, Journal, journal_of};
+    ghost use Rattle.mv_parts.specs.Journals.{IsKeptJournal, Journal, journal_of};
 
     ghost Value = { Journal };
 
     ghost view = { λ j. journal_of (arc_value j.base) j.header (arc_value j.calls).items j.clock j.low j.entries.items j.live.entries j.index };
 
-    ghost invariant = { λ j. IsKept (arc_value j.base) j.header (arc_value j.calls).items j.clock j.low j.entries.items j.states.items j.live.entries j.index };
+    ghost invariant = { λ j. IsKeptJournal (arc_value j.base) j.header (arc_value j.calls).items j.clock j.low j.entries.items j.states.items j.live.entries j.index };
 }
 
 impl Journal {

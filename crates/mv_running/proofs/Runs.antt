@@ -29,7 +29,7 @@ use Rattle.mv_calls.proofs.Histories.{finished_calls_are_entries}
 use Rattle.mv_calls.proofs.SerialCalls.{calls_lead_on, items_have_an_equality}
 use Rattle.mv_running.specs.declared.Event.{Event}
 use Rattle.mv_running.specs.declared.Event.TheVariants as event
-use Rattle.mv_running.specs.Running.{RunInput, Running, answer_of, by_worker, commit_by, entry_by, first_running, may_begin, place_of, read_by, running_after, running_from, version_before, with_worker, worker_at, writes_in_time}
+use Rattle.mv_running.specs.Running.{RunInput, Running, answer_of, by_worker, commit_by, entry_by, first_running, may_begin, place_among, read_by, running_after, running_from, version_before, with_worker, worker_at, writes_in_time}
 use Rattle.mv_running.specs.Laws.{AreAtWork, EveryReadIsUsed, EveryRunIsSerial, EveryRunLeadsOn, EveryWorkerIsLive, IsAtWork}
 use Rattle.mv_running.proofs.Workers.{itself, other, after_set, with_item-new}
 
@@ -130,7 +130,7 @@ module _ (input : RunInput) where
       k
     where
       place : ℕ
-      place = place_of a.reads x
+      place = place_among a.reads x
 
       read : Item × ItemValue
       read = (x, (version_before input r a.timestamp x).1)

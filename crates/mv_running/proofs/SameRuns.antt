@@ -20,7 +20,7 @@ use Rattle.mv_calls.proofs.SerialCalls.{items_have_an_equality}
 use Rattle.avm_items.specs.declared.item.Item.{Item}
 use Rattle.mv_running.specs.declared.Event.{Event}
 use Rattle.mv_running.specs.declared.Event.TheVariants as event
-use Rattle.mv_running.specs.Running.{RunInput, Running, answer_of, by_worker, commit_by, entry_by, may_begin, place_of, read_by, running_after, with_worker, worker_at, writes_in_time}
+use Rattle.mv_running.specs.Running.{RunInput, Running, answer_of, by_worker, commit_by, entry_by, may_begin, place_among, read_by, running_after, with_worker, worker_at, writes_in_time}
 use Rattle.mv_running.specs.Laws.{AreAtWork, EverySameRunGoesOn, IsSameRunning, TestsAreInTime}
 use Rattle.mv_running.proofs.Runs.{in_time}
 
@@ -58,7 +58,7 @@ module _ (input : RunInput) (r : Running) (marks : List (Mark Item)) (leads : Ca
       by_answer a None = record { world = same_world; workers = refl }
       by_answer a (Some (Ok result)) = record { world = same_world; workers = refl }
       by_answer a (Some (Err x)) =
-          record { world = after_same_event same_item (at input.base) r.world (record r.world { marks = marks }) facts.journal.rising same_world (Read a.timestamp (place_of a.reads x) x) (Read a.timestamp (place_of a.reads x) x) refl; workers = refl }
+          record { world = after_same_event same_item (at input.base) r.world (record r.world { marks = marks }) facts.journal.rising same_world (Read a.timestamp (place_among a.reads x) x) (Read a.timestamp (place_among a.reads x) x) refl; workers = refl }
 
       by : (o : Option CallAttempt) → IsSameRunning input (by_worker r (λ a. read_by input r w a (answer_of input.header a.reads (call_of input.calls a.number))) o)
           (by_worker (record r { world = record r.world { marks = marks } }) (λ a. read_by input (record r { world = record r.world { marks = marks } }) w a (answer_of input.header a.reads (call_of input.calls a.number))) o)

@@ -15,7 +15,7 @@ use Rattle.std.specs.Arc.{arc_value}
 use Rattle.avm_items.specs.LedgerItems.{at}
 use Rattle.mv_shards.specs.declared.part.Part.{Part}
 use Rattle.mv_shards.proofs.FirstReads.{versions_touched}
-use Rattle.mv_shards.specs.Shards.{IsPart, Shard, seen, versions_held}
+use Rattle.mv_shards.specs.Shards.{IsPart, Shard, shard_shown, versions_held}
 use Rattle.mv_shards.specs.Indexes.{shard_of}
 use Rattle.mv_shards.specs.Helds.{AreHeld, Places, shard_for}
 use Rattle.mv_shards.specs.Writing.{AreAbsent, AreLow, IsLowAt, NoneForeign, NoneForeignBelow, has_timestamp, has_write_at, is_foreign, versions_or_none}
@@ -135,16 +135,16 @@ absent_all t writes places none held = absent_in t writes writes places none (λ
 
 -- ---- of parts
 
-pub part_chain : (p : Part) (x : Item) → IsPart p → IsChain (versions_held (seen p) x)
+pub part_chain : (p : Part) (x : Item) → IsPart p → IsChain (versions_held (shard_shown p) x)
 part_chain p x k = subst IsChain (sym (versions_touched (at (arc_value p.base)) p.low p.chains.entries k.chains x)) (k.chains.chains x)
 
-pub part_old : (p : Part) (x : Item) (t : ℕ) → IsPart p → p.low ≤ t → oldest_timestamp (versions_held (seen p) x) ≤ t
+pub part_old : (p : Part) (x : Item) (t : ℕ) → IsPart p → p.low ≤ t → oldest_timestamp (versions_held (shard_shown p) x) ≤ t
 part_old p x t k low =
-    let old : oldest_timestamp (versions_held (seen p) x) ≤ p.low = subst (λ vs. oldest_timestamp vs ≤ p.low) (sym (versions_touched (at (arc_value p.base)) p.low p.chains.entries k.chains x)) (k.chains.old_enough x) in
+    let old : oldest_timestamp (versions_held (shard_shown p) x) ≤ p.low = subst (λ vs. oldest_timestamp vs ≤ p.low) (sym (versions_touched (at (arc_value p.base)) p.low p.chains.entries k.chains x)) (k.chains.old_enough x) in
     omega (arith, old, low)
 
-pub has_version_seen : (p : Part) (x : Item) (t : ℕ) (d : Version ItemValue) → IsPart p → p.low ≤ t → has_timestamp t (versions_held (seen p) x) ≡ ((newest_at t (versions_held (seen p) x) d).timestamp == t)
-has_version_seen p x t d k low = has_newest t (versions_held (seen p) x) d (part_chain p x k) (part_old p x t k low)
+pub has_version_seen : (p : Part) (x : Item) (t : ℕ) (d : Version ItemValue) → IsPart p → p.low ≤ t → has_timestamp t (versions_held (shard_shown p) x) ≡ ((newest_at t (versions_held (shard_shown p) x) d).timestamp == t)
+has_version_seen p x t d k low = has_newest t (versions_held (shard_shown p) x) d (part_chain p x k) (part_old p x t k low)
 
 pub foreign_next : (t : ℕ) (writes : ItemMap) (n : ℕ) (places : Places) → NoneForeignBelow t writes n places → is_foreign n t writes (get_or places n None) ≡ false → NoneForeignBelow t writes (n + 1) places
 foreign_next t writes n places before here i below = by (i == n) (equals i n)

@@ -14,7 +14,7 @@ use Rattle.avm_items.specs.Items.{item_cmp}
 use Rattle.avm_items.proofs.Puts.{item_same, item_total}
 use Rattle.mv_chain.specs.declared.Version.{Version}
 use Rattle.mv_chain.specs.Versions.{Versions, IsChain, count_not_above, marked_at_index, oldest_timestamp, versions_read_at, versions_with}
-use Rattle.mv_shards.specs.Chains.{AreChains, ChainMap, TakesVersion, HasRoom, IsGrown, IsInstalled, IsMarked, IsReadable, IsRoomier, chain_in, is_untouched, list_or, one_installed, one_marked, touched, versions_of}
+use Rattle.mv_shards.specs.Chains.{AreChains, ChainMap, TakesVersion, HasRoomFor, IsGrown, IsInstalled, IsMarked, IsReadable, IsRoomier, chain_in, is_untouched, list_or, one_installed, one_marked, touched, versions_of}
 use Rattle.mv_shards.proofs.Touched.{found_inserted, marked_oldest, marked_touched, touched_alike}
 
 alike_kept : {V : Type 0} (first : Item → V) (map new : ChainMap V) → IsStrictlySortedBy item_cmp (keys_of new) → ((y : Item) → versions_of first new y ≡ versions_of first map y) → (low : ℕ) → AreChains first low map → AreChains first low new
@@ -137,7 +137,7 @@ spaced_roomier map new x c w h room = record {
   rooms = λ y r. let e = carried map new x c w h (λ u. 0 < u.room) (λ u. room) y r.chain r.found r.room in record { chain = e.0; found = e.1; room = e.2 };
 }
 
-pub spaced_room : {V : Type 0} (map new : ChainMap V) (x : Item) (c w : Versions V) → IsChanged map new x c w → 0 < w.room → HasRoom new x
+pub spaced_room : {V : Type 0} (map new : ChainMap V) (x : Item) (c w : Versions V) → IsChanged map new x c w → 0 < w.room → HasRoomFor new x
 spaced_room map new x c w h room = record { chain = w; found = h.finds x ∙ ap (λ b. cond b (Some w) (chain_in map x)) (ap is_eq (tied_itself item_total x)); room = room }
 
 -- ---- a mark

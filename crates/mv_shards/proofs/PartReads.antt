@@ -1,4 +1,4 @@
--- What a part's chain of an item says of the versions that are seen.
+-- What a part's chain of an item says of the versions that are shard_shown.
 use Rattle.std.proofs.Common.{◌≡◌, ◌≤◌, ℕ, ◌==◌, Bool, Option, None, Some, refl, sym, ap, ◌∙◌, subst, arith, le-leb, nat_lt}
 use Rattle.std.specs.Prelude.{if◌then◌else◌}
 use Rattle.std.specs.Arc.{arc_value}
@@ -11,13 +11,13 @@ use Rattle.mv_chain.specs.Versions.{Versions, lateness, newest_at, oldest_timest
 use Rattle.mv_history.proofs.Lists.{Compared, less, not_less, compared, Equals, equal, unequal, equals}
 use Rattle.mv_shards.specs.declared.part.Part.{Part}
 use Rattle.mv_shards.specs.Chains.{chain_in, first_version, list_or}
-use Rattle.mv_shards.specs.Shards.{IsPart, seen, versions_held}
+use Rattle.mv_shards.specs.Shards.{IsPart, shard_shown, versions_held}
 use Rattle.mv_shards.proofs.FirstReads.{versions_touched}
 
-pub chain_held : (p : Part) (x : Item) (c : Versions ItemValue) → IsPart p → Some c ≡ chain_in p.chains.entries x → versions_held (seen p) x ≡ c.list
+pub chain_held : (p : Part) (x : Item) (c : Versions ItemValue) → IsPart p → Some c ≡ chain_in p.chains.entries x → versions_held (shard_shown p) x ≡ c.list
 chain_held p x c k found = versions_touched (at (arc_value p.base)) p.low p.chains.entries k.chains x ∙ ap (list_or (at (arc_value p.base) x)) (sym found)
 
-pub none_held : (p : Part) (x : Item) → IsPart p → None ≡ chain_in p.chains.entries x → versions_held (seen p) x ≡ first_version (at (arc_value p.base) x)
+pub none_held : (p : Part) (x : Item) → IsPart p → None ≡ chain_in p.chains.entries x → versions_held (shard_shown p) x ≡ first_version (at (arc_value p.base) x)
 none_held p x k found = versions_touched (at (arc_value p.base)) p.low p.chains.entries k.chains x ∙ ap (list_or (at (arc_value p.base) x)) (sym found)
 
 pub chain_goes_back : (p : Part) (x : Item) (c : Versions ItemValue) (t : ℕ) → IsPart p → p.low ≤ t → Some c ≡ chain_in p.chains.entries x → oldest_timestamp c.list ≤ t

@@ -8,7 +8,7 @@ use Rattle.std.specs.Map.Calls.{RetainsPairs}
 use Rattle.avm_items.specs.declared.item.Item.{Item}
 use Rattle.avm_items.specs.Items.{item_cmp}
 use Rattle.mv_chain.specs.declared.Version.{Version}
-use Rattle.mv_chain.specs.Versions.{IsChain, IsRising, Versions, count_not_above, oldest_timestamp, versions_from}
+use Rattle.mv_chain.specs.Versions.{IsChain, AreRising, Versions, count_not_above, oldest_timestamp, versions_from}
 use Rattle.mv_chain.proofs.Places.{AtMost, above, at_most, chain-length, count_not_above-within, drop-chain, within}
 use Rattle.mv_chain.proofs.Found.{from, versions_from-from}
 use Rattle.mv_shards.specs.Chains.{AreChains, ChainMap, chain_in, first_version, is_untouched, list_or, versions_of}
@@ -36,7 +36,7 @@ pruned_versions T t f each first (e ∷ es) kept (b, w, f', rest, step, others, 
 -- ---- what is left
 
 -- versions above another one are touched
-rising_touched : {V : Type 0} (n i : ℕ) (vs : List (Version V)) → IsRising n vs → is_untouched (drop i vs) ≡ false
+rising_touched : {V : Type 0} (n i : ℕ) (vs : List (Version V)) → AreRising n vs → is_untouched (drop i vs) ≡ false
 rising_touched n zero [] h = refl
 rising_touched n (suc i) [] h = refl
 rising_touched n zero (v ∷ []) h = grind (arith, h.0)

@@ -1,4 +1,4 @@
--- Pruning, as a change of what is seen.
+-- Pruning, as a change of what is shard_shown.
 use Rattle.std.proofs.Common.{◌≡◌, ◌≤◌, ◌<◌, ℕ, zero, suc, Bool, List, [], ◌∷◌, length, Option, None, get_or, nat_lt, refl, sym, ap, ◌∙◌, subst, arith}
 use Rattle.std.specs.Arc.{arc_value}
 use Rattle.avm_items.specs.declared.item.Item.{Item}
@@ -9,14 +9,14 @@ use Rattle.mv_history.proofs.Lists.{Compared, less, not_less, compared}
 use Rattle.mv_shards.specs.declared.part.Part.{Part}
 use Rattle.mv_shards.specs.Indexes.{shard_count}
 use Rattle.mv_shards.specs.Chains.{versions_of}
-use Rattle.mv_shards.specs.Shards.{IsPart, IsPrunedShard, seen}
+use Rattle.mv_shards.specs.Shards.{IsPart, IsPrunedShard, shard_shown}
 use Rattle.mv_shards.specs.Helds.{AreAtPlaces, ArePruned, IsPrunedPlace, seen_all, seen_or_none}
 use Rattle.mv_shards.specs.Writing.{Parts}
 use Rattle.mv_shards.proofs.FirstReads.{versions_touched}
 use Rattle.mv_shards.proofs.Places.{seen_at}
 
 pub pruned_seen : (t : ℕ) (p q : Part) → p.low ≤ t → q.index ≡ p.index → arc_value q.base ≡ arc_value p.base → q.low ≡ t → IsPart p → IsPart q
-    → ((first : Item → ItemValue) (x : Item) → versions_of first q.chains.entries x ≡ versions_from t (versions_of first p.chains.entries x)) → IsPrunedShard t (seen p) (seen q)
+    → ((first : Item → ItemValue) (x : Item) → versions_of first q.chains.entries x ≡ versions_from t (versions_of first p.chains.entries x)) → IsPrunedShard t (shard_shown p) (shard_shown q)
 pruned_seen t p q below index base low k n versions = record {
   raised = λ h. record {
     index = index;

@@ -76,7 +76,7 @@ pub record IsGrown {V : Type 0} (first : Item → V) (old new : ChainMap V) : Ty
   pub seen : (low : ℕ) → AreChains first low old → touched new ≡ touched old
 
 -- the item has a chain with room for one more version
-pub record HasRoom {V : Type 0} (map : ChainMap V) (x : Item) : Type 0 where
+pub record HasRoomFor {V : Type 0} (map : ChainMap V) (x : Item) : Type 0 where
   pub chain : Versions V
   pub found : chain_in map x ≡ Some chain
   pub room : 0 < chain.room
@@ -84,7 +84,7 @@ pub record HasRoom {V : Type 0} (map : ChainMap V) (x : Item) : Type 0 where
 -- no chain was lost, and no room
 pub record IsRoomier {V : Type 0} (old new : ChainMap V) : Type 0 where
   pub still : (x : Item) → IsSome (chain_in old x) → IsSome (chain_in new x)
-  pub rooms : (x : Item) → HasRoom old x → HasRoom new x
+  pub rooms : (x : Item) → HasRoomFor old x → HasRoomFor new x
 
 -- ---- marks and writes
 

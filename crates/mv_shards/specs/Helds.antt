@@ -7,7 +7,7 @@ use Rattle.avm_items.specs.declared.item_value.ItemValue.{ItemValue}
 use Rattle.mv_shards.specs.declared.part.Part.{Part}
 use Rattle.mv_shards.specs.Attempts.{CallAttempt}
 use Rattle.mv_shards.specs.Indexes.{shard_count, shard_of}
-use Rattle.mv_shards.specs.Shards.{IsFirstRead, IsPart, IsPruned, IsPrunedShard, IsReadAgain, Shard, seen}
+use Rattle.mv_shards.specs.Shards.{IsFirstRead, IsPart, IsPruned, IsPrunedShard, IsReadAgain, Shard, shard_shown}
 
 -- a place for each shard
 abbrev pub Places : Type 0
@@ -70,7 +70,7 @@ ArePruned t old new = (i : ℕ) → IsPrunedPlace t (get_or old i None) (get_or 
 
 abbrev pub seen_or_none : Option Part → Option Shard
 seen_or_none None = None
-seen_or_none (Some p) = Some (seen p)
+seen_or_none (Some p) = Some (shard_shown p)
 
 abbrev pub seen_all : List (Option Part) → Places
 seen_all = map seen_or_none

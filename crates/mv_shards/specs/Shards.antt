@@ -13,7 +13,7 @@ use Rattle.mv_shards.specs.Attempts.{CallAttempt}
 use Rattle.mv_shards.specs.Indexes.{shard_count}
 use Rattle.mv_shards.specs.Chains.{AreChains, ChainMap, VersionLists, one_marked, touched, versions_in, versions_of, with_versions}
 
--- what is seen of a shard: the chains are those of the items that were read or written
+-- what is shard_shown of a shard: the chains are those of the items that were read or written
 pub record Shard : Type 0 where
   pub index : ℕ
   pub low : ℕ  -- the low mark: nothing is read below it any more
@@ -57,8 +57,8 @@ pub record IsPrunedShard (t : ℕ) (old new : Shard) : Type 0 where
 
 -- ---- a shard as it is kept
 
-abbrev pub seen : Part → Shard
-seen p = record { index = p.index; low = p.low; base = arc_value p.base; chains = touched p.chains.entries }
+abbrev pub shard_shown : Part → Shard
+shard_shown p = record { index = p.index; low = p.low; base = arc_value p.base; chains = touched p.chains.entries }
 
 pub record IsPart (p : Part) : Type 0 where
   pub within : p.index < shard_count

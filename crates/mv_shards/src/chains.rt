@@ -1,7 +1,7 @@
 //! Maps from items to chains, of any values.
 
 ghost use Rattle.std.specs.Prelude.{◌≡◌, ◌≤◌, ◌<◌, IfOk, IsSome, None, OnOk};
-ghost use Rattle.mv_shards.specs.Chains.{TakesVersion, IsGrown, IsInstalled, IsMarked, IsReadable, IsRoomier, HasRoom, chain_in};
+ghost use Rattle.mv_shards.specs.Chains.{TakesVersion, IsGrown, IsInstalled, IsMarked, IsReadable, IsRoomier, HasRoomFor, chain_in};
 
 use avm_items::Item;
 use mv_chain::Chain;
@@ -33,7 +33,7 @@ pub fn make_space<V: Drop>(
     requires there { IsSome (chain_in chains.old.entries item.now) }
     ensures grown { (value_of : _) → IsGrown value_of chains.old.entries chains.new.entries }
     ensures roomier { OnOk result (IsRoomier chains.old.entries chains.new.entries) }
-    ensures room { OnOk result (HasRoom chains.new.entries item.now) }
+    ensures room { OnOk result (HasRoomFor chains.new.entries item.now) }
 {
     match chains.get_mut(item) {
         Some(chain) => chain.reserve(),

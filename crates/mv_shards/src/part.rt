@@ -10,7 +10,7 @@ ghost use Rattle.mv_shards.specs.declared.read_fault.ReadFault.TheVariants.{Prun
 ghost use Rattle.mv_shards.specs.Chains.{AreChains, IsGrown, IsReadable, IsRoomier, chain_in, versions_of};
 ghost use Rattle.mv_shards.specs.Indexes.{shard_of as shard_index};
 ghost use Rattle.mv_shards.specs.Writing.{has_timestamp, is_foreign};
-ghost use Rattle.mv_shards.specs.Shards.{IsFirstRead, IsMarkedRead, IsPart, IsPruned, IsPrunedShard, IsReadAgain, seen, versions_held};
+ghost use Rattle.mv_shards.specs.Shards.{IsFirstRead, IsMarkedRead, IsPart, IsPruned, IsPrunedShard, IsReadAgain, shard_shown, versions_held};
 
 use crate::attempt::Attempt;
 use crate::chains::{make_chain, mark};
@@ -96,10 +96,10 @@ pub(crate) fn read(
 ) -> Result<ItemValue, ReadError>
     requires { IsPart part.old }
     ensures kept { IsPart part.new }
-    ensures ok { IfOk result (λ value. IsFirstRead (seen part.old) (seen part.new) attempt.old attempt.new item value ⊎ IsReadAgain (seen part.old) (seen part.new) attempt.old attempt.new item value) }
-    ensures part { OnErr result (seen part.new ≡ seen part.old) }
+    ensures ok { IfOk result (λ value. IsFirstRead (shard_shown part.old) (shard_shown part.new) attempt.old attempt.new item value ⊎ IsReadAgain (shard_shown part.old) (shard_shown part.new) attempt.old attempt.new item value) }
+    ensures part { OnErr result (shard_shown part.new ≡ shard_shown part.old) }
     ensures attempt { OnErr result (attempt.new ≡ attempt.old) }
-    ensures pruned { IsErrOf result (Fault Pruned) ↔ IsPruned (seen part.old) attempt.old item }
+    ensures pruned { IsErrOf result (Fault Pruned) ↔ IsPruned (shard_shown part.old) attempt.old item }
 {
     if let Some(value) = attempt.reads.get(&item) {
         return Ok(value.clone()?);
@@ -114,7 +114,7 @@ pub(crate) fn read(
 pub(crate) fn late(part: &Part, item: &Item, timestamp: u64) -> Option<Late>
     requires part { IsPart part.now }
     requires low { part.now.low ≤ timestamp }
-    ensures { (d : _) → result ≡ lateness timestamp (newest_at timestamp (versions_held (seen part.now) item.now) d) }
+    ensures { (d : _) → result ≡ lateness timestamp (newest_at timestamp (versions_held (shard_shown part.now) item.now) d) }
 {
     match part.chains.get(item) {
         Some(chain) => chain.late(timestamp),
@@ -126,7 +126,7 @@ pub(crate) fn late(part: &Part, item: &Item, timestamp: u64) -> Option<Late>
 pub(crate) fn has_version(part: &Part, item: &Item, timestamp: u64) -> bool
     requires part { IsPart part.now }
     requires low { part.now.low ≤ timestamp }
-    ensures { result ≡ has_timestamp timestamp (versions_held (seen part.now) item.now) }
+    ensures { result ≡ has_timestamp timestamp (versions_held (shard_shown part.now) item.now) }
 {
     match part.chains.get(item) {
         Some(chain) => chain.timestamp_at(timestamp) == timestamp,
@@ -138,7 +138,7 @@ pub(crate) fn has_version(part: &Part, item: &Item, timestamp: u64) -> bool
 pub(crate) fn has_value(part: &Part, item: &Item, timestamp: u64, value: &ItemValue) -> bool
     requires part { IsPart part.now }
     requires low { part.now.low ≤ timestamp }
-    ensures { (d : _) → result ≡ is_same_value (newest_at timestamp (versions_held (seen part.now) item.now) d).value value.now }
+    ensures { (d : _) → result ≡ is_same_value (newest_at timestamp (versions_held (shard_shown part.now) item.now) d).value value.now }
 {
     match part.chains.get(item) {
         Some(chain) => chain.read_at(timestamp).is_same(value),
@@ -149,7 +149,7 @@ pub(crate) fn has_value(part: &Part, item: &Item, timestamp: u64, value: &ItemVa
 /// How many versions of an item there are.
 pub(crate) fn version_count(part: &Part, item: &Item) -> usize
     requires { IsPart part.now }
-    ensures { result ≡ length (versions_held (seen part.now) item.now) }
+    ensures { result ≡ length (versions_held (shard_shown part.now) item.now) }
 {
     match part.chains.get(item) {
         Some(chain) => chain.count(),
@@ -161,7 +161,7 @@ pub(crate) fn version_count(part: &Part, item: &Item) -> usize
 fn has_own_version(part: &Part, item: &Item, timestamp: u64) -> bool
     requires part { IsPart part.now }
     requires low { part.now.low ≤ timestamp }
-    ensures { result ≡ ((shard_index item.now == part.now.index) && has_timestamp timestamp (versions_held (seen part.now) item.now)) }
+    ensures { result ≡ ((shard_index item.now == part.now.index) && has_timestamp timestamp (versions_held (shard_shown part.now) item.now)) }
 {
     shard_of(item) == part.index && has_version(part, item, timestamp)
 }
@@ -170,7 +170,7 @@ fn has_own_version(part: &Part, item: &Item, timestamp: u64) -> bool
 /// version there.
 pub(crate) fn refuses(part: &Part, writes: &ItemMap, timestamp: u64) -> bool
     requires { IsPart part.now }
-    ensures { result ≡ is_foreign part.now.index timestamp writes.now (Some (seen part.now)) }
+    ensures { result ≡ is_foreign part.now.index timestamp writes.now (Some (shard_shown part.now)) }
 {
     if timestamp < part.low {
         return true;
@@ -187,7 +187,7 @@ pub(crate) fn refuses(part: &Part, writes: &ItemMap, timestamp: u64) -> bool
 pub(crate) fn prune(part: &mut Part, timestamp: u64)
     requires { IsPart part.old }
     ensures kept { IsPart part.new }
-    ensures pruned { IsPrunedShard timestamp (seen part.old) (seen part.new) }
+    ensures pruned { IsPrunedShard timestamp (shard_shown part.old) (shard_shown part.new) }
 {
     if part.low <= timestamp {
         part.low = timestamp;

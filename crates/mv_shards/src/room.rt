@@ -4,7 +4,7 @@ ghost use Rattle.std.specs.Prelude.{◌≡◌, ◌<◌, IfOk, IsSome, OnOk};
 ghost use Rattle.std.specs.List.{AllByRecursion};
 ghost use Rattle.avm_items.specs.Items.{IsInItemOrder};
 ghost use Rattle.mv_shards.specs.Indexes.{shard_count, shard_of as shard_index};
-ghost use Rattle.mv_shards.specs.Chains.{HasRoom, chain_in};
+ghost use Rattle.mv_shards.specs.Chains.{HasRoomFor, chain_in};
 ghost use Rattle.mv_shards.specs.Helds.{IsHeldIn};
 ghost use Rattle.mv_shards.specs.Writing.{AreGrown, AreRoomier, chains_for};
 
@@ -36,7 +36,7 @@ fn space_item(parts: &mut Parts, item: &Item) -> Result<(), AllocError>
     requires there { IsSome (chain_in (chains_for parts.old item.now) item.now) }
     ensures grown { AreGrown parts.old parts.new }
     ensures roomier { OnOk result (AreRoomier parts.old parts.new) }
-    ensures room { OnOk result (HasRoom (chains_for parts.new item.now) item.now) }
+    ensures room { OnOk result (HasRoomFor (chains_for parts.new item.now) item.now) }
 {
     match &mut parts[usize::from(shard_of(item))] {
         Some(part) => make_space(&mut part.chains, item),
@@ -49,7 +49,7 @@ fn room_item(parts: &mut Parts, item: &Item) -> Result<(), AllocError>
     requires { IsHeldIn parts.old item.now }
     ensures grown { AreGrown parts.old parts.new }
     ensures roomier { OnOk result (AreRoomier parts.old parts.new) }
-    ensures room { OnOk result (HasRoom (chains_for parts.new item.now) item.now) }
+    ensures room { OnOk result (HasRoomFor (chains_for parts.new item.now) item.now) }
 {
     place_item(parts, item)?;
     space_item(parts, item)
@@ -74,7 +74,7 @@ fn room_writes(parts: &mut Parts, writes: &ItemMap) -> Result<(), AllocError>
     requires { AllByRecursion (λ e. IsHeldIn parts.old e.0) writes.now }
     ensures grown { AreGrown parts.old parts.new }
     ensures roomier { OnOk result (AreRoomier parts.old parts.new) }
-    ensures room { OnOk result (AllByRecursion (λ e. HasRoom (chains_for parts.new e.0) e.0) writes.now) }
+    ensures room { OnOk result (AllByRecursion (λ e. HasRoomFor (chains_for parts.new e.0) e.0) writes.now) }
     ensures order { OnOk result (IsInItemOrder writes.now) }
 {
     for (item, _value) in writes.as_slice() {
@@ -106,7 +106,7 @@ pub(crate) fn make_room(
     requires writes { AllByRecursion (λ e. IsHeldIn parts.old e.0) writes.now }
     ensures grown { AreGrown parts.old parts.new }
     ensures there { OnOk result (AllByRecursion (λ e. IsSome (chain_in (chains_for parts.new e.0) e.0)) reads.now) }
-    ensures room { OnOk result (AllByRecursion (λ e. HasRoom (chains_for parts.new e.0) e.0) writes.now) }
+    ensures room { OnOk result (AllByRecursion (λ e. HasRoomFor (chains_for parts.new e.0) e.0) writes.now) }
     ensures copies { IfOk result (λ copies. copies.items ≡ writes.now) }
     ensures order { OnOk result (IsInItemOrder reads.now × IsInItemOrder writes.now) }
 {
@@ -132,7 +132,7 @@ pub(crate) fn make_both(
     requires other_writes { AllByRecursion (λ e. IsHeldIn others.old e.0) writes.now }
     ensures grown { AreGrown parts.old parts.new × AreGrown others.old others.new }
     ensures there { OnOk result (AllByRecursion (λ e. IsSome (chain_in (chains_for parts.new e.0) e.0)) reads.now × AllByRecursion (λ e. IsSome (chain_in (chains_for others.new e.0) e.0)) reads.now) }
-    ensures room { OnOk result (AllByRecursion (λ e. HasRoom (chains_for parts.new e.0) e.0) writes.now × AllByRecursion (λ e. HasRoom (chains_for others.new e.0) e.0) writes.now) }
+    ensures room { OnOk result (AllByRecursion (λ e. HasRoomFor (chains_for parts.new e.0) e.0) writes.now × AllByRecursion (λ e. HasRoomFor (chains_for others.new e.0) e.0) writes.now) }
     ensures copies { IfOk result (λ copies. (copies.0.items ≡ writes.now) × (copies.1.items ≡ writes.now)) }
     ensures order { OnOk result (IsInItemOrder reads.now × IsInItemOrder writes.now) }
 {

@@ -24,11 +24,11 @@ pub struct Shard {
 }
 
 impl Model for Shard {
-    ghost use Rattle.mv_shards.specs.Shards.{IsPart, Shard, seen};
+    ghost use Rattle.mv_shards.specs.Shards.{IsPart, Shard, shard_shown};
 
     ghost Value = { Shard };
 
-    ghost view = { λ s. seen s.part };
+    ghost view = { λ s. shard_shown s.part };
 
     ghost invariant = { λ s. IsPart s.part };
 }

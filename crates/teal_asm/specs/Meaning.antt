@@ -50,14 +50,14 @@ label_number n ss name = lookup (bytes_eq name) (labels_from n ss)
 
 -- ---- gathered constants: a block of each kind that is used, in front
 
-abbrev pub uint_block : List ℕ → List Meant
-uint_block ns = if length ns == 0 then [] else Straight op.Intcblock (is.UintBlock ns) ∷ []
+abbrev pub uint_block_in_front : List ℕ → List Meant
+uint_block_in_front ns = if length ns == 0 then [] else Straight op.Intcblock (is.UintBlock ns) ∷ []
 
-abbrev pub byte_block : List (List ℕ) → List Meant
-byte_block ss = if length ss == 0 then [] else Straight op.Bytecblock (is.ByteBlock ss) ∷ []
+abbrev pub byte_block_in_front : List (List ℕ) → List Meant
+byte_block_in_front ss = if length ss == 0 then [] else Straight op.Bytecblock (is.ByteBlock ss) ∷ []
 
 abbrev pub gathered_blocks : List Statement → List Meant
-gathered_blocks ss = uint_block (gathered_uints ss) ++ byte_block (gathered_strings ss)
+gathered_blocks ss = uint_block_in_front (gathered_uints ss) ++ byte_block_in_front (gathered_strings ss)
 
 -- the instruction that reads constant i, in its short form where there is one
 abbrev pub read_uint_constant : ℕ → Meant

@@ -4,7 +4,7 @@ ghost use Rattle.std.specs.Prelude.{◌≡◌, ◌+◌, ◌<◌, ◌++◌, List,
 ghost use Rattle.std.specs.List.{position_or_len};
 ghost use Rattle.teal_value.specs.Answer.{Gives, Leaves};
 ghost use Rattle.teal_value.specs.declared.failure.Failure.TheVariants.{Fault};
-ghost use Rattle.teal_asm.specs.Meaning.{Straight, all_instructions, branch, byte_block, gathered_blocks, instruction, read_byte_constant, read_uint_constant, uint_block};
+ghost use Rattle.teal_asm.specs.Meaning.{Straight, all_instructions, branch, byte_block_in_front, gathered_blocks, instruction, read_byte_constant, read_uint_constant, uint_block_in_front};
 ghost use Rattle.std.specs.Map.{lookup};
 ghost use Rattle.std.specs.Option.{option_map};
 ghost use Rattle.std.specs.Str.{bytes_eq};
@@ -156,7 +156,7 @@ fn blocks_of(
     uints: &IndexSet<u64>,
     strings: &Strings,
 ) -> Result<Vec<Instruction>, AllocError>
-    ensures { IfOk result (λ v. all_meant v.items ≡ uint_block uints.now.keys ++ byte_block strings.now) }
+    ensures { IfOk result (λ v. all_meant v.items ≡ uint_block_in_front uints.now.keys ++ byte_block_in_front strings.now) }
 {
     let mut blocks = Vec::new(alloc);
     if uints.len() > 0 {

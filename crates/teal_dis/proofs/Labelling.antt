@@ -10,7 +10,7 @@ use Rattle.std.proofs.lemmas.Bool.Decides.{nat_tests}
 use Rattle.std.proofs.lemmas.Bool.{or_right}
 use Rattle.teal_check.specs.declared.program.Placed.{Placed}
 use Rattle.teal_dis.specs.Listing.{leads_to, is_target, targets_before}
-use Rattle.teal_dis.specs.Shown.{AreMarks, AreLabels, label_number}
+use Rattle.teal_dis.specs.Shown.{AreMarks, AreLabels, label_before}
 
 -- the marks of the targets of the first instructions
 pub record MarksOn (placed : List Placed) (marks : List Bool) (number : ℕ) : Type 0 where
@@ -80,7 +80,7 @@ pub record LabelsOn (placed : List Placed) (labels : List (Option ℕ)) (number 
   pub count : length labels ≡ number
   pub last : most ≡ targets_before placed number
   pub few : most ≤ number
-  pub each : (n : ℕ) → n < number → get_or labels n None ≡ label_number placed n
+  pub each : (n : ℕ) → n < number → get_or labels n None ≡ label_before placed n
 
 pub no_labels : (placed : List Placed) (labels : List (Option ℕ)) → labels ≡ [] → LabelsOn placed labels 0 0
 unfolding targets_before
@@ -91,14 +91,14 @@ unfolding targets_before
 one_more placed n = let next : n + 1 ≡ suc n = omega arith in rw next refl
 
 next_label : (placed : List Placed) (labels now : List (Option ℕ)) (number last after : ℕ) (label : Option ℕ) → LabelsOn placed labels number last → after ≡ last + cond (is_target placed number) 1 0 → after ≤ last + 1
-    → label ≡ label_number placed number → now ≡ labels ++ label ∷ [] → LabelsOn placed now (number + 1) after
+    → label ≡ label_before placed number → now ≡ labels ++ label ∷ [] → LabelsOn placed now (number + 1) after
 next_label placed labels now number last after label l counted most is pushed =
     rw pushed (record {
       count = length-append labels (label ∷ []) ∙ ap (λ n. n + 1) l.count;
       last = counted ∙ ap (λ n. n + cond (is_target placed number) 1 0) l.last ∙ sym (one_more placed number);
       few = omega (arith, l.few, most);
-      each = λ n lt. elim (eqb n number) as (λ b. b ≡ eqb n number → get_or (labels ++ label ∷ []) n None ≡ label_number placed n) [
-        | true ↦ λ h. let same : length labels ≡ n = grind (arith, nat_tests, l.count) in let at : number ≡ n = omega (arith, l.count) in rw (← same) (get_or-append_seam labels label [] None) ∙ is ∙ ap (label_number placed) at
+      each = λ n lt. elim (eqb n number) as (λ b. b ≡ eqb n number → get_or (labels ++ label ∷ []) n None ≡ label_before placed n) [
+        | true ↦ λ h. let same : length labels ≡ n = grind (arith, nat_tests, l.count) in let at : number ≡ n = omega (arith, l.count) in rw (← same) (get_or-append_seam labels label [] None) ∙ is ∙ ap (label_before placed) at
         | false ↦ λ h. let below : n < number = grind (arith, nat_tests) in get_or_append_left labels (label ∷ []) None n (omega (arith, l.count)) ∙ l.each n below
       ] refl;
     })

@@ -8,20 +8,20 @@ use Rattle.std.proofs.lemmas.Option.{slice_get_within, get_or_from_slice_get}
 use Rattle.teal_check.specs.declared.program.Placed.{Placed}
 use Rattle.teal_check.specs.WellFormed.{WellFormed}
 use Rattle.teal_text.specs.PlainWords.{text_of_lines}
-use Rattle.teal_dis.specs.Listing.{Word, leads_to, is_target, targets_before, label_of, label_line, pragma_line, target_word, words_of, instruction_line, lines_from, listing}
-use Rattle.teal_dis.specs.Shown.{AreLabels, label_number, label, label_in, lines_of_label}
+use Rattle.teal_dis.specs.Listing.{Word, leads_to, is_target, targets_before, label_of, label_line, pragma_line, target_word, words_of, instruction_line, listing_from, listing}
+use Rattle.teal_dis.specs.Shown.{AreLabels, label_before, label, label_in, lines_of_label}
 use Rattle.teal_dis.proofs.Labelling.{past}
 
 -- the text so far, and the lines of the instructions that are left, are the listing
 pub record ListedOn (program : WellFormed) (text : List ℕ) (number : ℕ) : Type 0 where
   pub within : number ≤ length program.placed
-  pub same : text ++ text_of_lines (lines_from program.placed number (drop number program.placed)) ≡ listing program
+  pub same : text ++ text_of_lines (listing_from program.placed number (drop number program.placed)) ≡ listing program
 
 pub text-append : (a b : List (List Word)) → text_of_lines (a ++ b) ≡ text_of_lines a ++ text_of_lines b
 text-append [] b = refl
 text-append (words ∷ lines) b = rw (text-append lines b) (simp append_assoc)
 
-label_line_of : (placed : List Placed) (n : ℕ) → lines_of_label (label_number placed n) ≡ label_line placed n
+label_line_of : (placed : List Placed) (n : ℕ) → lines_of_label (label_before placed n) ≡ label_line placed n
 label_line_of placed n = by_test (is_target placed n)
   where
     by_test : (b : Bool) → lines_of_label (cond b (Some (targets_before placed n + 1)) None) ≡ cond b (((label_of placed n ++ codes ":") ∷ []) ∷ []) []
@@ -33,7 +33,7 @@ label_there placed labels n found l le at =
     ap lines_of_label (at ∙ get_or_default labels n found None (omega (arith, l.count)) ∙ l.each n le) ∙ label_line_of placed n
 
 -- the label of a branch's target
-label_word : (placed : List Placed) (n : ℕ) → is_target placed n ≡ true → label (label_number placed n) ≡ label_of placed n
+label_word : (placed : List Placed) (n : ℕ) → is_target placed n ≡ true → label (label_before placed n) ≡ label_of placed n
 label_word placed n e = rw e refl
 
 same_number : (n : ℕ) → eqb n n ≡ true
@@ -58,13 +58,13 @@ one_line : (words : List Word) (rest : List (List Word)) → text_of_lines (word
 one_line words rest = text-append (words ∷ []) rest
 
 next_text : (placed : List Placed) (number : ℕ) (p : Placed) (text : List ℕ) → slice_get placed number ≡ Some p
-    → ((text ++ text_of_lines (label_line placed number)) ++ text_of_lines (instruction_line placed p ∷ [])) ++ text_of_lines (lines_from placed (number + 1) (drop (number + 1) placed))
-    ≡ text ++ text_of_lines (lines_from placed number (drop number placed))
+    → ((text ++ text_of_lines (label_line placed number)) ++ text_of_lines (instruction_line placed p ∷ [])) ++ text_of_lines (listing_from placed (number + 1) (drop (number + 1) placed))
+    ≡ text ++ text_of_lines (listing_from placed number (drop number placed))
 next_text placed number p text at =
-    let rest = lines_from placed (number + 1) (drop (number + 1) placed) in
+    let rest = listing_from placed (number + 1) (drop (number + 1) placed) in
     let line = instruction_line placed p in
     let first = label_line placed number in
-    let lines : text_of_lines (lines_from placed number (drop number placed)) ≡ text_of_lines (first ++ line ∷ rest) = ap (λ ps. text_of_lines (lines_from placed number ps)) (front placed number p at) in
+    let lines : text_of_lines (listing_from placed number (drop number placed)) ≡ text_of_lines (first ++ line ∷ rest) = ap (λ ps. text_of_lines (listing_from placed number ps)) (front placed number p at) in
     four text (text_of_lines first) (text_of_lines (line ∷ [])) (text_of_lines rest)
     ∙ ap (λ x. text ++ x) (ap (λ x. text_of_lines first ++ x) (sym (one_line line rest)) ∙ sym (text-append first (line ∷ rest)) ∙ sym lines)
   where
@@ -83,13 +83,13 @@ goes_on program labels text labelled now number p label on l at within is first 
     ∙ ap (λ w. (text ++ text_of_lines (label_line placed number)) ++ text_of_lines (words_of w p.instr ∷ [])) (target_there placed labels number p p.target l at refl within) in
     record {
       within = omega arith;
-      same = ap (λ x. x ++ text_of_lines (lines_from placed (number + 1) (drop (number + 1) placed))) now-is ∙ next_text placed number p text at ∙ on.same;
+      same = ap (λ x. x ++ text_of_lines (listing_from placed (number + 1) (drop (number + 1) placed))) now-is ∙ next_text placed number p text at ∙ on.same;
     }
 
 pub begins : (program : WellFormed) (text : List ℕ) → text ≡ text_of_lines (pragma_line program.version ∷ []) → ListedOn program text 0
 begins program text e = record {
   within = omega arith;
-  same = ap (λ x. x ++ text_of_lines (lines_from program.placed 0 program.placed)) e ∙ sym (one_line (pragma_line program.version) (lines_from program.placed 0 program.placed));
+  same = ap (λ x. x ++ text_of_lines (listing_from program.placed 0 program.placed)) e ∙ sym (one_line (pragma_line program.version) (listing_from program.placed 0 program.placed));
 }
 
 pub is_done : (program : WellFormed) (labels : List (Option ℕ)) (text now : List ℕ) (number : ℕ) (label : Option ℕ) → ListedOn program text number → AreLabels program.placed labels → slice_get program.placed number ≡ None
@@ -97,4 +97,4 @@ pub is_done : (program : WellFormed) (labels : List (Option ℕ)) (text now : Li
 is_done program labels text now number label on l at is pushed =
     let placed = program.placed in
     let none : drop number placed ≡ [] = drop_all number placed (past placed number at) in
-    pushed ∙ ap (λ ls. text ++ text_of_lines ls) (label_there placed labels number label l on.within is) ∙ ap (λ ps. text ++ text_of_lines (lines_from placed number ps)) (sym none) ∙ on.same
+    pushed ∙ ap (λ ls. text ++ text_of_lines ls) (label_there placed labels number label l on.within is) ∙ ap (λ ps. text ++ text_of_lines (listing_from placed number ps)) (sym none) ∙ on.same

@@ -101,9 +101,9 @@ abbrev pub instruction_line : List Placed → Placed → List Word
 instruction_line placed p = words_of (target_word placed p.target) p.instr
 
 -- the lines of the instructions from the one with a number on
-abbrev pub lines_from : List Placed → ℕ → List Placed → List (List Word)
-lines_from placed n [] = label_line placed n
-lines_from placed n (p ∷ ps) = label_line placed n ++ instruction_line placed p ∷ lines_from placed (n + 1) ps
+abbrev pub listing_from : List Placed → ℕ → List Placed → List (List Word)
+listing_from placed n [] = label_line placed n
+listing_from placed n (p ∷ ps) = label_line placed n ++ instruction_line placed p ∷ listing_from placed (n + 1) ps
 
 abbrev pub version_digit : Version → Word
 version_digit Two = codes "2"
@@ -113,7 +113,7 @@ abbrev pub pragma_line : Version → List Word
 pragma_line version = codes "#pragma" ∷ codes "version" ∷ version_digit version ∷ []
 
 abbrev pub listing_lines : WellFormed → List (List Word)
-listing_lines p = pragma_line p.version ∷ lines_from p.placed 0 p.placed
+listing_lines p = pragma_line p.version ∷ listing_from p.placed 0 p.placed
 
 abbrev pub listing : WellFormed → List ℕ
 listing p = text_of_lines (listing_lines p)

@@ -12,13 +12,13 @@ pub record AreMarks (placed : List Placed) (marks : List Bool) : Type 0 where
   pub each : (n : ℕ) → n ≤ length placed → slice_index_or marks n false ≡ is_target placed n
 
 -- the number of the label before the instruction with a number, where it has one
-abbrev pub label_number : List Placed → ℕ → Option ℕ
-label_number placed n = if is_target placed n then Some (targets_before placed n + 1) else None
+abbrev pub label_before : List Placed → ℕ → Option ℕ
+label_before placed n = if is_target placed n then Some (targets_before placed n + 1) else None
 
 -- the number of each instruction's label, and of the end's
 pub record AreLabels (placed : List Placed) (labels : List (Option ℕ)) : Type 0 where
   pub count : length labels ≡ length placed + 1
-  pub each : (n : ℕ) → n ≤ length placed → slice_index_or labels n None ≡ label_number placed n
+  pub each : (n : ℕ) → n ≤ length placed → slice_index_or labels n None ≡ label_before placed n
 
 -- the label of a number, and its line
 abbrev pub label : Option ℕ → Word

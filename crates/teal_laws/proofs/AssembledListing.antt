@@ -20,11 +20,11 @@ use Rattle.teal_code.specs.Limits.{most_program_bytes, most_cost}
 use Rattle.teal_check.specs.declared.program.Placed.{Placed}
 use Rattle.teal_check.specs.WellFormed.{WellFormed, on_code, placed_at, placed_from, places, target_of, with_targets, version_at, version_of, cost_of, checked}
 use Rattle.teal_check.proofs.CheckedPrograms.{coded_ok, is_checked, is_placed, placed_forward}
-use Rattle.teal_dis.specs.Listing.{Word, operands, words_of, leads_to, is_target, targets_before, label_of, label_line, target_word, instruction_line, lines_from, pragma_line, listing}
+use Rattle.teal_dis.specs.Listing.{Word, operands, words_of, leads_to, is_target, targets_before, label_of, label_line, target_word, instruction_line, listing_from, pragma_line, listing}
 use Rattle.teal_text.specs.PlainWords.{text_of_lines}
 use Rattle.teal_asm.specs.Meaning.{Meant, Straight, Branch, Meaning, meaning}
 use Rattle.teal_asm.specs.Program.{size, total_size, program, short_program, line_count, assembled}
-use Rattle.teal_laws.specs.Listed.{HasShape, offset, IsOf, AreOf, IsAimed, AreAimed}
+use Rattle.teal_laws.specs.Listed.{HasShape, offset, IsOfVersion, AreOf, IsAimed, AreAimed}
 use Rattle.teal_laws.specs.ListedMeaning.{IsNoOffset, meant_with, meant_of, program_meaning, IsMeant, AreMeant}
 use Rattle.teal_laws.specs.AssembledListing.{AssemblesBack}
 use Rattle.teal_laws.specs.TextCost.{meant_cost}
@@ -39,7 +39,7 @@ use Rattle.teal_laws.proofs.ListingMeaning.{listing_means}
 any_offset : (version : Version) {s : Shape} {n : ℕ} (k : ℕ) → HasShape version s (is.Offset n) → HasShape version s (is.Offset k)
 any_offset version k offset = offset
 
-instr_meant : (version : Version) (count number : ℕ) (o : Opcode) (m : Immediates) (t : Option ℕ) → IsOf version (record { opcode = o; immediates = m }) → IsAimed count number m t → IsMeant version count number (meant_with t o m)
+instr_meant : (version : Version) (count number : ℕ) (o : Opcode) (m : Immediates) (t : Option ℕ) → IsOfVersion version (record { opcode = o; immediates = m }) → IsAimed count number m t → IsMeant version count number (meant_with t o m)
 instr_meant version count number o (is.Offset n) None of aim = absurd aim
 instr_meant version count number o (is.Offset n) (Some t) of aim = (λ k. record { opcode = of.opcode; immediates = any_offset version k of.immediates }, aim.0, aim.1)
 instr_meant version count number o is.Nothing t of aim = rw aim (of, tt)
@@ -224,7 +224,7 @@ same_line ps qs count number p q e a b same =
     ∙ ap (line_of_meant (target_word qs q.target)) same
     ∙ sym (line_is (target_word qs q.target) count number q.instr.opcode q.instr.immediates q.target b)
 
-same_lines : (all ball : List Placed) (count n : ℕ) (ps qs : List Placed) → map meant_of all ≡ map meant_of ball → AreAimed count n ps → AreAimed count n qs → map meant_of ps ≡ map meant_of qs → lines_from all n ps ≡ lines_from ball n qs
+same_lines : (all ball : List Placed) (count n : ℕ) (ps qs : List Placed) → map meant_of all ≡ map meant_of ball → AreAimed count n ps → AreAimed count n qs → map meant_of ps ≡ map meant_of qs → listing_from all n ps ≡ listing_from ball n qs
 same_lines all ball count n [] [] e a b same = same_label_line all ball n e
 same_lines all ball count n [] (q ∷ qs) e a b same = absurd cc
 same_lines all ball count n (p ∷ ps) [] e a b same = absurd cc
@@ -233,8 +233,8 @@ same_lines all ball count n (p ∷ ps) (q ∷ qs) e a b same =
     let labels = same_label_line all ball n e in
     let line = same_line all ball count n p q e a.0 b.0 both.0 in
     let more = same_lines all ball count (n + 1) ps qs e a.1 b.1 both.1 in
-    ap (λ ls. ls ++ instruction_line all p ∷ lines_from all (n + 1) ps) labels
-    ∙ ap (λ l. label_line ball n ++ l ∷ lines_from all (n + 1) ps) line
+    ap (λ ls. ls ++ instruction_line all p ∷ listing_from all (n + 1) ps) labels
+    ∙ ap (λ l. label_line ball n ++ l ∷ listing_from all (n + 1) ps) line
     ∙ ap (λ ls. label_line ball n ++ instruction_line ball q ∷ ls) more
 
 no_offset_aim : (count number : ℕ) (m : Immediates) → IsNoOffset m → IsAimed count number m None

@@ -15,7 +15,7 @@ use Rattle.teal_dis.specs.Listing.{constant, operands}
 use Rattle.teal_source.specs.Operands.{byte_number, any_number, literals_in, literal_value}
 use Rattle.teal_source.specs.Commands.{each, command, with_operands}
 use Rattle.teal_source.proofs.Literals.{single}
-use Rattle.teal_laws.specs.Listed.{AreUints, AreStrings, HasShape, nothing, index, txn, stack, global, group, array, stack_array, group_array, bounds, offset, uints, strings, uint, string, IsOf, command_of}
+use Rattle.teal_laws.specs.Listed.{AreUints, AreStrings, HasShape, nothing, index, txn, stack, global, group, array, stack_array, group_array, bounds, offset, uints, strings, uint, string, IsOfVersion, command_of}
 use Rattle.teal_laws.proofs.Names.{Alone, alone, command_named}
 use Rattle.teal_laws.proofs.FieldNames.{scalar_back, array_back, global_back}
 
@@ -60,7 +60,7 @@ operands_back version o target (strings {ss} h) own = rw (strings_back ss h) ref
 operands_back version o target (uint {n} h) own = rw (any_back n h) refl
 operands_back version o target (string {s} h) own = rw (literal_back s h) refl
 
-pub words_back : (version : Version) (target : List ℕ) (i : Instr) → IsOf version i
+pub words_back : (version : Version) (target : List ℕ) (i : Instr) → IsOfVersion version i
     → command version (name_of i.opcode) (operands (row_of i.opcode).immediates target i.immediates) ≡ Ok (command_of i.opcode target i.immediates)
 words_back version target i is-of =
     command_named version i.opcode (operands (row_of i.opcode).immediates target i.immediates)

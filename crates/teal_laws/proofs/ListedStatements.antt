@@ -14,10 +14,10 @@ use Rattle.teal_code.specs.declared.instr.Immediates.{Immediates}
 use Rattle.teal_code.specs.declared.instr.Immediates.TheVariants as is
 use Rattle.teal_code.specs.Limits.{most_program_bytes}
 use Rattle.teal_check.specs.declared.program.Placed.{Placed}
-use Rattle.teal_dis.specs.Listing.{Word, operands, is_target, label_of, target_word, instruction_line, lines_from}
+use Rattle.teal_dis.specs.Listing.{Word, operands, is_target, label_of, target_word, instruction_line, listing_from}
 use Rattle.teal_source.specs.declared.statement.Statement.{Statement}
 use Rattle.teal_source.specs.Statements.{Words, words_on, gathered_uint, gathered_string, gathered_uints, gathered_strings, has_label, behind, label_name, statement, statements}
-use Rattle.teal_laws.specs.Listed.{IsOf, AreOf, command_of}
+use Rattle.teal_laws.specs.Listed.{IsOfVersion, AreOf, command_of}
 use Rattle.teal_laws.proofs.InstructionWords.{words_back}
 use Rattle.teal_laws.proofs.Names.{name_is_plain}
 use Rattle.teal_laws.proofs.Labels.{labels_differ}
@@ -153,7 +153,7 @@ label_statement version placed line n before le quiet earlier =
     let whole = quiet_behind before s (quiet-append before (s ∷ []) quiet (refl, refl, tt)) in
     rw (label_name_of (label_of placed n) (omega arith), label_is_new placed n before le earlier) whole
 
-line_statement : (version : Version) (placed : List Placed) (line : ℕ) (p : Placed) (before : List Statement) → IsOf version p.instr → AreQuiet before
+line_statement : (version : Version) (placed : List Placed) (line : ℕ) (p : Placed) (before : List Statement) → IsOfVersion version p.instr → AreQuiet before
     → statement version before (record { line = line; first = name_of p.instr.opcode; more = operands (row_of p.instr.opcode).immediates (target_word placed p.target) p.instr.immediates }) ≡ Ok (instruction_statement placed line p)
 unfolding statement
 line_statement version placed line p before of quiet =
@@ -182,7 +182,7 @@ label_step false version placed line n before rest le quiet earlier =
     rw (append-nil before, same) refl
 
 pub statements_are : (version : Version) (placed : List Placed) (line n : ℕ) (ps : List Placed) (before : List Statement) → n + length ps ≤ most_program_bytes → AreOf version ps → AreQuiet before → AreEarlier placed n before
-    → statements version before (numbered line (lines_from placed n ps)) ≡ Ok (before ++ listed placed line n ps)
+    → statements version before (numbered line (listing_from placed n ps)) ≡ Ok (before ++ listed placed line n ps)
 statements_are version placed line n [] before le of quiet earlier =
     ap (λ ls. statements version before (numbered line ls)) (sym (append-nil (lines_if (is_target placed n) placed n)))
     ∙ label_step (is_target placed n) version placed line n before [] (omega (arith, le)) quiet earlier
@@ -197,7 +197,7 @@ statements_are version placed line n (p ∷ ps) before le of quiet earlier =
     let quiet_now = quiet-append labelled_before (s ∷ []) quiet_labels (c.0, c.1, tt) in
     let earlier_labels = earlier-append placed (n + 1) before (statements_if b placed line n) (all_still_earlier placed n before earlier) (if_is_earlier b placed line n refl) in
     let earlier_now = earlier-append placed (n + 1) labelled_before (s ∷ []) earlier_labels (tt, tt) in
-    let first = label_step b version placed line n before (instruction_line placed p ∷ lines_from placed (n + 1) ps) (omega (arith, le)) quiet earlier in
-    let second = one_more version labelled_before (record { line = at; first = name_of p.instr.opcode; more = operands (row_of p.instr.opcode).immediates (target_word placed p.target) p.instr.immediates }) (numbered (at + 1) (lines_from placed (n + 1) ps)) s (line_statement version placed at p labelled_before of.0 quiet_labels) in
+    let first = label_step b version placed line n before (instruction_line placed p ∷ listing_from placed (n + 1) ps) (omega (arith, le)) quiet earlier in
+    let second = one_more version labelled_before (record { line = at; first = name_of p.instr.opcode; more = operands (row_of p.instr.opcode).immediates (target_word placed p.target) p.instr.immediates }) (numbered (at + 1) (listing_from placed (n + 1) ps)) s (line_statement version placed at p labelled_before of.0 quiet_labels) in
     let rest = statements_are version placed (at + 1) (n + 1) ps (labelled_before ++ s ∷ []) (omega (arith, le)) of.1 quiet_now earlier_now in
     first ∙ second ∙ rest ∙ ap (λ (x : List Statement). Ok x) (simp append_assoc)

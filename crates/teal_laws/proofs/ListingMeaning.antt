@@ -7,7 +7,7 @@ use Rattle.teal_text.specs.Numbers.{base_of, digits_of, numeral_value}
 use Rattle.teal_text.specs.Lines.{LineTokens, lines_of}
 use Rattle.teal_text.specs.PlainWords.{line_of_words, tokens_of_words, lines_of_words, words_at}
 use Rattle.teal_text.proofs.PlainWords.{lines_read, words_read}
-use Rattle.teal_dis.specs.Listing.{Word, version_digit, lines_from, listing_lines, listing}
+use Rattle.teal_dis.specs.Listing.{Word, version_digit, listing_from, listing_lines, listing}
 use Rattle.teal_source.specs.declared.fault.AsmFault.{AsmFault}
 use Rattle.teal_source.specs.Statements.{Words, words_of_lines, pragma_version}
 use Rattle.teal_asm.specs.Meaning.{Meaning, meaning, meaning_with, meaning_of_lines}
@@ -37,7 +37,7 @@ pub listing_means : (w : WellFormed) → IsListed w → meaning (listing w) ≡ 
 listing_means w l =
     let lines = listing_lines w in
     let text = listing w in
-    let more = numbered 2 (lines_from w.placed 0 w.placed) in
+    let more = numbered 2 (listing_from w.placed 0 w.placed) in
     let plain = listing_is_plain w l in
     let words = words_are text 1 0 lines (words_read lines) in
     let ss = statements_are w.version w.placed 2 0 w.placed [] (omega (arith, l.few)) l.instructions tt tt in

@@ -21,7 +21,7 @@ use Rattle.teal_check.specs.declared.program.Placed.{Placed}
 use Rattle.teal_check.specs.WellFormed.{WellFormed, has_field, placed_at, placed_from, places, index_of, number_at, RisesFrom, resolved_target, immediates_target, target_of, with_targets, checked}
 use Rattle.teal_check.proofs.CheckedPrograms.{is_checked, is_kept, is_placed, length-places, placed_forward}
 use Rattle.teal_check.proofs.Starts.{rises}
-use Rattle.teal_laws.specs.Listed.{HasShape, nothing, index, txn, stack, global, group, array, stack_array, group_array, bounds, offset, uints, strings, uint, string, IsOf, AreOf, IsAimed, AreAimed, IsListed}
+use Rattle.teal_laws.specs.Listed.{HasShape, nothing, index, txn, stack, global, group, array, stack_array, group_array, bounds, offset, uints, strings, uint, string, IsOfVersion, AreOf, IsAimed, AreAimed, IsListed}
 use Rattle.teal_laws.proofs.Bytes.{AreBytes, are_each, bytes_behind, byte_read, varuint_read, string_read, counted_uints, counted_strings}
 
 -- ---- one instruction
@@ -96,24 +96,24 @@ brought version (Some q) o e =
     ]
 
 behind_code : (version : Version) (found : Option Opcode) (bytes : List ℕ) (i : Instr) (rest : List ℕ) → ((o : Opcode) → found ≡ Some o → has version (row_of o).version ≡ true) → with_opcode found bytes ≡ Ok (i, rest) → AreBytes bytes
-    → has_field version (row_of i.opcode).immediates i.immediates ≡ true → IsOf version i
+    → has_field version (row_of i.opcode).immediates i.immediates ≡ true → IsOfVersion version i
 behind_code version None bytes i rest there e h known = absurd cc
 behind_code version (Some o) bytes i rest there e h known =
     let (m, first, last) = bind_ok (immediates_at (row_of o).immediates bytes) _ _ e in
     let one : record { opcode = o; immediates = m.0 } ≡ i = (same_value last).0 in
     let field = subst (λ (x : Instr). has_field version (row_of x.opcode).immediates x.immediates ≡ true) (sym one) known in
-    subst (IsOf version) one (record { opcode = there o refl; immediates = immediates_read version (row_of o).immediates bytes m.0 m.1 first h field })
+    subst (IsOfVersion version) one (record { opcode = there o refl; immediates = immediates_read version (row_of o).immediates bytes m.0 m.1 first h field })
 
-instr_read : (version : Version) (bytes : List ℕ) (i : Instr) (rest : List ℕ) → instr_at version bytes ≡ Ok (i, rest) → AreBytes bytes → has_field version (row_of i.opcode).immediates i.immediates ≡ true → IsOf version i
+instr_read : (version : Version) (bytes : List ℕ) (i : Instr) (rest : List ℕ) → instr_at version bytes ≡ Ok (i, rest) → AreBytes bytes → has_field version (row_of i.opcode).immediates i.immediates ≡ true → IsOfVersion version i
 instr_read version [] i rest e h known = absurd cc
 instr_read version (code ∷ bytes) i rest e h known = behind_code version (opcode_in version code) bytes i rest (λ o found. brought version (opcode_at code) o found) e h.1 known
 
-pub placed_is_of : (version : Version) (bytes : List ℕ) (place : ℕ) (p : Placed) → AreBytes bytes → placed_at version bytes place ≡ Ok p → IsOf version p.instr
+pub placed_is_of : (version : Version) (bytes : List ℕ) (place : ℕ) (p : Placed) → AreBytes bytes → placed_at version bytes place ≡ Ok p → IsOfVersion version p.instr
 placed_is_of version bytes place p h e =
     let is = is_placed version bytes place p e in
     let (i, instr, next) = bind_ok (instr_at version (drop place bytes)) _ _ is.read in
     let same : i.0 ≡ p.instr = ap (λ (y : Instr × ℕ). y.0) (let z : ◌≡◌ {A = Instr × ℕ} (i.0, length bytes - length i.1) (p.instr, p.next) = cc in z) in
-    subst (IsOf version) same (instr_read version (drop place bytes) i.0 i.1 instr (bytes_behind place bytes h) (subst (λ (y : Instr). has_field version (row_of y.opcode).immediates y.immediates ≡ true) (sym same) is.field))
+    subst (IsOfVersion version) same (instr_read version (drop place bytes) i.0 i.1 instr (bytes_behind place bytes h) (subst (λ (y : Instr). has_field version (row_of y.opcode).immediates y.immediates ≡ true) (sym same) is.field))
 
 -- ---- instructions one behind another
 

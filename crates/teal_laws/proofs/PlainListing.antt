@@ -17,8 +17,8 @@ use Rattle.teal_code.specs.Limits.{most_program_bytes}
 use Rattle.teal_check.specs.declared.program.Placed.{Placed}
 use Rattle.teal_check.specs.WellFormed.{WellFormed}
 use Rattle.teal_text.specs.PlainWords.{is_plain_byte, is_plain_word, is_plain_line, has_comment}
-use Rattle.teal_dis.specs.Listing.{constant, operands, words_of, targets_before, is_target, label_of, label_line, target_word, instruction_line, lines_from, pragma_line, listing_lines}
-use Rattle.teal_laws.specs.Listed.{AreUints, HasShape, nothing, index, txn, stack, global, group, array, stack_array, group_array, bounds, offset, uints, strings, uint, string, IsOf, AreOf, IsAimed, AreAimed, IsListed}
+use Rattle.teal_dis.specs.Listing.{constant, operands, words_of, targets_before, is_target, label_of, label_line, target_word, instruction_line, listing_from, pragma_line, listing_lines}
+use Rattle.teal_laws.specs.Listed.{AreUints, HasShape, nothing, index, txn, stack, global, group, array, stack_array, group_array, bounds, offset, uints, strings, uint, string, IsOfVersion, AreOf, IsAimed, AreAimed, IsListed}
 use Rattle.teal_laws.proofs.Names.{name_is_plain}
 use Rattle.teal_laws.proofs.FieldNames.{scalar_is_plain, array_is_plain, global_word_is_plain}
 
@@ -121,7 +121,7 @@ operands_are_plain version target (strings {ss} h) t = strings_are_plain ss
 operands_are_plain version target (uint {n} h) t = rw (decimal_is_plain n h) refl
 operands_are_plain version target (string {s} h) t = rw (constant_is_plain s) refl
 
-line_is_plain : (version : Version) (target : List ℕ) (i : Instr) → IsOf version i → IsTargetWord i.immediates target → is_plain_line (words_of target i) ≡ true
+line_is_plain : (version : Version) (target : List ℕ) (i : Instr) → IsOfVersion version i → IsTargetWord i.immediates target → is_plain_line (words_of target i) ≡ true
 line_is_plain version target i is-of t = rw ((name_is_plain i.opcode).0) (operands_are_plain version target is-of.immediates t)
 
 -- ---- labels
@@ -167,12 +167,12 @@ target_is_plain placed count number (is.ByteBlock ss) t few a = tt
 target_is_plain placed count number (is.Uint n) t few a = tt
 target_is_plain placed count number (is.Bytes s) t few a = tt
 
-lines_are_plain : (version : Version) (placed : List Placed) (count n : ℕ) (ps : List Placed) → count ≤ most_program_bytes → n + length ps ≤ most_program_bytes → AreOf version ps → AreAimed count n ps → list_all is_plain_line (lines_from placed n ps) ≡ true
+lines_are_plain : (version : Version) (placed : List Placed) (count n : ℕ) (ps : List Placed) → count ≤ most_program_bytes → n + length ps ≤ most_program_bytes → AreOf version ps → AreAimed count n ps → list_all is_plain_line (listing_from placed n ps) ≡ true
 lines_are_plain version placed count n [] few within of aim = label_line_is_plain placed n (omega (arith, within))
 lines_are_plain version placed count n (p ∷ ps) few within of aim =
     let line = line_is_plain version (target_word placed p.target) p.instr of.0 (target_is_plain placed count n p.instr.immediates p.target few aim.0) in
-    let later : list_all is_plain_line (lines_from placed (n + 1) ps) ≡ true = lines_are_plain version placed count (n + 1) ps few (omega (arith, within)) of.1 aim.1 in
-    rw (list_all-append is_plain_line (label_line placed n) (instruction_line placed p ∷ lines_from placed (n + 1) ps), label_line_is_plain placed n (omega (arith, within)), line) later
+    let later : list_all is_plain_line (listing_from placed (n + 1) ps) ≡ true = lines_are_plain version placed count (n + 1) ps few (omega (arith, within)) of.1 aim.1 in
+    rw (list_all-append is_plain_line (label_line placed n) (instruction_line placed p ∷ listing_from placed (n + 1) ps), label_line_is_plain placed n (omega (arith, within)), line) later
 
 pragma_is_plain : (version : Version) → is_plain_line (pragma_line version) ≡ true
 pragma_is_plain Two = refl

@@ -23,7 +23,7 @@ use Rattle.teal_check.specs.declared.program.Placed.{Placed}
 use Rattle.teal_check.specs.WellFormed.{WellFormed, on_code, version_of, version_at, placed_at, placed_from, places, number_at, RisesFrom, resolved_target, immediates_target, target_of, with_targets, cost_of, checked}
 use Rattle.teal_check.proofs.CheckedPrograms.{coded_ok, is_checked, is_placed, placed_forward, weaken}
 use Rattle.teal_check.proofs.Starts.{index_of-there}
-use Rattle.teal_laws.specs.ProgramRules.{version_number, Begins, StandsAt, StandFrom, Leads, AllLead, IsProgram}
+use Rattle.teal_laws.specs.ProgramRules.{version_number, BeginsWithVersion, StandsAt, StandFrom, Leads, AllLead, IsProgram}
 use Rattle.teal_laws.proofs.Names.{not_left_out}
 use Rattle.teal_laws.proofs.PlacedInstructions.{index_is, some_number}
 use Rattle.teal_laws.proofs.SpelledPrograms.{first_of}
@@ -46,7 +46,7 @@ version_back : (v : Version) → version_of (version_number v) ≡ Ok v
 version_back Two = refl
 version_back Three = refl
 
-begins : (bytes : List ℕ) (v : Version × ℕ) → version_at bytes ≡ Ok v → Begins bytes v.0 v.1
+begins : (bytes : List ℕ) (v : Version × ℕ) → version_at bytes ≡ Ok v → BeginsWithVersion bytes v.0 v.1
 begins bytes v e =
     let (n, first, others) = bind_ok (on_code 0 (varuint_at bytes)) _ _ e in
     let (version, numbered, last) = bind_ok (version_of n.0) _ _ others in
@@ -60,7 +60,7 @@ begins bytes v e =
       starts = omega (arith, ap (λ (p : Version × ℕ). p.1) same, ap length t.parts, length-append t.front n.1);
     }
 
-version_there : (bytes : List ℕ) (v : Version) (start : ℕ) → Begins bytes v start → version_at bytes ≡ Ok (v, start)
+version_there : (bytes : List ℕ) (v : Version) (start : ℕ) → BeginsWithVersion bytes v start → version_at bytes ≡ Ok (v, start)
 version_there bytes v start b =
     let read : varuint_at bytes ≡ Ok (version_number v, b.rest) = ap varuint_at b.parts ∙ varuint_complete b.front (version_number v) b.rest b.spelled in
     let reach : length bytes - length b.rest ≡ start = omega (arith, ap length b.parts, length-append b.front b.rest, b.starts) in
@@ -70,7 +70,7 @@ some_digits : (front : List ℕ) (n : ℕ) → IsBase128 front n → 0 < length 
 some_digits [] n h = absurd h
 some_digits (b ∷ front) n h = omega arith
 
-starts_within : (bytes : List ℕ) (v : Version) (start : ℕ) → Begins bytes v start → (0 < length bytes) × (start ≤ length bytes)
+starts_within : (bytes : List ℕ) (v : Version) (start : ℕ) → BeginsWithVersion bytes v start → (0 < length bytes) × (start ≤ length bytes)
 starts_within bytes v start b =
     let some = some_digits b.front (version_number v) b.spelled.digits in
     (omega (arith, some, ap length b.parts, length-append b.front b.rest), omega (arith, ap length b.parts, length-append b.front b.rest, b.starts))

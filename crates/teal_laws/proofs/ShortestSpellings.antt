@@ -17,7 +17,7 @@ use Rattle.teal_code.specs.Spelling.{prefixed, immediates_spelling, instr_spelli
 use Rattle.teal_code.specs.Reader.{read_at}
 use Rattle.teal_code.proofs.Reading.{is_read}
 use Rattle.teal_code.proofs.GoingOn.{read_anywhere}
-use Rattle.teal_laws.specs.Listed.{AreUints, IsOf}
+use Rattle.teal_laws.specs.Listed.{AreUints, IsOfVersion}
 use Rattle.teal_laws.specs.ShortestSpelling.{IsShortOffset, IsShortest}
 use Rattle.teal_laws.proofs.Bytes.{AreBytes, are_each, bytes_behind}
 use Rattle.teal_laws.proofs.PlacedInstructions.{brought}
@@ -106,5 +106,5 @@ shortest_of_read version bytes place i next are e =
     let front = front_bytes text rest (subst AreBytes parts (bytes_behind place bytes (are_each bytes are))) in
     shortest_is version i (least_spelling version text i front.0 spells).0
 
-pub shortest_of_version : (version : Version) (i : Instr) → IsOf version i → IsShortOffset i.immediates → length (instr_spelling i) < 2 ^ 64 → IsShortest version i (instr_spelling i)
+pub shortest_of_version : (version : Version) (i : Instr) → IsOfVersion version i → IsShortOffset i.immediates → length (instr_spelling i) < 2 ^ 64 → IsShortest version i (instr_spelling i)
 shortest_of_version version i of small lt = shortest_is version i (is_spelled version i of small lt)

@@ -20,7 +20,7 @@ use Rattle.teal_check.proofs.CheckedPrograms.{length-places, placed_rises, weake
 use Rattle.teal_check.proofs.Starts.{index_of-there}
 use Rattle.teal_asm.specs.Meaning.{Meant, Straight, Branch, Meaning}
 use Rattle.teal_asm.specs.Program.{size, total_size, instruction_spelling, spelling, version_byte, program}
-use Rattle.teal_laws.specs.Listed.{IsOf}
+use Rattle.teal_laws.specs.Listed.{IsOfVersion}
 use Rattle.teal_laws.specs.ListedMeaning.{meant_of, AreMeant, IsMeant, IsNoOffset}
 use Rattle.teal_laws.proofs.Names.{not_left_out}
 use Rattle.teal_laws.specs.ShortestSpelling.{IsShortOffset}
@@ -77,7 +77,7 @@ size_front (suc k) (m ∷ ms) = omega (arith, size_front k ms)
 -- ---- reading them
 
 -- an instruction of the version, whose offset has two bytes
-instr_is_of : (version : Version) (count number : ℕ) (m : Meant) (rest : List Meant) → total_size rest ≤ most_program_bytes → IsMeant version count number m → IsOf version (instr_of number m rest) × IsShortOffset (instr_of number m rest).immediates
+instr_is_of : (version : Version) (count number : ℕ) (m : Meant) (rest : List Meant) → total_size rest ≤ most_program_bytes → IsMeant version count number m → IsOfVersion version (instr_of number m rest) × IsShortOffset (instr_of number m rest).immediates
 instr_is_of version count number (Straight o (is.Offset n)) rest few h = absurd h.1
 instr_is_of version count number (Straight o is.Nothing) rest few h = (h.0, tt)
 instr_is_of version count number (Straight o (is.Index i)) rest few h = (h.0, tt)

@@ -13,7 +13,7 @@ use Rattle.teal_code.specs.Varuint.{IsBase128, IsVaruint, varuint, varuint_in}
 use Rattle.teal_code.specs.Grammar.{IsString, Each, AreImmediates, Spells}
 use Rattle.teal_code.specs.Spelling.{prefixed, immediates_spelling, instr_spelling}
 use Rattle.teal_check.specs.WellFormed.{has_field}
-use Rattle.teal_laws.specs.Listed.{AreUints, HasShape, nothing, index, txn, stack, global, group, array, stack_array, group_array, bounds, offset, uints, strings, uint, string, IsOf}
+use Rattle.teal_laws.specs.Listed.{AreUints, HasShape, nothing, index, txn, stack, global, group, array, stack_array, group_array, bounds, offset, uints, strings, uint, string, IsOfVersion}
 use Rattle.teal_laws.specs.ShortestSpelling.{IsShortOffset}
 use Rattle.teal_laws.proofs.Bytes.{AreBytes}
 
@@ -116,7 +116,7 @@ immediates_spelled version (strings {ss} h) o lt =
 immediates_spelled version (uint {n} h) o lt = varuint_spelled n h
 immediates_spelled version (string {s} h) o lt = string_spelled s (omega (arith, lt, long_string s))
 
-pub is_spelled : (version : Version) (i : Instr) → IsOf version i → IsShortOffset i.immediates → length (instr_spelling i) < 2 ^ 64 → Spells version (instr_spelling i) i
+pub is_spelled : (version : Version) (i : Instr) → IsOfVersion version i → IsShortOffset i.immediates → length (instr_spelling i) < 2 ^ 64 → Spells version (instr_spelling i) i
 is_spelled version i of o lt =
     let there : opcode_in version (code_of i.opcode) ≡ Some i.opcode = rw (opcode_at-code_of i.opcode, of.opcode) refl in
     (there, immediates_spelled version of.immediates o (omega (arith, lt)))
@@ -182,6 +182,6 @@ immediates_shortest version bytes (strings {ss} h) are (front, rest, parts, coun
 immediates_shortest version bytes (uint {n} h) are e = varuint_shortest bytes n are e
 immediates_shortest version bytes (string {s} h) are e = string_shortest s bytes are e
 
-pub spelled_shortest : (version : Version) (text : List ℕ) (i : Instr) → IsOf version i → AreBytes text → Spells version text i → length (instr_spelling i) ≤ length text
+pub spelled_shortest : (version : Version) (text : List ℕ) (i : Instr) → IsOfVersion version i → AreBytes text → Spells version text i → length (instr_spelling i) ≤ length text
 spelled_shortest version [] i of are h = absurd h
 spelled_shortest version (code ∷ bytes) i of are h = omega (arith, immediates_shortest version bytes of.immediates are.1 h.1)

@@ -29,7 +29,7 @@ use Rattle.teal_source.specs.Operands.{Word}
 use Rattle.teal_source.specs.Commands.{command}
 use Rattle.teal_source.specs.Statements.{Words, on_line, on_text, words_of_lines, pragma_version, is_pragma, gathered_uint, gathered_uints, gathered_strings, with_new, distinct, mixes_blocks, gathers_too_many, behind, has_label, label_name, optional_command, labelled, statement, statements}
 use Rattle.teal_asm.specs.Thinned.{command_count}
-use Rattle.teal_asm.specs.Meaning.{Meant, Straight, Branch, Meaning, commands_in, label_entry, labels_from, label_number, uint_block, byte_block, gathered_blocks, read_uint_constant, read_byte_constant, branch, instruction, optional_instruction, instructions, all_instructions, meaning_of_lines, meaning}
+use Rattle.teal_asm.specs.Meaning.{Meant, Straight, Branch, Meaning, commands_in, label_entry, labels_from, label_number, uint_block_in_front, byte_block_in_front, gathered_blocks, read_uint_constant, read_byte_constant, branch, instruction, optional_instruction, instructions, all_instructions, meaning_of_lines, meaning}
 use Rattle.teal_asm.specs.Program.{total_size, instruction_spelling, spelling, program, short_program, line_count, assembled}
 use Rattle.teal_laws.specs.Listed.{AreUints, HasShape}
 use Rattle.teal_laws.specs.Listed as listed
@@ -165,14 +165,14 @@ read_byte version count number i =
     choice version count number (eqb i 0) _ _ (there, form.nothing, tt) (choice version count number (eqb i 1) _ _ (there, form.nothing, tt)
     (choice version count number (eqb i 2) _ _ (there, form.nothing, tt) (choice version count number (eqb i 3) _ _ (there, form.nothing, tt) (there, form.index, tt))))
 
-uint_block_loose : (version : Version) (count number : ℕ) (ns : List ℕ) → AreUints ns → AreLoose version count number (uint_block ns)
+uint_block_loose : (version : Version) (count number : ℕ) (ns : List ℕ) → AreUints ns → AreLoose version count number (uint_block_in_front ns)
 unfolding row_of
 uint_block_loose version count number ns h = elim (eqb (length ns) 0) as (λ b. AreLoose version count number (cond b [] (Straight op.Intcblock (is.UintBlock ns) ∷ []))) [
   | true ↦ tt
   | false ↦ ((two_has version, form.uints h, tt), tt)
 ]
 
-byte_block_loose : (version : Version) (count number : ℕ) (ss : List (List ℕ)) → AreLoose version count number (byte_block ss)
+byte_block_loose : (version : Version) (count number : ℕ) (ss : List (List ℕ)) → AreLoose version count number (byte_block_in_front ss)
 unfolding row_of
 byte_block_loose version count number ss = elim (eqb (length ss) 0) as (λ b. AreLoose version count number (cond b [] (Straight op.Bytecblock (is.ByteBlock ss) ∷ []))) [
   | true ↦ tt
@@ -181,9 +181,9 @@ byte_block_loose version count number ss = elim (eqb (length ss) 0) as (λ b. Ar
 
 blocks_loose : (version : Version) (count : ℕ) (ss : List Statement) → AreAsked version ss → AreLoose version count 0 (gathered_blocks ss)
 blocks_loose version count ss h =
-    loose-append version count 0 (uint_block (gathered_uints ss)) (byte_block (gathered_strings ss))
+    loose-append version count 0 (uint_block_in_front (gathered_uints ss)) (byte_block_in_front (gathered_strings ss))
     (uint_block_loose version count 0 (gathered_uints ss) (distinct_uints [] (flat_map (λ (s : Statement). gathered_uint s.command) ss) tt (all_uints version ss h)))
-    (byte_block_loose version count (0 + length (uint_block (gathered_uints ss))) (gathered_strings ss))
+    (byte_block_loose version count (0 + length (uint_block_in_front (gathered_uints ss))) (gathered_strings ss))
 
 -- a label stands before an instruction, or before the end
 label_within : (p : Word → Bool) (n : ℕ) (ss : List Statement) (t : ℕ) → lookup p (labels_from n ss) ≡ Some t → t ≤ n + command_count ss

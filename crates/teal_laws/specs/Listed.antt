@@ -43,7 +43,7 @@ pub data HasShape (version : Version) : Shape → Immediates → Type 0 where
   string : {s : List ℕ} → IsBytes s → HasShape version shape.Bytes (is.Bytes s)
 
 -- an instruction of programs of the version
-pub record IsOf (version : Version) (i : Instr) : Type 0 where
+pub record IsOfVersion (version : Version) (i : Instr) : Type 0 where
   pub opcode : has version (row_of i.opcode).version ≡ true
   pub immediates : HasShape version (row_of i.opcode).immediates i.immediates
 
@@ -54,7 +54,7 @@ command_of o target immediates = Plain o immediates
 
 abbrev pub AreOf : Version → List Placed → Type 0
 AreOf version [] = Unit {0}
-AreOf version (p ∷ ps) = IsOf version p.instr × AreOf version ps
+AreOf version (p ∷ ps) = IsOfVersion version p.instr × AreOf version ps
 
 -- the target of an instruction with a number: of a branch an instruction behind it, or the end
 abbrev pub IsAimed : ℕ → ℕ → Immediates → Option ℕ → Type 0

@@ -6,7 +6,7 @@ use Rattle.teal_code.specs.declared.instr.Immediates.{Immediates}
 use Rattle.teal_code.specs.declared.instr.Immediates.TheVariants as is
 use Rattle.teal_check.specs.declared.program.Placed.{Placed}
 use Rattle.teal_check.specs.WellFormed.{WellFormed}
-use Rattle.teal_laws.specs.Listed.{IsOf}
+use Rattle.teal_laws.specs.Listed.{IsOfVersion}
 use Rattle.teal_asm.specs.Meaning.{Meant, Straight, Branch, Meaning}
 
 -- a branch is named by its target, and not by an offset
@@ -26,8 +26,8 @@ program_meaning w = record { version = w.version; instructions = map meant_of w.
 
 -- an instruction with a number, of so many: of the version, and a branch leads to one behind it or to the end
 abbrev pub IsMeant : Version → ℕ → ℕ → Meant → Type 0
-IsMeant version count number (Straight o m) = IsOf version (record { opcode = o; immediates = m }) × IsNoOffset m
-IsMeant version count number (Branch o target) = ((n : ℕ) → IsOf version (record { opcode = o; immediates = is.Offset n })) × (number < target) × (target ≤ count)
+IsMeant version count number (Straight o m) = IsOfVersion version (record { opcode = o; immediates = m }) × IsNoOffset m
+IsMeant version count number (Branch o target) = ((n : ℕ) → IsOfVersion version (record { opcode = o; immediates = is.Offset n })) × (number < target) × (target ≤ count)
 
 -- instructions from the one with a number on
 abbrev pub AreMeant : Version → ℕ → ℕ → List Meant → Type 0

@@ -16,7 +16,7 @@ version_number Two = 2
 version_number Three = 3
 
 -- the bytes begin with the version's number, and the first instruction stands behind it
-pub record Begins (bytes : List ℕ) (version : Version) (start : ℕ) : Type 0 where
+pub record BeginsWithVersion (bytes : List ℕ) (version : Version) (start : ℕ) : Type 0 where
   pub front : List ℕ
   pub rest : List ℕ
   pub parts : bytes ≡ front ++ rest
@@ -49,7 +49,7 @@ pub record IsProgram (bytes : List ℕ) (w : WellFormed) : Type 0 where
   pub same : w.bytes ≡ bytes
   pub short : length bytes ≤ most_program_bytes
   pub start : ℕ
-  pub version : Begins bytes w.version start
+  pub version : BeginsWithVersion bytes w.version start
   pub instructions : StandFrom w.version bytes start w.placed
   pub targets : AllLead (places w.placed) (length bytes) w.placed
   pub cost : w.cost ≡ cost_of w.placed

@@ -16,7 +16,7 @@ ghost use Rattle.teal_source.specs.Commands.{command};
 ghost use Rattle.teal_asm.specs.Meaning.{Meaning, meaning};
 ghost use Rattle.teal_asm.specs.Program.{assembled};
 ghost use Rattle.teal_laws.specs.AssembledListing.{AssemblesBack};
-ghost use Rattle.teal_laws.specs.Listed.{IsListed, IsOf, command_of};
+ghost use Rattle.teal_laws.specs.Listed.{IsListed, IsOfVersion, command_of};
 ghost use Rattle.teal_laws.specs.ListedMeaning.{program_meaning};
 ghost use Rattle.teal_laws.specs.ProgramRules.{IsProgram};
 ghost use Rattle.teal_laws.specs.ShortestSpelling.{IsShortOffset, IsShortest};
@@ -27,7 +27,7 @@ ghost use Rattle.teal_laws.specs.TextCost.{meant_cost};
 pub fn encodings_are_shortest()
     ensures spelled { (version : Version) (text : List ℕ) (i : Instr) → IsBytes text → Spells version text i → IsShortest version i (instr_spelling i) }
     ensures read { (version : Version) (bytes : List ℕ) (place : ℕ) (i : Instr) (next : ℕ) → IsBytes bytes → read_at version bytes place ≡ Ok (i, next) → IsShortest version i (instr_spelling i) }
-    ensures of_version { (version : Version) (i : Instr) → IsOf version i → IsShortOffset i.immediates → length (instr_spelling i) < 2 ^ 64 → IsShortest version i (instr_spelling i) }
+    ensures of_version { (version : Version) (i : Instr) → IsOfVersion version i → IsShortOffset i.immediates → length (instr_spelling i) < 2 ^ 64 → IsShortest version i (instr_spelling i) }
 {}
 
 /// Bytes are accepted exactly where the rules of programs hold of them and a program: the version's number in front, then
@@ -42,7 +42,7 @@ pub fn checked_programs_keep_the_rules()
 /// The words of an instruction's line ask for the instruction, whatever its shape and in both versions; those of a branch
 /// ask for a branch to the label that is given.
 pub fn instruction_words_read_back()
-    ensures { (version : Version) (target : List ℕ) (i : Instr) → IsOf version i
+    ensures { (version : Version) (target : List ℕ) (i : Instr) → IsOfVersion version i
         → command version (name_of i.opcode) (operands (row_of i.opcode).immediates target i.immediates) ≡ Ok (command_of i.opcode target i.immediates) }
 {}
 

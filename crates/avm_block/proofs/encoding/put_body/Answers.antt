@@ -1,14 +1,14 @@
 use Rattle.std.proofs.Common.{◌++◌}
 use Rattle.avm_ledger.specs.Spellings.{counted_bytes, header_bytes, u32_bytes}
 use Rattle.avm_items.proofs.Appending.{more_as}
-use Rattle.avm_block.specs.BlockSpelling.{entry_bytes, format_bytes, magic}
+use Rattle.avm_block.specs.BlockSpelling.{block_entry_bytes, format_bytes, magic}
 use Rattle.avm_block.proofs.encoding.put_body.Goals as goal
 
 pub returns : goal.returns
 returns c =
     let b = c.args.block.now in
     let old = c.args.bytes.now.items in
-    let entries_bytes = counted_bytes u32_bytes entry_bytes in
+    let entries_bytes = counted_bytes u32_bytes block_entry_bytes in
     let two = magic ++ format_bytes b.header.profile in
     let three = two ++ b.base in
     let four = three ++ header_bytes b.header in

@@ -2,7 +2,7 @@ use Rattle.std.proofs.Common.{◌≡◌, ◌+◌, [], length, sym, ap, ◌∙◌
 use Rattle.avm_items.specs.Items.{ItemMap, value_in, with_item}
 use Rattle.avm_items.specs.Asks.{answer_from}
 use Rattle.avm_items.specs.LedgerItems.{at}
-use Rattle.avm_items.specs.Locality.{Agrees}
+use Rattle.avm_items.specs.Locality.{LookAgrees}
 use Rattle.avm_items.proofs.Questions.{result_on_ledger}
 use Rattle.avm_call.specs.Calls.{call_result}
 use Rattle.avm_run.specs.declared.phase.Phase.TheVariants as phase
@@ -22,7 +22,7 @@ loop-asking-init g c =
     let reads : reads_of c.in_ok-phase.phase ≡ with_item [] c.first_item-first.result c.in_ok-value.value = given.reads ∙ ap (λ items. with_item items c.first_item-first.result c.in_ok-value.value) c.new.ensures in
     record {
       alive = given.alive;
-      agrees = subst (λ (items : ItemMap). Agrees (value_in items) (at c.args.ledger.now)) (sym reads)
+      agrees = subst (λ (items : ItemMap). LookAgrees (value_in items) (at c.args.ledger.now)) (sym reads)
           (agrees_after [] c.first_item-first.result c.in_ok-value.value (at c.args.ledger.now) (sym c.in_ok-value.ensures) (record { at = λ x v e. absurd cc }));
     }
 
@@ -50,7 +50,7 @@ loop-asking-preserved g c =
     let reads : reads_of c.in_ok-phase-in-Need.phase ≡ with_item items c.in-Need.item c.in_ok-value-in-Need.value = given.reads ∙ ap (λ more. with_item more c.in-Need.item c.in_ok-value-in-Need.value) asks.same_reads in
     record {
       alive = given.alive;
-      agrees = subst (λ (more : ItemMap). Agrees (value_in more) (at c.args.ledger.now)) (sym reads)
+      agrees = subst (λ (more : ItemMap). LookAgrees (value_in more) (at c.args.ledger.now)) (sym reads)
           (agrees_after items c.in-Need.item c.in_ok-value-in-Need.value (at c.args.ledger.now) (sym c.in_ok-value-in-Need.ensures) c.loop-asking.invariant.agrees);
     }
 

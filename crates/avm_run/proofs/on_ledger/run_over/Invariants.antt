@@ -1,7 +1,7 @@
 use Rattle.std.proofs.Common.{◌-◌, length}
 use Rattle.avm_items.specs.Items.{value_in}
 use Rattle.avm_items.specs.LedgerItems.{at}
-use Rattle.avm_items.specs.Locality.{Agrees}
+use Rattle.avm_items.specs.Locality.{LookAgrees}
 use Rattle.avm_call.specs.Ends.{most_items}
 use Rattle.avm_run.specs.Progress.{IsAlive, reads_of}
 use Rattle.avm_run.proofs.on_ledger.run_over.Given as goal
@@ -9,7 +9,7 @@ use Rattle.avm_run.proofs.on_ledger.run_over.Given as goal
 abbrev pub invariant-loop-asking : goal.invariant-loop-asking
 invariant-loop-asking g l = record {
   alive : IsAlive l.call l.header l.phase;
-  agrees : Agrees (value_in (reads_of l.phase)) (at l.ledger);
+  agrees : LookAgrees (value_in (reads_of l.phase)) (at l.ledger);
 }
 
 abbrev pub decreases-loop-asking : goal.decreases-loop-asking

@@ -1,6 +1,6 @@
 use Rattle.std.proofs.Common.{Some, refl, sym, ap, ◌∙◌, subst}
 use Rattle.avm_run.specs.declared.phase.Phase.{Phase}
-use Rattle.avm_run.specs.Progress.{HasStep, next_step, reads_of, steps_of}
+use Rattle.avm_run.specs.Progress.{HasStep, next_step_number, reads_of, steps_of}
 use Rattle.avm_run.proofs.Leading.{begins_there}
 use Rattle.avm_run.proofs.phase.step_on.Goals as goal
 
@@ -13,6 +13,6 @@ returns-in-Begins g c =
     record {
       same_reads = tests.0.same_items ∙ sym (ap reads_of c.in-Tests.is);
       follows = record { same_call = tests.0.same_call; same_header = tests.0.same_header; same_items = refl; stands = tests.0.stands };
-      counted = ap Some tests.1 ∙ ap (λ (p : Phase). Some (next_step (steps_of p))) (sym c.in-Tests.is);
-      there = subst (λ (p : Phase). HasStep call header (reads_of p) (next_step (steps_of p))) (sym c.in-Tests.is) first;
+      counted = ap Some tests.1 ∙ ap (λ (p : Phase). Some (next_step_number (steps_of p))) (sym c.in-Tests.is);
+      there = subst (λ (p : Phase). HasStep call header (reads_of p) (next_step_number (steps_of p))) (sym c.in-Tests.is) first;
     }

@@ -3,7 +3,7 @@ use Rattle.std.specs.Prelude.{IsSome}
 use Rattle.std.specs.Arc.{arc_value}
 use Rattle.avm_items.specs.LedgerItems.{at}
 use Rattle.mv_shards.specs.declared.part.Part.{Part}
-use Rattle.mv_shards.specs.Chains.{HasRoom, chain_in}
+use Rattle.mv_shards.specs.Chains.{HasRoomFor, chain_in}
 use Rattle.mv_shards.specs.Indexes.{shard_of}
 use Rattle.mv_shards.proofs.OneChain.{ok_then}
 use Rattle.mv_shards.proofs.Places.{here_at}
@@ -34,5 +34,5 @@ returns-clause-roomier c = ok_then c.make_space.result _ _ (roomier_at c.args.pa
 pub returns-clause-room : goal.returns-clause-room
 returns-clause-room c =
     ok_then c.make_space.result _ _
-    (λ room. subst (λ map. HasRoom map c.args.item.now) (sym (chains_here c.args.parts.now c.from.result c.in-Some.part (part_after c) (here c) c.args.item.now (index c))) room)
+    (λ room. subst (λ map. HasRoomFor map c.args.item.now) (sym (chains_here c.args.parts.now c.from.result c.in-Some.part (part_after c) (here c) c.args.item.now (index c))) room)
     c.make_space.ensures.room

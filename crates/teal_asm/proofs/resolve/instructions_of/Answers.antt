@@ -1,14 +1,14 @@
 use Rattle.std.proofs.Common.{◌≡◌, ◌≤◌, ◌++◌, ℕ, List, length, sym, ap, ◌∙◌, arith}
 use Rattle.std.specs.Str.{bytes_eq}
 use Rattle.teal_asm.specs.declared.emit.Instruction.{Instruction}
-use Rattle.teal_asm.specs.Meaning.{uint_block, byte_block}
+use Rattle.teal_asm.specs.Meaning.{uint_block_in_front, byte_block_in_front}
 use Rattle.teal_asm.specs.Instructions.{all_meant}
 use Rattle.teal_asm.proofs.Emitting.{length-meant}
 use Rattle.teal_asm.proofs.Resolving.{each_has_its_constant, label_small, blocks_few}
 use Rattle.teal_asm.proofs.resolve.instructions_of.Goals as goal
 
-blocks : (us us' : List ℕ) (ss ss' : List (List ℕ)) (is : List Instruction) → us ≡ us' → ss ≡ ss' → all_meant is ≡ uint_block us ++ byte_block ss → all_meant is ≡ uint_block us' ++ byte_block ss'
-blocks us us' ss ss' is uints strings e = e ∙ ap (λ ns. uint_block ns ++ byte_block ss) uints ∙ ap (λ ts. uint_block us' ++ byte_block ts) strings
+blocks : (us us' : List ℕ) (ss ss' : List (List ℕ)) (is : List Instruction) → us ≡ us' → ss ≡ ss' → all_meant is ≡ uint_block_in_front us ++ byte_block_in_front ss → all_meant is ≡ uint_block_in_front us' ++ byte_block_in_front ss'
+blocks us us' ss ss' is uints strings e = e ∙ ap (λ ns. uint_block_in_front ns ++ byte_block_in_front ss) uints ∙ ap (λ ts. uint_block_in_front us' ++ byte_block_in_front ts) strings
 
 pub resolved-requires-clause-constants : goal.resolved-requires-clause-constants
 resolved-requires-clause-constants c =

@@ -1,8 +1,8 @@
 use Rattle.std.proofs.Common.{sym, subst}
-use Rattle.avm_run.specs.RunState.{IsSound}
+use Rattle.avm_run.specs.RunState.{IsSoundState}
 use Rattle.avm_run.proofs.Alive.{starts_alive}
 use Rattle.avm_run.proofs.call_run.CallRun.start.Goals as goal
 
 pub invariant_of-result : goal.invariant_of-result
 invariant_of-result c =
-    subst IsSound (sym c.going.ensures) (record { alive = starts_alive c.in_ok-call.call c.args.header.now c.new.result c.new.ensures c.fields-fields.ensures.checked; asked = tt })
+    subst IsSoundState (sym c.going.ensures) (record { alive = starts_alive c.in_ok-call.call c.args.header.now c.new.result c.new.ensures c.fields-fields.ensures.checked; asked = tt })

@@ -2,21 +2,21 @@ use Rattle.std.proofs.Common.{Option, Some, Ok, sym, ap, ◌∙◌, subst}
 use Rattle.avm_run.specs.declared.call_run.Step.TheVariants as step
 use Rattle.avm_run.specs.Advances.{AsksFor, Steps}
 use Rattle.avm_run.specs.Progress.{reads_of, steps_of}
-use Rattle.avm_run.specs.RunState.{IsKept, IsSound, Progress, progress, progress_of}
+use Rattle.avm_run.specs.RunState.{IsKeptRun, IsSoundState, Progress, progress, progress_of}
 use Rattle.avm_run.proofs.Alive.{asks_kept, asked_by_end, ends_kept, ends_over_reads, goes_kept}
 use Rattle.avm_run.proofs.Answering.{asks_for, ends_there, makes_step}
 use Rattle.avm_run.proofs.call_run.CallRun.step_one.Goals as goal
 
 pub step_on-requires-clause-follows : goal.step_on-requires-clause-follows
 step_on-requires-clause-follows g c =
-    let kept : IsKept c.in-Live.live = subst IsSound (sym c.in-Live.ensures.value) c.self.invariant in
+    let kept : IsKeptRun c.in-Live.live = subst IsSoundState (sym c.in-Live.ensures.value) c.self.invariant in
     kept.alive.follows
 
 pub invariant_of-self-in-Ok-On : goal.invariant_of-self-in-Ok-On
 invariant_of-self-in-Ok-On g c =
     let live = c.in-Live.live in
-    let kept : IsKept live = subst IsSound (sym c.in-Live.ensures.value) c.self.invariant in
-    subst IsSound (sym c.going.ensures) (goes_kept live.call live.header (reads_of live.phase) (steps_of live.phase) c.in-Ok-On.phase kept.alive.few (rw c.in-Ok-On.field-0-is at c.in-Ok-On.ensures))
+    let kept : IsKeptRun live = subst IsSoundState (sym c.in-Live.ensures.value) c.self.invariant in
+    subst IsSoundState (sym c.going.ensures) (goes_kept live.call live.header (reads_of live.phase) (steps_of live.phase) c.in-Ok-On.phase kept.alive.few (rw c.in-Ok-On.field-0-is at c.in-Ok-On.ensures))
 
 pub returns-in-Ok-On : goal.returns-in-Ok-On
 returns-in-Ok-On g c =
@@ -28,9 +28,9 @@ returns-in-Ok-On g c =
 pub invariant_of-self-in-Ok-Ends : goal.invariant_of-self-in-Ok-Ends
 invariant_of-self-in-Ok-Ends g c =
     let live = c.in-Live.live in
-    let kept : IsKept live = subst IsSound (sym c.in-Live.ensures.value) c.self.invariant in
+    let kept : IsKeptRun live = subst IsSoundState (sym c.in-Live.ensures.value) c.self.invariant in
     let ends = rw c.in-Ok-Ends.field-0-is at c.in-Ok-Ends.ensures in
-    subst IsSound (sym c.going-in-Ok-Ends.ensures) (ends_kept live.call live.header (reads_of live.phase) (steps_of live.phase) c.in-Ok-Ends.phase c.in-Ok-Ends.ended kept.alive.few ends)
+    subst IsSoundState (sym c.going-in-Ok-Ends.ensures) (ends_kept live.call live.header (reads_of live.phase) (steps_of live.phase) c.in-Ok-Ends.phase c.in-Ok-Ends.ended kept.alive.few ends)
 
 pub returns-in-Ok-Ends : goal.returns-in-Ok-Ends
 returns-in-Ok-Ends g c =
@@ -43,15 +43,15 @@ returns-in-Ok-Ends g c =
 pub invariant_of-self-in-Need : goal.invariant_of-self-in-Need
 invariant_of-self-in-Need g c =
     let live = c.in-Live.live in
-    let kept : IsKept live = subst IsSound (sym c.in-Live.ensures.value) c.self.invariant in
+    let kept : IsKeptRun live = subst IsSoundState (sym c.in-Live.ensures.value) c.self.invariant in
     let stops = rw c.in-Ok-Stops.field-0-is at c.in-Ok-Stops.ensures in
     let asks = rw c.in-Need.is at stops in
-    subst IsSound (sym c.asking.ensures) (asks_kept live.call live.header (reads_of live.phase) c.in-Need.phase c.in-Need.item kept.alive.few asks.0)
+    subst IsSoundState (sym c.asking.ensures) (asks_kept live.call live.header (reads_of live.phase) c.in-Need.phase c.in-Need.item kept.alive.few asks.0)
 
 pub returns-in-Need : goal.returns-in-Need
 returns-in-Need g c =
     let live = c.in-Live.live in
-    let kept : IsKept live = subst IsSound (sym c.in-Live.ensures.value) c.self.invariant in
+    let kept : IsKeptRun live = subst IsSoundState (sym c.in-Live.ensures.value) c.self.invariant in
     let stops = rw c.in-Ok-Stops.field-0-is at c.in-Ok-Stops.ensures in
     let asks = rw c.in-Need.is at stops in
     subst (λ (p : Option Progress). Steps p (progress c.asking.result) (Ok (step.Need c.in-Need.item))) (ap progress c.in-Live.ensures.value ∙ c.self.view_is)
@@ -69,5 +69,5 @@ pub finished-requires-clause-asked : goal.finished-requires-clause-asked
 finished-requires-clause-asked g c =
     let live = c.in-Live.live in
     let stops = rw c.in-Ok-Stops.field-0-is at c.in-Ok-Stops.ensures in
-    let kept : IsKept live = subst IsSound (sym c.in-Live.ensures.value) c.self.invariant in
+    let kept : IsKeptRun live = subst IsSoundState (sym c.in-Live.ensures.value) c.self.invariant in
     asked_by_end live.call live.header (reads_of live.phase) c.in-Done.closed kept.alive.few (rw c.in-Done.is at stops).0

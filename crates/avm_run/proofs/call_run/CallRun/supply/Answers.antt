@@ -7,7 +7,7 @@ use Rattle.avm_call.specs.Calls.{call_result}
 use Rattle.avm_run.specs.declared.call_run.RunFault.TheVariants as fault
 use Rattle.avm_run.specs.Advances.{Supplies}
 use Rattle.avm_run.specs.Progress.{reads_of}
-use Rattle.avm_run.specs.RunState.{IsKept, IsSound, Progress, is_asked, progress, progress_of}
+use Rattle.avm_run.specs.RunState.{IsKeptRun, IsSoundState, Progress, is_asked, progress, progress_of}
 use Rattle.avm_run.proofs.Alive.{supplied, was_asked, was_not_asked}
 use Rattle.avm_run.proofs.call_run.CallRun.supply.Goals.{in-Some-3, in-None-3}
 use Rattle.avm_run.proofs.call_run.CallRun.supply.Goals as goal
@@ -23,16 +23,16 @@ pub invariant_of-self-in-Ok : goal.invariant_of-self-in-Ok
 invariant_of-self-in-Ok c =
     let live = c.in-Live.live in
     let on : is_asked live.asked c.args.item ≡ true = grind (arith, c.asks_for.ensures, c.if-not-asks_for.false) in
-    let kept : IsKept live = subst IsSound (sym c.in-Live.ensures.value) c.self.invariant in
+    let kept : IsKeptRun live = subst IsSoundState (sym c.in-Live.ensures.value) c.self.invariant in
     let asks = subst (λ o. IfSome o (λ x. answer_from (value_in (reads_of live.phase)) (call_result live.call live.header) ≡ Err x)) (was_asked live.asked c.args.item on) kept.asked in
     let given = supplied live.call live.header live.phase c.in-Ok.phase c.args.item c.args.value kept.alive asks c.supplied.ensures.programs c.in-Ok.ensures.supplied in
-    subst IsSound (sym c.going.ensures) (record { alive = given.alive; asked = tt })
+    subst IsSoundState (sym c.going.ensures) (record { alive = given.alive; asked = tt })
 
 pub returns-in-Ok : goal.returns-in-Ok
 returns-in-Ok c =
     let live = c.in-Live.live in
     let on : is_asked live.asked c.args.item ≡ true = grind (arith, c.asks_for.ensures, c.if-not-asks_for.false) in
-    let kept : IsKept live = subst IsSound (sym c.in-Live.ensures.value) c.self.invariant in
+    let kept : IsKeptRun live = subst IsSoundState (sym c.in-Live.ensures.value) c.self.invariant in
     let asks = subst (λ o. IfSome o (λ x. answer_from (value_in (reads_of live.phase)) (call_result live.call live.header) ≡ Err x)) (was_asked live.asked c.args.item on) kept.asked in
     let given = supplied live.call live.header live.phase c.in-Ok.phase c.args.item c.args.value kept.alive asks c.supplied.ensures.programs c.in-Ok.ensures.supplied in
     subst (λ (p : Option Progress). Supplies p (progress c.going.result) c.args.item c.args.value None) (ap progress c.in-Live.ensures.value ∙ c.self.view_is)
