@@ -20,7 +20,7 @@ use Rattle.teal_code.specs.Limits.{most_cost}
 use Rattle.teal_check.specs.declared.fault.CheckFault.{CheckFault}
 use Rattle.teal_check.specs.declared.fault.CheckFault.TheVariants as fault
 use Rattle.teal_check.specs.declared.program.Placed.{Placed}
-use Rattle.teal_check.specs.WellFormed.{WellFormed, on_code, version_of, placed_at, placed_from, places, index_of, number_at, target_of, with_targets, checked}
+use Rattle.teal_check.specs.WellFormed.{WellFormed, on_code, version_of, placed_at, placed_from, places, first_index, number_of_place, target_of, with_targets, checked}
 use Rattle.teal_check.specs.WellFormed as check
 use Rattle.teal_check.proofs.CheckedPrograms.{is_checked, is_placed, placed_forward, placed_rises, length-places}
 use Rattle.avm_ops.specs.Immediates.{offset_of}
@@ -129,16 +129,16 @@ pub record IsOffset (x : ℕ) (i : Instr) (next : ℕ) : Type 0 where
   pub is_offset : i.immediates ≡ is.Offset offset
   pub behind : next ≡ x + 3
 
-index_is_start : (x : ℕ) (ss : List ℕ) (k : ℕ) → index_of x ss ≡ Some k → is_start ss x ≡ true
+index_is_start : (x : ℕ) (ss : List ℕ) (k : ℕ) → first_index x ss ≡ Some k → is_start ss x ≡ true
 index_is_start x [] k e = absurd cc
-index_is_start x (s ∷ ss) k e = by (x == s) (index_of x ss) (index_is_start x ss) e
+index_is_start x (s ∷ ss) k e = by (x == s) (first_index x ss) (index_is_start x ss) e
   where
     by : (b : Bool) (o : Option ℕ) → ((j : ℕ) → o ≡ Some j → is_start ss x ≡ true) → (if b then Some 0 else option_map suc o) ≡ Some k → (b || is_start ss x) ≡ true
     by true o h d = refl
     by false (Some j) h d = h j refl
     by false None h d = absurd cc
 
-number_is_start : (ss : List ℕ) (end t k : ℕ) (b : Bool) → (if b then Some (length ss) else index_of t ss) ≡ Some k → (b || is_start ss t) ≡ true
+number_is_start : (ss : List ℕ) (end t k : ℕ) (b : Bool) → (if b then Some (length ss) else first_index t ss) ≡ Some k → (b || is_start ss t) ≡ true
 number_is_start ss end t k true e = refl
 number_is_start ss end t k false e = index_is_start t ss k e
 
@@ -150,7 +150,7 @@ ok_or_is (Some b) f a e = let same : b ≡ a = cc in ap (λ z. Some z) same
 pub record HasTarget (starts : List ℕ) (end target : ℕ) (t : Option ℕ) : Type 0 where
   pub number : ℕ
   pub is : t ≡ Some number
-  pub numbered : number_at starts end target ≡ Some number
+  pub numbered : number_of_place starts end target ≡ Some number
   pub inside : target ≤ end
 
 pub branch_found : (starts : List ℕ) (end place next offset : ℕ) (t : Option ℕ) → check.resolved_target starts end place next offset ≡ Ok t → HasTarget starts end (next + offset) t
@@ -160,12 +160,12 @@ branch_found starts end place next offset t e =
       | inr (near, more) ↦ elim (chosen (ltb end (next + offset)) _ _ _ more) [
         | inl (past, bad) ↦ absurd cc
         | inr (inside, found) ↦
-            let (k, numbered, last) = bind_ok (ok_or (number_at starts end (next + offset)) (fault.NotAligned place)) _ _ found in
+            let (k, numbered, last) = bind_ok (ok_or (number_of_place starts end (next + offset)) (fault.NotAligned place)) _ _ found in
             let same : Some k ≡ t = cc in
             record {
               number = k;
               is = sym same;
-              numbered = ok_or_is (number_at starts end (next + offset)) (fault.NotAligned place) k numbered;
+              numbered = ok_or_is (number_of_place starts end (next + offset)) (fault.NotAligned place) k numbered;
               inside = ltb-false end (next + offset) inside;
             }
       ]

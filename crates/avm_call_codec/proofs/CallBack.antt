@@ -4,15 +4,15 @@ use Rattle.std.specs.Int.{w64}
 use Rattle.std.proofs.lemmas.List.{append-nil}
 use Rattle.teal_value.specs.declared.address.Address.{Address}
 use Rattle.avm_ledger.specs.Spellings.{u8_bytes, u64_bytes, string_bytes, counted_bytes, schema_bytes}
-use Rattle.avm_ledger.specs.FieldReader.{number_at, string_at, address_at}
+use Rattle.avm_ledger.specs.FieldReader.{number_at, string_at, address_at, alone}
 use Rattle.avm_ledger.proofs.FieldsBack.{then, bytes_back, byte_back, u64_back, string_back, address_back, schema_back, counted_back}
 use Rattle.avm_items.specs.declared.call_data.Completion.{Completion}
 use Rattle.avm_items.specs.declared.call_data.Completion.TheVariants as completion
 use Rattle.avm_items.specs.declared.call_data.CallData.{CallData}
 use Rattle.avm_items.specs.CallFields.{completion_number}
-use Rattle.avm_call_codec.specs.declared.call_data_fault.CallDataFault.TheVariants.{Truncated}
+use Rattle.avm_call_codec.specs.declared.call_data_fault.CallDataFault.TheVariants.{Truncated, Rest}
 use Rattle.avm_call_codec.specs.CallSpelling.{address_bytes, terms_bytes, target_bytes, lists_bytes, programs_bytes, call_bytes}
-use Rattle.avm_call_codec.specs.CallReader.{completion_at, terms_at, target_at, lists_at, programs_at, call_front, call_from, alone, call_at}
+use Rattle.avm_call_codec.specs.CallReader.{completion_at, terms_at, target_at, lists_at, programs_at, call_front, call_from, call_at}
 use Rattle.avm_call_codec.specs.CallRoundTrip.{IsAddress, IsStringField, IsWord, HasFields}
 
 completion_back : (done : Completion) (rest : List ℕ) → completion_at (u8_bytes (completion_number done) ++ rest) ≡ Ok (done, rest)
@@ -103,7 +103,7 @@ call_back c rest has =
 
 pub call_back_alone : (c : CallData) → HasFields c → call_at (call_bytes c) ≡ Ok c
 call_back_alone c has =
-    ap call_at (sym (append-nil (call_bytes c))) ∙ then (call_front (call_bytes c ++ [])) (c, []) alone (Ok c) (call_back c [] has) refl
+    ap call_at (sym (append-nil (call_bytes c))) ∙ then (call_front (call_bytes c ++ [])) (c, []) (alone Rest) (Ok c) (call_back c [] has) refl
 
 behind : (before rest : List ℕ) → drop (length before) (before ++ rest) ≡ rest
 behind [] rest = refl

@@ -5,9 +5,9 @@ use Rattle.std.proofs.lemmas.List.{get_or-drop}
 use Rattle.std.proofs.lemmas.List.Elements.{All-from_get_or}
 use Rattle.teal_value.specs.Answer.{Gives}
 use Rattle.teal_value.specs.declared.failure.Failure.{Failure}
-use Rattle.avm_ledger.specs.Spellings.{schema_bytes}
-use Rattle.avm_call_codec.specs.declared.call_data_fault.CallDataFault.{CallDataFault}
+use Rattle.avm_ledger.specs.Spellings.{string_bytes, schema_bytes}
 use Rattle.avm_items.specs.declared.call_data.CallData.{CallData}
+use Rattle.avm_call_codec.specs.declared.call_data_fault.CallDataFault.{CallDataFault}
 use Rattle.avm_call_codec.specs.CallSpelling.{programs_bytes, call_bytes}
 use Rattle.avm_call_codec.specs.CallReader.{call_front, call_at}
 use Rattle.avm_call_codec.specs.CallRoundTrip.{HasFields}
@@ -33,7 +33,8 @@ ends_in_some : (xs ys : List ℕ) → 0 < length ys → 0 < length (xs ++ ys)
 ends_in_some xs ys some = omega (arith, length-append xs ys)
 
 some_bytes : (call : CallData) → 0 < length (call_bytes call)
-some_bytes call = ends_in_some _ (programs_bytes call) (ends_in_some _ (schema_bytes call.local_schema) (omega arith))
+some_bytes call = ends_in_some _ (programs_bytes call)
+    (ends_in_some (string_bytes call.approval ++ string_bytes call.clear ++ schema_bytes call.global_schema) (schema_bytes call.local_schema) (omega arith))
 
 pub rest_shorter : (bytes : List ℕ) (place : ℕ) (here : List ℕ) (call : CallData) (rest : List ℕ) → ((i : ℕ) → get_or bytes i 0 < 256) → here ≡ drop place bytes → call_front here ≡ Ok (call, rest) → length rest < length here
 rest_shorter bytes place here call rest below is e =

@@ -5,23 +5,23 @@ use Rattle.std.specs.Option.{ok_or}
 use Rattle.std.proofs.lemmas.Bool.{eqb-true}
 use Rattle.std.proofs.lemmas.List.{append-nil, nil_from_length, take-append-drop}
 use Rattle.teal_value.specs.declared.address.Address.{Address}
-use Rattle.avm_ledger.specs.Spellings.{u8_bytes, u64_bytes, string_bytes, counted_bytes, schema_bytes}
-use Rattle.avm_ledger.specs.FieldReader.{bytes_at, number_at, string_at, address_at, schema_at, counted_at}
 use Rattle.teal_code.proofs.Bytes.{AllBytes, all_bytes}
+use Rattle.avm_ledger.specs.Spellings.{u8_bytes, u64_bytes, string_bytes, counted_bytes, schema_bytes}
+use Rattle.avm_ledger.specs.FieldReader.{bytes_at, number_at, string_at, address_at, schema_at, counted_at, alone}
 use Rattle.avm_ledger.proofs.FieldsSpelled.{from, same_value, IsSpelled, spelled, join, bytes_spelled, byte_spelled, u64_spelled, string_spelled, address_spelled, schema_spelled, counted_spelled}
 use Rattle.avm_ledger.proofs.FieldsFit.{u64_fits, string_fits, address_fits, schema_fits, counted_fit}
-use Rattle.avm_call_codec.specs.declared.call_data_fault.CallDataFault.{CallDataFault}
-use Rattle.avm_call_codec.specs.declared.call_data_fault.CallDataFault.TheVariants.{Field, Truncated, Rest}
 use Rattle.avm_items.specs.declared.call_data.Completion.{Completion}
 use Rattle.avm_items.specs.declared.call_data.Completion.TheVariants as completion
 use Rattle.avm_items.specs.declared.call_data.CallData.{CallData}
 use Rattle.avm_items.specs.CallFields.{completion_number}
+use Rattle.avm_call_codec.specs.declared.call_data_fault.CallDataFault.{CallDataFault}
+use Rattle.avm_call_codec.specs.declared.call_data_fault.CallDataFault.TheVariants.{Field, Truncated, Rest}
 use Rattle.avm_call_codec.specs.declared.groups.Terms.{Terms}
 use Rattle.avm_call_codec.specs.declared.groups.Target.{Target}
 use Rattle.avm_call_codec.specs.declared.groups.Lists.{Lists}
 use Rattle.avm_call_codec.specs.declared.groups.Programs.{Programs}
 use Rattle.avm_call_codec.specs.CallSpelling.{address_bytes, call_bytes}
-use Rattle.avm_call_codec.specs.CallReader.{completion_of, completion_at, terms_at, target_at, lists_at, programs_at, call_of_groups, call_front, call_from, alone, call_at}
+use Rattle.avm_call_codec.specs.CallReader.{completion_of, completion_at, terms_at, target_at, lists_at, programs_at, call_of_groups, call_front, call_from, call_at}
 use Rattle.avm_call_codec.specs.CallRoundTrip.{IsAddress, IsStringField, IsWord, HasFields}
 
 one_of : (n k : ℕ) (this : Completion) (others : Option Completion) (d : Completion) → completion_number this ≡ k → (others ≡ Some d → n ≡ completion_number d) → cond (eqb n k) (Some this) others ≡ Some d → n ≡ completion_number d
@@ -230,7 +230,7 @@ at_end c d rest false test e = absurd cc
 
 pub call_spells : (bytes : List ℕ) (c : CallData) → All (λ b. b < 256) bytes → call_at bytes ≡ Ok c → (call_bytes c ≡ bytes) × HasFields c
 call_spells bytes c all e =
-    from (call_front bytes) alone c e (λ f ef e1.
+    from (call_front bytes) (alone Rest) c e (λ f ef e1.
     let r = call_spelled bytes f (all_bytes bytes all) ef in
     let end = at_end c f.0 f.1 (eqb (length f.1) 0) refl e1 in
     (sym (r.spelled.same ∙ ap (λ rest. call_bytes f.0 ++ rest) end.1 ∙ append-nil (call_bytes f.0) ∙ ap call_bytes end.0), subst HasFields end.0 r.fields))

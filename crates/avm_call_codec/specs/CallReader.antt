@@ -3,12 +3,12 @@ use Rattle.std.specs.Prelude.{ℕ, ◌-◌, ◌==◌, if◌then◌else◌, List,
 use Rattle.std.specs.Option.{ok_or}
 use Rattle.std.specs.Int.{w8, w64}
 use Rattle.teal_value.specs.Answer.{◌>>=◌}
-use Rattle.avm_ledger.specs.FieldReader.{Front, bytes_at, number_at, string_at, address_at, schema_at, counted_at}
-use Rattle.avm_call_codec.specs.declared.call_data_fault.CallDataFault.{CallDataFault}
-use Rattle.avm_call_codec.specs.declared.call_data_fault.CallDataFault.TheVariants.{Field, Truncated, Rest}
+use Rattle.avm_ledger.specs.FieldReader.{Front, bytes_at, number_at, string_at, address_at, schema_at, counted_at, alone}
 use Rattle.avm_items.specs.declared.call_data.Completion.{Completion}
 use Rattle.avm_items.specs.declared.call_data.Completion.TheVariants as completion
 use Rattle.avm_items.specs.declared.call_data.CallData.{CallData}
+use Rattle.avm_call_codec.specs.declared.call_data_fault.CallDataFault.{CallDataFault}
+use Rattle.avm_call_codec.specs.declared.call_data_fault.CallDataFault.TheVariants.{Field, Truncated, Rest}
 use Rattle.avm_call_codec.specs.declared.groups.Terms.{Terms}
 use Rattle.avm_call_codec.specs.declared.groups.Target.{Target}
 use Rattle.avm_call_codec.specs.declared.groups.Lists.{Lists}
@@ -93,9 +93,6 @@ call_front bytes = do
 abbrev pub call_from : List ℕ → ℕ → Result (CallData × ℕ) CallDataFault
 call_from bytes place = call_front (drop place bytes) >>= λ c. Ok (c.0, length bytes - length c.1)
 
-abbrev pub alone : {A : Type 0} → A × List ℕ → Result A CallDataFault
-alone x = if length x.1 == 0 then Ok x.0 else Err Rest
-
 -- the call that the bytes are
 abbrev pub call_at : List ℕ → Result CallData CallDataFault
-call_at bytes = call_front bytes >>= alone
+call_at bytes = call_front bytes >>= alone Rest

@@ -2,7 +2,8 @@
 
 ghost use Rattle.std.specs.Int.{w64};
 ghost use Rattle.teal_value.specs.Answer.{Gives};
-ghost use Rattle.avm_ledger.specs.FieldReader.{address_at, counted_at, many_at, number_at, string_at};
+ghost use Rattle.teal_code.specs.Reader.{many_at};
+ghost use Rattle.avm_ledger.specs.FieldReader.{address_at, counted_at, number_at, string_at};
 ghost use Rattle.avm_call_codec.specs.declared.call_data_fault.CallDataFault.TheVariants.{Truncated};
 ghost use Rattle.avm_call_codec.specs.CallReader.{call_at, call_front, completion_at, lists_at, programs_at, target_at, terms_at};
 

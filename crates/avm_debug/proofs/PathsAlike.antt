@@ -1,11 +1,12 @@
 -- The path of a program over the ledger that is prepared for it is the path over the ledger before.
 use Rattle.std.proofs.Common.{◌≡◌, ℕ, zero, suc, Bool, true, false, eqb, length, if◌then◌else◌, Option, None, Some, Result, Ok, Err, refl, sym, ap, subst, ◌∙◌}
+use Rattle.teal_value.specs.Choice.{or_else}
 use Rattle.teal_code.specs.declared.decode.CodeFault.{CodeFault}
 use Rattle.teal_code.specs.declared.instr.Instr.{Instr}
 use Rattle.avm_items.specs.declared.item.Item.{Item}
 use Rattle.avm_items.specs.declared.item_value.ItemValue.{ItemValue}
 use Rattle.avm_items.specs.CallFields.{new_keys}
-use Rattle.avm_items.specs.Items.{ItemMap, Known, Look, or_else, value_in}
+use Rattle.avm_items.specs.Items.{ItemMap, Known, Look, value_in}
 use Rattle.avm_items.specs.Asks.{Gives, remaining_questions, result_over}
 use Rattle.avm_items.proofs.Questions.{result_over-and_then}
 use Rattle.avm_ops.specs.Frame.{Stepped}

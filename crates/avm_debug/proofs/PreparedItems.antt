@@ -6,6 +6,7 @@ use Rattle.std.specs.Map.{keys_of}
 use Rattle.std.proofs.lemmas.Bool.{eqb-true}
 use Rattle.std.proofs.lemmas.List.Elements.{All-head, All-nil, All-tail}
 use Rattle.std.proofs.lemmas.Map.Views.{All-keys-insert_entry}
+use Rattle.teal_value.specs.Choice.{or_else}
 use Rattle.avm_ledger.specs.Ledgers.{Ledger}
 use Rattle.avm_states.specs.Schemas.{no_entries}
 use Rattle.sorted_entries.proofs.Maps.{lookup-inserted_other}
@@ -17,7 +18,7 @@ use Rattle.avm_items.specs.declared.item.Item.TheVariants as item
 use Rattle.avm_items.specs.declared.item_value.ItemValue.{ItemValue}
 use Rattle.avm_items.specs.declared.item_value.ItemValue.TheVariants as value
 use Rattle.avm_items.specs.CallFields.{creates, new_keys}
-use Rattle.avm_items.specs.Items.{ItemMap, item_cmp, or_else, over, value_in, with_item}
+use Rattle.avm_items.specs.Items.{ItemMap, item_cmp, over, value_in, with_item}
 use Rattle.avm_items.specs.LedgerItems.{at, put, put_one}
 use Rattle.avm_items.specs.PutLaws.{changes_with}
 use Rattle.avm_items.proofs.Puts.{item_total, keeps_others}

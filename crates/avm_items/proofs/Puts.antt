@@ -101,15 +101,15 @@ local_values None (Some t) e = absurd cc
 local_values (Some s) None e = absurd cc
 local_values (Some s) (Some t) e = ap Some (cc)
 
-same_application : (l m : Ledger) (id : ℕ) → IsInOrder l → IsInOrder m → (a b : Option StoredApplication) → application_at l id ≡ a → application_at m id ≡ b
-    → row_value a ≡ row_value b → ((key : List ℕ) → entry_value a key ≡ entry_value b key) → a ≡ b
+pub same_application : (l m : Ledger) (id : ℕ) → IsInOrder l → IsInOrder m → (a b : Option StoredApplication) → application_at l id ≡ a → application_at m id ≡ b
+    → row_value a ≡ row_value b → (is_none b ≡ false → (key : List ℕ) → entry_value a key ≡ entry_value b key) → a ≡ b
 same_application l m id o p None None d e rows entries = refl
 same_application l m id o p None (Some b) d e rows entries = absurd cc
 same_application l m id o p (Some a) None d e rows entries = absurd cc
 same_application l m id o p (Some a) (Some b) d e rows entries =
     let row : a.row ≡ b.row = cc in
     let state = same_map byte_total byte_same a.state b.state (o.global_states id a d) (p.global_states id b e)
-    (λ key. key_values (value_of_key a.state key) (value_of_key b.state key) (entries key)) in
+    (λ key. key_values (value_of_key a.state key) (value_of_key b.state key) (entries refl key)) in
     λ i. Some (record { row = row i; state = state i })
 
 next_ids : {n m : ℕ} → value.NextApp n ≡ value.NextApp m → n ≡ m
@@ -119,7 +119,7 @@ pub is_its_items : (l m : Ledger) → IsInOrder l → IsInOrder m → ((x : Item
 is_its_items l m o p same =
     let next : l.next_id ≡ m.next_id = next_ids (same item.NextApp) in
     let apps = same_map nat_cmp_total nat_cmp-IsAntisymmetric l.applications m.applications o.applications p.applications
-    (λ id. same_application l m id o p (application_at l id) (application_at m id) refl refl (same (item.App id)) (λ key. same (item.Key id key))) in
+    (λ id. same_application l m id o p (application_at l id) (application_at m id) refl refl (same (item.App id)) (λ _ key. same (item.Key id key))) in
     let locals = same_map account_total account_same l.local_states m.local_states o.local_states p.local_states
     (λ x. local_values (local_state_at l x.0 x.1) (local_state_at m x.0 x.1) (same (item.Local x.0 x.1))) in
     λ i. record { next_id = next i; applications = apps i; local_states = locals i }

@@ -2,9 +2,10 @@
 use Rattle.std.proofs.Common.{◌≡◌, [], ◌∷◌, Option, None, Some, Ok, Err, refl, sym, ap, ◌∙◌, subst}
 use Rattle.std.specs.List.{Contains}
 use Rattle.std.proofs.lemmas.List.Elements.{Contains-append_left, Contains-append_right, Contains-push}
+use Rattle.teal_value.specs.Choice.{or_else}
 use Rattle.avm_items.specs.declared.item.Item.{Item}
 use Rattle.avm_items.specs.declared.item_value.ItemValue.{ItemValue}
-use Rattle.avm_items.specs.Items.{Look, Known, or_else, over}
+use Rattle.avm_items.specs.Items.{Look, Known, over}
 use Rattle.avm_items.specs.Asks.{Ask, Gives, Asks, Answer, and_then, result_over, items_asked, answer_at, answer_from, remaining_at, remaining_questions}
 use Rattle.avm_items.specs.Locality.{Extends, LookAgrees, AlikeOn, StaysWith, then}
 

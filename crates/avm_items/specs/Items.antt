@@ -5,6 +5,7 @@ use Rattle.std.specs.List.Sorted.{IsStrictlySortedBy}
 use Rattle.std.specs.Map.{lookup, keys_of}
 use Rattle.std.specs.BTreeMap.{insert_entry, is_at}
 use Rattle.teal_value.specs.declared.value.Value.{Value}
+use Rattle.teal_value.specs.Choice.{or_else}
 use Rattle.avm_ledger.specs.declared.application.Application.{Application}
 use Rattle.avm_states.specs.declared.schema.Schema.{Schema}
 use Rattle.avm_states.specs.Entries.{Entries, byte_cmp}
@@ -53,11 +54,6 @@ Look = Item → ItemValue
 -- the values that are known of some items
 abbrev pub Known : Type 0
 Known = Item → Option ItemValue
-
--- the first, and where there is none the second
-abbrev pub or_else : Option ItemValue → Option ItemValue → Option ItemValue
-or_else (Some v) other = Some v
-or_else None other = other
 
 -- what is known where the writes come before what was read
 abbrev pub over : Known → Known → Known

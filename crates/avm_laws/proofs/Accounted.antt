@@ -8,6 +8,7 @@ use Rattle.teal_value.specs.declared.value.Value.{Value}
 use Rattle.teal_value.specs.declared.fault.Fault.{Fault}
 use Rattle.teal_value.specs.declared.fault.Fault.TheVariants as fault
 use Rattle.teal_value.specs.Keys.{most_key_bytes}
+use Rattle.teal_value.specs.Choice.{or_else}
 use Rattle.teal_table.specs.declared.opcode.Opcode.{Opcode}
 use Rattle.teal_table.specs.declared.opcode.Opcode.TheVariants as op
 use Rattle.teal_code.specs.declared.decode.CodeFault.{CodeFault}
@@ -20,7 +21,7 @@ use Rattle.avm_items.specs.declared.item.Item.TheVariants as item
 use Rattle.avm_items.specs.declared.item_value.ItemValue.{ItemValue}
 use Rattle.avm_items.specs.declared.item_value.ItemValue.TheVariants as value
 use Rattle.avm_items.specs.CallFields.{account, new_keys}
-use Rattle.avm_items.specs.Items.{ItemMap, Known, Look, item_cmp, value_in, with_item, or_else, over, application_in, entry_in, local_state_in, kept_counts_in}
+use Rattle.avm_items.specs.Items.{ItemMap, Known, Look, item_cmp, value_in, with_item, over, application_in, entry_in, local_state_in, kept_counts_in}
 use Rattle.avm_items.specs.Asks.{Ask, Gives, Asks, and_then, result_over, items_asked, remaining_at, remaining_questions}
 use Rattle.avm_items.specs.Acts.{Act, found, on_ok, reads, test}
 use Rattle.avm_items.specs.Counting.{AsksAtMost, Any}

@@ -34,7 +34,7 @@ use Rattle.avm_items.specs.declared.item.Item.{Item}
 use Rattle.avm_items.specs.LedgerItems.{at}
 use Rattle.avm_items.specs.Asks.{result_over}
 use Rattle.avm_cpu.specs.Machine.{most_bytes}
-use Rattle.avm_ops.specs.Fields.{global_field_value}
+use Rattle.avm_ops.specs.Fields.{value_of_global_field}
 use Rattle.avm_ops.proofs.RowFacts.{OnOk}
 use Rattle.avm_ops.proofs.OperandValues.{OkOf, get_fits}
 use Rattle.avm_ops.proofs.Along.{along-each}
@@ -172,7 +172,7 @@ array_short call h number i = by (txn_field_at number)
     by None = tt
     by (Some f) = element_short call h i f
 
-global_short : (m : Ledger) (c : Context) → Bounds m c → (f : GlobalField) → OkOf IsShortValue (result_over (at m) (global_field_value c f))
+global_short : (m : Ledger) (c : Context) → Bounds m c → (f : GlobalField) → OkOf IsShortValue (result_over (at m) (value_of_global_field c f))
 global_short m c b global.CreatorAddress = creator_holds IsShortValue (omega arith) (at m (item.App c.current)) (b.items (item.App c.current))
 global_short m c b global.ZeroAddress = omega arith
 global_short m c b global.MinTxnFee = tt

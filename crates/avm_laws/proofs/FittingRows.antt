@@ -36,7 +36,7 @@ use Rattle.avm_items.specs.LedgerItems.{at, row_value, entry_value, counts_value
 use Rattle.avm_ops.specs.Frame.{Context, After, Stepped, there}
 use Rattle.avm_ops.specs.Immediates.{uint_of, bytes_of}
 use Rattle.avm_ops.specs.ByteStrings.{bit_count}
-use Rattle.avm_ops.specs.Fields.{txn_value, txn_array_value, scalar_field, array_field, profile_version, global_field_value}
+use Rattle.avm_ops.specs.Fields.{txn_value, txn_array_value, scalar_field, array_field, profile_version, value_of_global_field}
 use Rattle.avm_ops.specs.Effect.{effect}
 use Rattle.avm_laws.specs.Rules.{AreBytes, IsMachineValue, AreMachineValues, IsRowOfBytes, IsCallOfBytes, HasWords, IsSound}
 use Rattle.avm_ops.proofs.RowFacts.{OnOk}
@@ -231,7 +231,7 @@ items_fit m s (item.Local who id) = by (local_state_at m who id) (All-lookup Are
     by None h = tt
     by (Some state) h = h
 
-global_fits : (m : Ledger) (c : Context) → Fits m c → (f : GlobalField) → OkOf IsMachineValue (result_over (at m) (global_field_value c f))
+global_fits : (m : Ledger) (c : Context) → Fits m c → (f : GlobalField) → OkOf IsMachineValue (result_over (at m) (value_of_global_field c f))
 global_fits m c f global.CreatorAddress = creator_holds IsMachineValue (zeros_fit 32 (omega arith)) (at m (item.App c.current)) (items_fit m f.ledger (item.App c.current))
 global_fits m c f global.MinTxnFee = f.words.min_fee
 global_fits m c f global.MinBalance = f.words.min_balance

@@ -1,6 +1,7 @@
 -- The writes of a run, step by step, with the ledger that has them.
 use Rattle.std.proofs.Common.{◌≡◌, ℕ, zero, suc, ◌+◌, Bool, true, false, length, if◌then◌else◌, Option, None, Some, Result, Ok, Err, refl, sym, ◌∙◌, subst}
 use Rattle.std.specs.Prelude.{◌==◌, is_none, unwrap_or}
+use Rattle.teal_value.specs.Choice.{or_else}
 use Rattle.teal_code.specs.declared.decode.CodeFault.{CodeFault}
 use Rattle.teal_code.specs.declared.instr.Instr.{Instr}
 use Rattle.avm_ledger.specs.declared.application.Application.{Application}
@@ -12,7 +13,7 @@ use Rattle.avm_items.specs.declared.item.Item.TheVariants as item
 use Rattle.avm_items.specs.declared.item_value.ItemValue.{ItemValue}
 use Rattle.avm_items.specs.declared.item_value.ItemValue.TheVariants as value
 use Rattle.avm_items.specs.CallFields.{new_keys}
-use Rattle.avm_items.specs.Items.{ItemMap, Known, value_in, or_else, over}
+use Rattle.avm_items.specs.Items.{ItemMap, Known, value_in, over}
 use Rattle.avm_items.specs.LedgerItems.{at, put_one, row_value}
 use Rattle.avm_items.specs.Asks.{Gives, remaining_questions}
 use Rattle.avm_items.proofs.Puts.{keeps_others}

@@ -17,11 +17,12 @@ use Rattle.avm_items.specs.declared.item.Item.{Item}
 use Rattle.avm_items.specs.declared.item.Item.TheVariants as item
 use Rattle.avm_items.specs.declared.item_value.ItemValue.{ItemValue}
 use Rattle.avm_items.specs.declared.item_value.ItemValue.TheVariants as value
-use Rattle.avm_items.specs.Items.{ItemMap, Known, IsInItemOrder, item_cmp, value_in, with_item, or_else, over, entry_in, key_value, kept_counts_in}
+use Rattle.avm_items.specs.Items.{ItemMap, Known, IsInItemOrder, item_cmp, value_in, with_item, over, entry_in, key_value, kept_counts_in}
 use Rattle.avm_items.specs.LedgerItems.{at, put_one, row_value, counts_value, entry_value, is_of_gone}
 use Rattle.avm_items.specs.PutLaws.{MaySet, MayPut, is_counts, deletes}
 use Rattle.avm_items.proofs.Puts.{stays_in_order, keeps_others, item_total}
 use Rattle.teal_value.specs.declared.address.Address.{Address}
+use Rattle.teal_value.specs.Choice.{or_else}
 use Rattle.std.proofs.Common.{eq-eqb}
 use Rattle.std.specs.Cmp.{tied_itself}
 use Rattle.avm_laws.proofs.Given.{item_same, one_put}

@@ -24,7 +24,7 @@ use Rattle.avm_items.specs.declared.item_value.ItemValue.TheVariants as value
 use Rattle.avm_items.specs.Items.{ItemMap, IsInItemOrder, item_cmp, value_in, key_value}
 use Rattle.avm_items.specs.LedgerItems.{at, put_one, put, row_value, entry_value, local_value, is_of_gone, AreChanges}
 use Rattle.avm_items.specs.PutLaws.{MaySet, is_counts, deletes, MayPut}
-use Rattle.avm_items.proofs.Puts.{has_what_was_put_last, stays_in_order, item_same as same_if_equal, item_total, key_values, local_values}
+use Rattle.avm_items.proofs.Puts.{has_what_was_put_last, stays_in_order, item_same as same_if_equal, item_total, key_values, local_values, same_application}
 
 -- ---- items that tie are the same
 
@@ -39,17 +39,6 @@ next_ids e = cc
 -- the second ledger's items, but for counts and keys of applications that are gone, have these values
 abbrev pub HasItems : Ledger → (Item → ItemValue) → Type 0
 HasItems m look = (x : Item) → is_counts x ≡ false → is_of_gone m x ≡ false → look x ≡ at m x
-
-same_application : (l m : Ledger) (id : ℕ) → IsInOrder l → IsInOrder m → (a b : Option StoredApplication) → application_at l id ≡ a → application_at m id ≡ b
-    → row_value a ≡ row_value b → (is_none b ≡ false → (key : List ℕ) → entry_value a key ≡ entry_value b key) → a ≡ b
-same_application l m id o p None None d e rows entries = refl
-same_application l m id o p None (Some b) d e rows entries = absurd cc
-same_application l m id o p (Some a) None d e rows entries = absurd cc
-same_application l m id o p (Some a) (Some b) d e rows entries =
-    let row : a.row ≡ b.row = cc in
-    let state = same_map byte_total byte_same a.state b.state (o.global_states id a d) (p.global_states id b e)
-    (λ key. key_values (value_of_key a.state key) (value_of_key b.state key) (entries refl key)) in
-    λ i. Some (record { row = row i; state = state i })
 
 pub has_all : (l m : Ledger) → IsInOrder l → IsInOrder m → HasItems m (at l) → l ≡ m
 has_all l m o p same =

@@ -1,13 +1,14 @@
 -- What a run knows of an item is the value that the ledger with its own writes has.
 use Rattle.std.proofs.Common.{◌≡◌, ℕ, false, Option, None, Some, Ok, refl, sym, ap, ◌∙◌, subst}
 use Rattle.std.specs.Prelude.{is_none, unwrap_or}
+use Rattle.teal_value.specs.Choice.{or_else}
 use Rattle.avm_ledger.specs.Ledgers.{IsOrderly, Ledger, application_at}
 use Rattle.avm_items.specs.declared.item.Item.{Item}
 use Rattle.avm_items.specs.declared.item.Item.TheVariants as item
 use Rattle.avm_items.specs.declared.item_value.ItemValue.{ItemValue}
 use Rattle.avm_items.specs.declared.item_value.ItemValue.TheVariants as value
 use Rattle.avm_items.specs.CallFields.{creates, new_keys}
-use Rattle.avm_items.specs.Items.{value_in, or_else, over}
+use Rattle.avm_items.specs.Items.{value_in, over}
 use Rattle.avm_items.specs.Environments.{Environment, known_to}
 use Rattle.avm_items.specs.LedgerItems.{at, put, is_of_gone, AgreesWithReads}
 use Rattle.avm_items.specs.Asks.{result_over}

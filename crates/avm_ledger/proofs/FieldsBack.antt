@@ -9,7 +9,8 @@ use Rattle.std.specs.List.{All}
 use Rattle.std.proofs.lemmas.List.Elements.{All-head, All-tail}
 use Rattle.teal_value.specs.declared.address.Address.{Address}
 use Rattle.avm_states.specs.declared.schema.Schema.{Schema}
-use Rattle.avm_ledger.specs.FieldReader.{Front, address_at, schema_at, many_at, counted_at, bytes_at, number_at, short_string_at, string_at}
+use Rattle.teal_code.specs.Reader.{many_at}
+use Rattle.avm_ledger.specs.FieldReader.{Front, address_at, schema_at, counted_at, bytes_at, number_at, short_string_at, string_at}
 use Rattle.avm_ledger.specs.Spellings.{u8_bytes, u16_bytes, u32_bytes, u64_bytes}
 
 -- a step that succeeds, and what follows it

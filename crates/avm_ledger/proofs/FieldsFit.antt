@@ -4,8 +4,9 @@ use Rattle.std.specs.Int.{Width, w8, w16, w32, w64, byte_len, from_be_bytes}
 use Rattle.std.proofs.lemmas.List.Elements.{All-cons}
 use Rattle.teal_value.specs.declared.address.Address.{Address}
 use Rattle.avm_states.specs.declared.schema.Schema.{Schema}
-use Rattle.avm_ledger.specs.FieldReader.{Front, bytes_at, number_at, string_at, address_at, schema_at, many_at, counted_at}
+use Rattle.avm_ledger.specs.FieldReader.{Front, bytes_at, number_at, string_at, address_at, schema_at, counted_at}
 use Rattle.teal_code.proofs.Bytes.{AllBytes, byte_below, front_bytes}
+use Rattle.teal_code.specs.Reader.{many_at}
 use Rattle.avm_ledger.proofs.FieldsSpelled.{from, same_value, IsSpelled, bytes_spelled, byte_spelled}
 
 number_fits : {F : Type 0} (truncated : F) (w : Width) (most : ℕ) (bytes : List ℕ) (x : ℕ × List ℕ) → AllBytes bytes → ((bs : List ℕ) → ((i : ℕ) → get_or bs i 0 < 256) → from_be_bytes w bs < most)

@@ -9,9 +9,10 @@ use Rattle.std.proofs.lemmas.List.{length-take-le}
 use Rattle.teal_value.specs.Answer.{◌>>=◌}
 use Rattle.teal_value.proofs.Binding.{bind_ok}
 use Rattle.teal_code.proofs.Bytes.{AllBytes, byte_below, front_bytes, rest_bytes}
+use Rattle.teal_code.specs.Reader.{many_at}
 use Rattle.teal_value.specs.declared.address.Address.{Address}
 use Rattle.avm_states.specs.declared.schema.Schema.{Schema}
-use Rattle.avm_ledger.specs.FieldReader.{Front, bytes_at, number_at, short_string_at, string_at, address_at, schema_at, many_at, counted_at}
+use Rattle.avm_ledger.specs.FieldReader.{Front, bytes_at, number_at, short_string_at, string_at, address_at, schema_at, counted_at}
 use Rattle.avm_ledger.specs.Spellings.{u8_bytes, u16_bytes, u32_bytes, u64_bytes, short_string_bytes, string_bytes, counted_bytes, schema_bytes}
 
 -- a step that succeeded, for a goal

@@ -18,7 +18,7 @@ use Rattle.teal_value.specs.declared.value.Value.TheVariants.{Uint, Bytes}
 use Rattle.teal_value.specs.declared.address.Address.{Address}
 use Rattle.teal_check.specs.WellFormed.{WellFormed, checked}
 use Rattle.teal_check.specs.declared.fault.CheckFault.{CheckFault}
-use Rattle.avm_ledger.specs.declared.ledger_fault.LedgerFault.TheVariants.{Truncated}
+use Rattle.avm_ledger.specs.declared.ledger_fault.LedgerFault.TheVariants.{Truncated, Rest}
 use Rattle.avm_states.specs.declared.schema.Schema.{Schema}
 use Rattle.avm_states.specs.Entries.{Entries, byte_cmp}
 use Rattle.avm_ledger.specs.declared.application.StoredApplication.{StoredApplication}
@@ -26,8 +26,8 @@ use Rattle.avm_ledger.specs.Ledgers.{Ledger, account_cmp}
 use Rattle.avm_states.specs.Schemas.{count_with, count_without, counts_in}
 use Rattle.teal_code.specs.Limits.{most_program_bytes}
 use Rattle.avm_ledger.specs.Spellings.{string_bytes, schema_bytes, counted_bytes, u8_bytes, u16_bytes, u32_bytes, u64_bytes, application_bytes, local_state_bytes, ledger_bytes, value_bytes, entry_bytes, state_bytes}
-use Rattle.avm_ledger.specs.FieldReader.{number_at, short_string_at}
-use Rattle.avm_ledger.specs.LedgerReader.{tested, Room, local_room, room_of_schema, stored_in, limited_schema_at, program_at, stored_application_at, id_between, applications_at, is_no_lower, rises_from_pair, account_at, local_id_at, local_states_at, next_id_at, ledger_front, alone, ledger_at, rises_from_key, key_at, value_of_kind, value_at, entries_at, state_of_count, state_at}
+use Rattle.avm_ledger.specs.FieldReader.{number_at, short_string_at, alone}
+use Rattle.avm_ledger.specs.LedgerReader.{tested, Room, local_room, room_of_schema, stored_in, limited_schema_at, program_at, stored_application_at, id_between, applications_at, is_no_lower, rises_from_pair, account_at, local_id_at, local_states_at, next_id_at, ledger_front, ledger_at, rises_from_key, key_at, value_of_kind, value_at, entries_at, state_of_count, state_at}
 use Rattle.avm_ledger.specs.LedgerRules.{IsStateValue, IsStateEntry, IsStateIn, IsApplicationBelow, IsLocalStateBelow, KeepsRules, IsCountable}
 use Rattle.avm_ledger.proofs.FieldsBack.{then, address_back, schema_back, byte_back, u32_back, u64_back, short_string_back, string_back}
 
@@ -270,7 +270,7 @@ ledger_back l rest keeps count =
 
 pub ledger_back_alone : (l : Ledger) → KeepsRules l → IsCountable l → ledger_at (ledger_bytes l) ≡ Ok l
 ledger_back_alone l keeps count =
-    ap ledger_at (sym (append-nil (ledger_bytes l))) ∙ then (ledger_front (ledger_bytes l ++ [])) (l, []) alone (Ok l) (ledger_back l [] keeps count) refl
+    ap ledger_at (sym (append-nil (ledger_bytes l))) ∙ then (ledger_front (ledger_bytes l ++ [])) (l, []) (alone Rest) (Ok l) (ledger_back l [] keeps count) refl
 
 pub none_begins : (l m : Ledger) (x y : List ℕ) → KeepsRules l → IsCountable l → KeepsRules m → IsCountable m → ledger_bytes l ++ x ≡ ledger_bytes m ++ y → (l ≡ m) × (x ≡ y)
 none_begins l m x y keeps count keeps' count' e =

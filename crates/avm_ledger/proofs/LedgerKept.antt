@@ -15,14 +15,14 @@ use Rattle.teal_value.specs.declared.value.Value.{Value}
 use Rattle.teal_value.specs.declared.value.Value.TheVariants.{Uint, Bytes}
 use Rattle.teal_value.specs.declared.address.Address.{Address}
 use Rattle.teal_check.specs.WellFormed.{checked}
-use Rattle.avm_ledger.specs.declared.ledger_fault.LedgerFault.TheVariants.{Malformed, Truncated}
+use Rattle.avm_ledger.specs.declared.ledger_fault.LedgerFault.TheVariants.{Malformed, Truncated, Rest}
 use Rattle.avm_states.specs.declared.schema.Schema.{Schema}
 use Rattle.avm_states.specs.Entries.{Entries, byte_cmp}
 use Rattle.avm_ledger.specs.declared.application.StoredApplication.{StoredApplication}
 use Rattle.avm_ledger.specs.Ledgers.{Ledger, account_cmp}
 use Rattle.avm_states.specs.Schemas.{count_with, count_without, counts_in}
-use Rattle.avm_ledger.specs.FieldReader.{number_at, short_string_at, string_at, address_at, schema_at}
-use Rattle.avm_ledger.specs.LedgerReader.{tested, Room, local_room, room_of_schema, stored_in, rises_from_key, key_at, uint_at, bytes_value_at, value_of_kind, value_at, entries_at, state_of_count, state_at, limited_schema_at, program_at, stored_application_at, id_between, applications_at, rises_from_pair, is_no_lower, account_at, local_id_at, local_states_at, next_id_at, ledger_front, alone, ledger_at}
+use Rattle.avm_ledger.specs.FieldReader.{number_at, short_string_at, string_at, address_at, schema_at, alone}
+use Rattle.avm_ledger.specs.LedgerReader.{tested, Room, local_room, room_of_schema, stored_in, rises_from_key, key_at, uint_at, bytes_value_at, value_of_kind, value_at, entries_at, state_of_count, state_at, limited_schema_at, program_at, stored_application_at, id_between, applications_at, rises_from_pair, is_no_lower, account_at, local_id_at, local_states_at, next_id_at, ledger_front, ledger_at}
 use Rattle.avm_ledger.specs.LedgerRules.{IsStateValue, IsStateEntry, IsStateIn, IsApplicationBelow, IsLocalStateBelow, KeepsRules, IsCountable}
 use Rattle.sorted_entries.proofs.Maps.{all_below}
 use Rattle.avm_ledger.proofs.Changes.{account_total}
@@ -311,5 +311,5 @@ front_kept bytes x all e =
 
 pub ledger_kept : (bytes : List ℕ) (l : Ledger) → All (λ b. b < 256) bytes → ledger_at bytes ≡ Ok l → KeepsRules l × IsCountable l
 ledger_kept bytes l all e =
-    from (ledger_front bytes) alone l e (λ f ef e1.
+    from (ledger_front bytes) (alone Rest) l e (λ f ef e1.
     subst (λ m. KeepsRules m × IsCountable m) (at_end l f.0 f.1 (eqb (length f.1) 0) refl e1).0 (front_kept bytes f (all_bytes bytes all) ef))

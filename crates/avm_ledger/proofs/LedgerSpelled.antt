@@ -15,8 +15,8 @@ use Rattle.avm_ledger.specs.declared.application.StoredApplication.{StoredApplic
 use Rattle.avm_ledger.specs.Ledgers.{Ledger}
 use Rattle.avm_states.specs.Schemas.{count_without}
 use Rattle.avm_ledger.specs.Spellings.{u8_bytes, u32_bytes, u64_bytes, short_string_bytes, string_bytes, counted_bytes, value_bytes, entry_bytes, state_bytes, schema_bytes, application_bytes, local_state_bytes, ledger_bytes}
-use Rattle.avm_ledger.specs.FieldReader.{number_at, short_string_at, string_at, address_at, schema_at}
-use Rattle.avm_ledger.specs.LedgerReader.{tested, Room, local_room, room_of_schema, stored_in, key_at, uint_at, bytes_value_at, value_of_kind, value_at, entries_at, state_of_count, state_at, limited_schema_at, program_at, stored_application_at, id_between, applications_at, account_at, local_id_at, local_states_at, next_id_at, ledger_front, alone, ledger_at}
+use Rattle.avm_ledger.specs.FieldReader.{number_at, short_string_at, string_at, address_at, schema_at, alone}
+use Rattle.avm_ledger.specs.LedgerReader.{tested, Room, local_room, room_of_schema, stored_in, key_at, uint_at, bytes_value_at, value_of_kind, value_at, entries_at, state_of_count, state_at, limited_schema_at, program_at, stored_application_at, id_between, applications_at, account_at, local_id_at, local_states_at, next_id_at, ledger_front, ledger_at}
 use Rattle.teal_value.proofs.Binding.{bind_ok}
 use Rattle.teal_code.proofs.Bytes.{AllBytes, all_bytes}
 use Rattle.avm_ledger.proofs.FieldsSpelled.{from, same_value, one_more, IsSpelled, spelled, join, byte_spelled, u32_spelled, u64_spelled, short_string_spelled, string_spelled, address_spelled, schema_spelled}
@@ -234,7 +234,7 @@ at_end l m rest false test e = absurd cc
 
 pub ledger_spelled : (bytes : List ℕ) (l : Ledger) → All (λ b. b < 256) bytes → ledger_at bytes ≡ Ok l → ledger_bytes l ≡ bytes
 ledger_spelled bytes l all e =
-    let f = bind_ok (ledger_front bytes) alone l e in
+    let f = bind_ok (ledger_front bytes) (alone Rest) l e in
     let front = front_spelled bytes f.0 (all_bytes bytes all) f.1 in
     let end = at_end l f.0.0 f.0.1 (eqb (length f.0.1) 0) refl f.2 in
     sym (front.same ∙ ap (λ rest. ledger_bytes f.0.0 ++ rest) end.1 ∙ append-nil (ledger_bytes f.0.0) ∙ ap ledger_bytes end.0)

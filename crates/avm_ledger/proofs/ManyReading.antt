@@ -4,7 +4,8 @@ use Rattle.std.proofs.lemmas.List.{append-nil}
 use Rattle.teal_value.specs.Answer.{Fails}
 use Rattle.teal_value.specs.declared.failure.Failure.{Failure}
 use Rattle.teal_value.specs.declared.failure.Failure.TheVariants as failure
-use Rattle.avm_ledger.specs.FieldReader.{Front, many_at}
+use Rattle.teal_code.specs.Reader.{many_at}
+use Rattle.avm_ledger.specs.FieldReader.{Front}
 use Rattle.avm_ledger.proofs.FieldsBack.{then}
 use Rattle.avm_ledger.proofs.RisingReading.{with_front, none_in_front, one_in_front, stopped}
 

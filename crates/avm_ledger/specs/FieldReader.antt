@@ -1,9 +1,10 @@
 -- Reading fields from the front of bytes. A field that the bytes end in has the fault that is named first.
-use Rattle.std.specs.Prelude.{ℕ, zero, suc, nat_lt, if◌then◌else◌, List, [], ◌∷◌, length, take, drop, Result, Ok, Err}
+use Rattle.std.specs.Prelude.{ℕ, ◌==◌, nat_lt, if◌then◌else◌, List, length, take, drop, Result, Ok, Err}
 use Rattle.std.specs.Int.{Width, w8, w16, byte_len, from_be_bytes}
 use Rattle.teal_value.specs.Answer.{◌>>=◌}
 use Rattle.teal_value.specs.declared.address.Address.{Address}
 use Rattle.avm_states.specs.declared.schema.Schema.{Schema}
+use Rattle.teal_code.specs.Reader.{many_at}
 
 -- a value, and the bytes behind it
 abbrev pub Front : Type 0 → Type 0 → Type 0
@@ -33,14 +34,10 @@ schema_at truncated bytes = do
   strings ← number_at truncated w8 uints.1
   Ok (record { uints = uints.0; bytes = strings.0 }, strings.1)
 
--- so many values, one after another
-abbrev pub many_at : {A F : Type 0} → (List ℕ → Front F A) → ℕ → List ℕ → Front F (List A)
-many_at one zero bytes = Ok ([], bytes)
-many_at one (suc n) bytes = do
-  x ← one bytes
-  xs ← many_at one n x.1
-  Ok (x.0 ∷ xs.0, xs.1)
-
 -- a count of one byte, and so many values
 abbrev pub counted_at : {A F : Type 0} → F → (List ℕ → Front F A) → List ℕ → Front F (List A)
 counted_at truncated one bytes = number_at truncated w8 bytes >>= λ n. many_at one n.0 n.1
+
+-- a value that no bytes stand behind; such bytes have the fault that is named
+abbrev pub alone : {A F : Type 0} → F → A × List ℕ → Result A F
+alone rest x = if length x.1 == 0 then Ok x.0 else Err rest

@@ -18,7 +18,7 @@ use Rattle.avm_states.specs.Entries.{Entries, byte_cmp, most_value_bytes}
 use Rattle.avm_ledger.specs.declared.application.StoredApplication.{StoredApplication}
 use Rattle.avm_ledger.specs.Ledgers.{Ledger, account_cmp}
 use Rattle.avm_states.specs.Schemas.{count_without, most_global_entries, most_local_entries}
-use Rattle.avm_ledger.specs.FieldReader.{Front, number_at, short_string_at, string_at, address_at, schema_at}
+use Rattle.avm_ledger.specs.FieldReader.{Front, number_at, short_string_at, string_at, address_at, schema_at, alone}
 
 -- a field that keeps a rule
 abbrev pub tested : {A : Type 0} → Bool → A × List ℕ → Front LedgerFault A
@@ -163,10 +163,6 @@ ledger_front bytes = do
   locals ← local_states_at states.0 None next.0 apps.0 states.1
   Ok (record { next_id = next.0; applications = apps.0; local_states = locals.0 }, locals.1)
 
--- nothing behind it
-abbrev pub alone : {A : Type 0} → A × List ℕ → Result A LedgerFault
-alone x = if length x.1 == 0 then Ok x.0 else Err Rest
-
 -- the ledger that the bytes are
 abbrev pub ledger_at : List ℕ → Result Ledger LedgerFault
-ledger_at bytes = ledger_front bytes >>= alone
+ledger_at bytes = ledger_front bytes >>= alone Rest

@@ -24,8 +24,8 @@ abbrev pub falling_keys : List ℕ
 falling_keys = 2 ∷ 1 ∷ 0x62 ∷ 2 ∷ 1 ∷ 120 ∷ 1 ∷ 0x61 ∷ 1 ∷ zeros 7 ++ 7 ∷ []
 
 -- two uints under the keys a and b, up to the kind of the second
-abbrev pub two_uints : List ℕ
-two_uints = 2 ∷ 1 ∷ 0x61 ∷ 1 ∷ zeros 7 ++ 7 ∷ 1 ∷ 0x62 ∷ 1 ∷ []
+abbrev pub two_uint_entries : List ℕ
+two_uint_entries = 2 ∷ 1 ∷ 0x61 ∷ 1 ∷ zeros 7 ++ 7 ∷ 1 ∷ 0x62 ∷ 1 ∷ []
 
 -- a local state of the zero address and application 1, with the entry k: no bytes
 abbrev pub one_local_state : List ℕ

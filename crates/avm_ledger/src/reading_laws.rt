@@ -5,7 +5,7 @@ ghost use Rattle.avm_ledger.specs.declared.ledger_fault.LedgerFault.TheVariants.
 ghost use Rattle.avm_ledger.specs.Ledgers.{empty_ledger};
 ghost use Rattle.avm_ledger.specs.Spellings.{ledger_bytes};
 ghost use Rattle.avm_ledger.specs.LedgerReader.{ledger_at};
-ghost use Rattle.avm_ledger.specs.WorkedLedgers.{falling_keys, one_local_state, two_entries, two_uints, up_to_state, worked_ledger, zeros};
+ghost use Rattle.avm_ledger.specs.WorkedLedgers.{falling_keys, one_local_state, two_entries, two_uint_entries, up_to_state, worked_ledger, zeros};
 ghost use Rattle.avm_ledger.specs.LedgerRoundTrip.{KeepsTheRules, NoneBeginsAnother, ReadsBack, ReadsBackAlone, SpellsBack};
 
 /// A ledger that keeps the rules is read from its bytes.
@@ -36,7 +36,7 @@ pub fn worked_ledgers()
     ensures byte_behind { ledger_at (zeros 7 ++ 1 ∷ zeros 9) ≡ Err Rest }
     ensures falling_keys { ledger_at (up_to_state ++ falling_keys ++ zeros 4) ≡ Err Malformed }
     ensures three_entries { ledger_at (up_to_state ++ 3 ∷ []) ≡ Err Malformed }
-    ensures second_uint { ledger_at (up_to_state ++ two_uints) ≡ Err Malformed }
+    ensures second_uint { ledger_at (up_to_state ++ two_uint_entries) ≡ Err Malformed }
     ensures end_in_a_key { ledger_at (up_to_state ++ 1 ∷ 65 ∷ zeros 64) ≡ Err Truncated }
     ensures long_key { ledger_at (up_to_state ++ 1 ∷ 65 ∷ zeros 65) ≡ Err Malformed }
     ensures id_of_the_next { ledger_at (zeros 7 ++ 1 ∷ 0 ∷ 0 ∷ 0 ∷ 1 ∷ zeros 7 ++ 1 ∷ []) ≡ Err Malformed }

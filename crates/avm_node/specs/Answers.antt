@@ -8,7 +8,7 @@ use Rattle.teal_source.specs.FaultNames.{asm_fault_name}
 use Rattle.teal_asm.specs.Program.{assembled}
 use Rattle.avm_words.specs.declared.command_line.NodeCommand.{NodeCommand}
 use Rattle.avm_words.specs.declared.command_line.NodeCommand.TheVariants.{Asm, Check, Debug, Dis, Propose, Replay, State}
-use Rattle.avm_node.specs.Replies.{Reply, done, failed, input_refusal, refused, usage_reply}
+use Rattle.avm_node.specs.Replies.{Reply, succeeded, failed, input_refusal, refused, usage_reply}
 use Rattle.avm_node.specs.Programs.{check_reply, dis_reply}
 use Rattle.avm_node.specs.BlockCommands.{IsReplayReply, state_reply}
 use Rattle.avm_node.specs.ProposeCommands.{IsProposeReply}
@@ -20,7 +20,7 @@ input_limit = 16777216
 
 -- the program in lower-case digits, or the line and the name of the fault
 abbrev pub assembly_reply : Result (List ℕ) AsmFault → Reply
-assembly_reply (Ok program) = record { text = encode_lower program ++ codes "\n"; status = done }
+assembly_reply (Ok program) = record { text = encode_lower program ++ codes "\n"; status = succeeded }
 assembly_reply (Err fault) = record {
   text = codes "refused asm " ++ (decimal fault.line ++ (codes " " ++ (asm_fault_name fault.kind ++ codes "\n")));
   status = refused;

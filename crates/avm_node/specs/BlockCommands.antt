@@ -19,7 +19,7 @@ use Rattle.avm_replay.specs.Past.{ledger_until}
 use Rattle.avm_node.specs.declared.refusal.Refusal.{Refusal}
 use Rattle.avm_node.specs.declared.refusal.Refusal.TheVariants as refusal
 use Rattle.avm_node.specs.Outcomes.{outcome_text}
-use Rattle.avm_node.specs.Replies.{Reply, done, refused}
+use Rattle.avm_node.specs.Replies.{Reply, succeeded, refused}
 use Rattle.avm_node.specs.Refusals.{refusal_reply}
 use Rattle.avm_node.specs.DigitLines.{DigitLine, line_bytes, digit_lines, with_no_line}
 
@@ -48,7 +48,7 @@ ledger_and_block lines = first_ledger lines >>= λ l. first_block l.1 >>= λ b. 
 
 -- agreement, with the digest of the ledger after
 abbrev pub agrees_reply : List ℕ → Reply
-agrees_reply digest = record { text = codes "agrees " ++ (encode_lower digest ++ codes "\n"); status = done }
+agrees_reply digest = record { text = codes "agrees " ++ (encode_lower digest ++ codes "\n"); status = succeeded }
 
 -- a verdict
 abbrev pub verdict_reply : Verdict → Reply
@@ -79,7 +79,7 @@ abbrev pub past_ledger_at : ℕ → List ℕ → Result Ledger Refusal
 past_ledger_at timestamp input = ledger_and_block (digit_lines input) >>= past_of timestamp
 
 abbrev pub ledger_reply : Result Ledger Refusal → Reply
-ledger_reply (Ok l) = record { text = encode_lower (ledger_bytes l) ++ codes "\n"; status = done }
+ledger_reply (Ok l) = record { text = encode_lower (ledger_bytes l) ++ codes "\n"; status = succeeded }
 ledger_reply (Err why) = refusal_reply why
 
 -- what `state --at T` answers to an input

@@ -15,7 +15,7 @@ use Rattle.avm_node.specs.declared.refusal.Refusal.TheVariants as refusal
 use Rattle.avm_node.specs.BlockCommands.{ledger_and_block}
 use Rattle.avm_node.specs.DigitLines.{digit_lines}
 use Rattle.avm_node.specs.Refusals.{refusal_reply}
-use Rattle.avm_node.specs.Replies.{Reply, done}
+use Rattle.avm_node.specs.Replies.{Reply, succeeded}
 use Rattle.avm_node.specs.ViewTexts.{view_text}
 
 -- ---- the steps of a call's program over the ledger that the call met
@@ -66,7 +66,7 @@ OneFinding = (input : Ledger × Block) (number steps : ℕ) (r s : Result View R
 -- ---- the answer
 
 abbrev pub view_reply : Result View Refusal → Reply
-view_reply (Ok v) = record { text = view_text v; status = done }
+view_reply (Ok v) = record { text = view_text v; status = succeeded }
 view_reply (Err why) = refusal_reply why
 
 -- what is found, or the refusal of the input

@@ -6,7 +6,7 @@ use Rattle.teal_check.specs.WellFormed.{WellFormed, checked}
 use Rattle.teal_dis.specs.Listing.{listing}
 use Rattle.avm_node.specs.declared.refusal.Refusal.{Refusal}
 use Rattle.avm_node.specs.declared.refusal.Refusal.TheVariants as refusal
-use Rattle.avm_node.specs.Replies.{Reply, done}
+use Rattle.avm_node.specs.Replies.{Reply, succeeded}
 use Rattle.avm_node.specs.Refusals.{refusal_reply}
 use Rattle.avm_node.specs.DigitLines.{DigitLine, digit_lines, first_bytes, with_no_line}
 
@@ -35,7 +35,7 @@ size_text program = codes "ok instructions " ++ (decimal (length program.placed)
 
 -- a text about the program, or the refusal
 abbrev pub program_reply : (WellFormed → List ℕ) → Result WellFormed Refusal → Reply
-program_reply text_of (Ok program) = record { text = text_of program; status = done }
+program_reply text_of (Ok program) = record { text = text_of program; status = succeeded }
 program_reply text_of (Err why) = refusal_reply why
 
 -- what `dis` answers to an input: the listing

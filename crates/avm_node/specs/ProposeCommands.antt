@@ -14,14 +14,14 @@ use Rattle.avm_node.specs.declared.refusal.Refusal.{Refusal}
 use Rattle.avm_node.specs.DigitLines.{digit_lines}
 use Rattle.avm_node.specs.ProposeInputs.{ProposeInput, propose_input}
 use Rattle.avm_node.specs.Refusals.{refusal_reply}
-use Rattle.avm_node.specs.Replies.{Reply, done, refused}
+use Rattle.avm_node.specs.Replies.{Reply, succeeded, refused}
 
 abbrev pub left_line : ℕ → List ℕ
 left_line number = codes "left " ++ (decimal number ++ codes "\n")
 
 -- the block in lower-case digits, and a line for each call that is left
 abbrev pub proposal_reply : Proposal → Reply
-proposal_reply p = record { text = encode_lower (block_bytes p.block) ++ (codes "\n" ++ flat_map left_line p.left.items); status = done }
+proposal_reply p = record { text = encode_lower (block_bytes p.block) ++ (codes "\n" ++ flat_map left_line p.left.items); status = succeeded }
 
 abbrev pub pool_reply : PoolFault → Reply
 pool_reply f = record { text = codes "refused pool " ++ (pool_fault_name f ++ codes "\n"); status = refused }

@@ -6,9 +6,9 @@ pub record Reply : Type 0 where
   pub text : List ℕ
   pub status : ℕ
 
--- the statuses: done, refused, a wrong command line, and no answer for a failed read or write or for want of memory
-abbrev pub done : ℕ
-done = 0
+-- the statuses: succeeded, refused, a wrong command line, and no answer for a failed read or write or for want of memory
+abbrev pub succeeded : ℕ
+succeeded = 0
 
 abbrev pub refused : ℕ
 refused = 1

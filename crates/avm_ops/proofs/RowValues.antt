@@ -41,7 +41,7 @@ use Rattle.avm_ops.specs.Immediates.{index_of, offset_of, field_of, group_index_
 use Rattle.avm_ops.specs.Numbers.{of_two_uints, is_less, is_greater, is_at_most, is_at_least, are_both_nonzero, is_either_nonzero, is_nonzero, if_equal, is_zero, inverted, sum_of, difference_of, product_of, quotient_of, remainder_of, bits_or, bits_and, bits_xor, compares, are_equal, equality, wide, wide_product, wide_sum, of_one_uint}
 use Rattle.avm_ops.specs.ByteStrings.{of_bytes, length_of, number_of_bytes, bytes_of_number, digest_by, range_of, bit_count, bit_of_value, value_with_bit}
 use Rattle.avm_ops.specs.Stack.{jump_by}
-use Rattle.avm_ops.specs.Fields.{zero_address_bytes, scalar_field, array_field, is_in_group, global_field_value, global_at}
+use Rattle.avm_ops.specs.Fields.{zero_address_bytes, scalar_field, array_field, is_in_group, value_of_global_field, global_at}
 use Rattle.avm_ops.specs.States.{value_length, application, application_named, foreign_of, global_entry, may_put, or_zero, the_local_state, global_put_over, global_delete_of, leaves}
 use Rattle.avm_ops.specs.Effect.{effect}
 use Rattle.avm_ops.proofs.RowFacts.{OnOk}
@@ -95,7 +95,7 @@ pub record IsGiven (V : Value → Type 0) (m : Ledger) (c : Context) (i : Immedi
   pub bytes : V (Bytes (bytes_of i))
   pub scalar : (number : ℕ) → OkOf V (scalar_field c.call number)
   pub element : (number k : ℕ) → OkOf V (array_field c.call number k)
-  pub global : (f : GlobalField) → OkOf V (result_over (at m) (global_field_value c f))
+  pub global : (f : GlobalField) → OkOf V (result_over (at m) (value_of_global_field c f))
   pub items : (x : Item) → Holds V (at m x)
   pub stands : is_none (application_at m c.current) ≡ false
 

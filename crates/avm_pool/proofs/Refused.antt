@@ -14,7 +14,7 @@ use Rattle.mv_parts.specs.declared.open_fault.OpenFault.TheVariants.{Profile, To
 use Rattle.mv_parts.specs.Opening.{open_fault}
 use Rattle.avm_pool.specs.declared.pool_fault.PoolFault.{PoolFault}
 use Rattle.avm_pool.specs.declared.pool_fault.PoolFault.TheVariants as fault
-use Rattle.avm_pool.specs.Refusals.{AreFull, IsRefusal, IsTestRefusal, IsWant, MayPropose}
+use Rattle.avm_pool.specs.Refusals.{AreFull, IsRefusal, IsPoolTestRefusal, IsWant, MayPropose}
 
 module _ {O : Type 0} (opcode : O → Opcode) where
   own_is_full_in : (sets : List (Slots O)) (own : Slots O) → AreFull opcode sets own → IsFull opcode own
@@ -37,7 +37,7 @@ module _ {O : Type 0} (opcode : O → Opcode) where
       let few : nat_lt most_calls (length calls) ≡ false = let l = may.workers.calls_few in grind (arith, nat_tests) in
       ap (λ b. if b then Some TooMany else option_map Profile (first_beyond header.profile 1 calls)) few ∙ ap (option_map Profile) may.within
 
-  tests_are_refusals : (sets : List (Slots O)) (own : Slots O) (header : Header) (calls : List CallData) (f : PoolFault) → IsTestRefusal opcode sets own header calls f → IsRefusal opcode sets own header calls (failure.Fault f)
+  tests_are_refusals : (sets : List (Slots O)) (own : Slots O) (header : Header) (calls : List CallData) (f : PoolFault) → IsPoolTestRefusal opcode sets own header calls f → IsRefusal opcode sets own header calls (failure.Fault f)
   tests_are_refusals sets own header calls fault.Workers h = h
   tests_are_refusals sets own header calls (fault.OpMissing code) h = h
   tests_are_refusals sets own header calls (fault.Profile number) h = h
@@ -45,7 +45,7 @@ module _ {O : Type 0} (opcode : O → Opcode) where
   tests_are_refusals sets own header calls fault.ClockEnd h = absurd h
 
   -- the same for lists that are equal
-  pub refused_for : (sets sets' : List (Slots O)) (own : Slots O) (header : Header) (calls calls' : List CallData) → sets' ≡ sets → calls' ≡ calls → (f : PoolFault) → IsTestRefusal opcode sets' own header calls' f → IsRefusal opcode sets own header calls (failure.Fault f)
+  pub refused_for : (sets sets' : List (Slots O)) (own : Slots O) (header : Header) (calls calls' : List CallData) → sets' ≡ sets → calls' ≡ calls → (f : PoolFault) → IsPoolTestRefusal opcode sets' own header calls' f → IsRefusal opcode sets own header calls (failure.Fault f)
   refused_for sets sets' own header calls calls' s c f h =
       let P : List (Slots O) → Type 0 = λ x. IsRefusal opcode x own header calls (failure.Fault f) in
       let Q : List CallData → Type 0 = λ y. IsRefusal opcode sets' own header y (failure.Fault f) in

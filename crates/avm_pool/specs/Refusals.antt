@@ -34,11 +34,11 @@ pub record MayPropose {O : Type 0} (opcode : O → Opcode) (sets : List (Slots O
   pub within : first_beyond header.profile 1 calls ≡ None
 
 -- the first of the tests that fails
-abbrev pub IsTestRefusal : {O : Type 0} → (O → Opcode) → List (Slots O) → Slots O → Header → List CallData → PoolFault → Type 0
-IsTestRefusal opcode sets own header calls fault.Workers = HasWorkers sets calls → ⊥
-IsTestRefusal opcode sets own header calls (fault.OpMissing code) = HasWorkers sets calls × IsFirstMissing opcode sets own code
-IsTestRefusal opcode sets own header calls (fault.Profile number) = HasWorkers sets calls × AreFull opcode sets own × (first_beyond header.profile 1 calls ≡ Some number)
-IsTestRefusal opcode sets own header calls _ = ⊥
+abbrev pub IsPoolTestRefusal : {O : Type 0} → (O → Opcode) → List (Slots O) → Slots O → Header → List CallData → PoolFault → Type 0
+IsPoolTestRefusal opcode sets own header calls fault.Workers = HasWorkers sets calls → ⊥
+IsPoolTestRefusal opcode sets own header calls (fault.OpMissing code) = HasWorkers sets calls × IsFirstMissing opcode sets own code
+IsPoolTestRefusal opcode sets own header calls (fault.Profile number) = HasWorkers sets calls × AreFull opcode sets own × (first_beyond header.profile 1 calls ≡ Some number)
+IsPoolTestRefusal opcode sets own header calls _ = ⊥
 
 -- what the threads or the memory were wanting
 abbrev pub IsWant : Failure PoolFault → Type 0
@@ -52,4 +52,4 @@ abbrev pub IsRefusal : {O : Type 0} → (O → Opcode) → List (Slots O) → Sl
 IsRefusal opcode sets own header calls failure.Memory = MayPropose opcode sets own header calls
 IsRefusal opcode sets own header calls (failure.Fault fault.Spawn) = MayPropose opcode sets own header calls
 IsRefusal opcode sets own header calls (failure.Fault fault.ClockEnd) = MayPropose opcode sets own header calls
-IsRefusal opcode sets own header calls (failure.Fault f) = IsTestRefusal opcode sets own header calls f
+IsRefusal opcode sets own header calls (failure.Fault f) = IsPoolTestRefusal opcode sets own header calls f

@@ -2,7 +2,7 @@
 
 ghost use Rattle.std.specs.Prelude.{IfNone, IfSome};
 ghost use Rattle.avm_ops.specs.Objects.{IsFull};
-ghost use Rattle.avm_pool.specs.Refusals.{AreFull, IsFirstMissing, IsTestRefusal, MayPropose};
+ghost use Rattle.avm_pool.specs.Refusals.{AreFull, IsFirstMissing, IsPoolTestRefusal, MayPropose};
 
 use crate::pool_fault::PoolFault;
 use avm_block::MAX_ENTRIES;
@@ -21,7 +21,7 @@ pub(crate) fn pool_fault(
     header: &Header,
     calls: &[Call],
 ) -> Option<PoolFault>
-    ensures some { IfSome result (IsTestRefusal ⟦<BoxedOp as Op>⟧.opcode sets.now own.now header.now calls.now) }
+    ensures some { IfSome result (IsPoolTestRefusal ⟦<BoxedOp as Op>⟧.opcode sets.now own.now header.now calls.now) }
     ensures none { IfNone result (MayPropose ⟦<BoxedOp as Op>⟧.opcode sets.now own.now header.now calls.now) }
 {
     if sets.is_empty() || sets.len() > MAX_WORKERS || calls.len() > MAX_ENTRIES {

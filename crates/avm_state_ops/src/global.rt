@@ -5,7 +5,7 @@ ghost use Rattle.teal_table.specs.declared.opcode.Opcode.TheVariants as op;
 ghost use Rattle.avm_items.specs.Asks.{answer_from};
 ghost use Rattle.avm_items.specs.Environments.{known_to};
 ghost use Rattle.avm_cpu.specs.Machine.{Machine};
-ghost use Rattle.avm_ops.specs.Fields.{global_field_value, global_at, profile_version};
+ghost use Rattle.avm_ops.specs.Fields.{value_of_global_field, global_at, profile_version};
 ghost use Rattle.avm_ops.specs.Objects.{context_of};
 ghost use Rattle.avm_state_ops.specs.Parts.{Answers};
 
@@ -36,7 +36,7 @@ fn profile_version(profile: Profile) -> u64
 
 /// The value of a field.
 fn global_value(alloc: Global, env: &Env, field: GlobalField) -> Result<Value, Stop>
-    ensures { (m : Machine) → Answers (λ v. v) result (answer_from (known_to env.now) (global_field_value (context_of m env.now) field)) }
+    ensures { (m : Machine) → Answers (λ v. v) result (answer_from (known_to env.now) (value_of_global_field (context_of m env.now) field)) }
 {
     let header = env.header();
     match field {

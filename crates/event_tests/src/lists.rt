@@ -8,6 +8,7 @@ use avm_ops::{BoxedOp, Op, OpSet};
 use avm_replay::{Verdict, replay, state_at};
 use mv_core::{Event, Store, World, run_events};
 use mv_parts::Sealed;
+use sample_calls::numbers::stand_once;
 use sample_calls::rows::HEADER;
 use std::alloc::Global;
 use std::sync::Arc;
@@ -59,26 +60,6 @@ fn replayed_at(
         Ok(ledger) => Ok(ledger.digest(alloc)?),
         Err(_) => Err("a block stands over its base".into()),
     }
-}
-
-/// Whether numbers are each at most this one, from 1, and stand once.
-fn stand_once(alloc: Global, numbers: &[u32], most: usize) -> Result<bool, Fail> {
-    let mut seen = vec![in alloc; true]?;
-    for _number in 0..most {
-        seen.push(false)?;
-    }
-    for number in numbers {
-        match seen.get_mut(*number as usize) {
-            Some(flag) => {
-                if *flag {
-                    return Ok(false);
-                }
-                *flag = true;
-            }
-            None => return Ok(false),
-        }
-    }
-    Ok(true)
 }
 
 /// Whether a block replays over a ledger, to a ledger of this digest.

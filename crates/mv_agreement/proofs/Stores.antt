@@ -7,7 +7,7 @@ use Rattle.mv_chain.specs.Versions.{IsChain, mark_in, newest_at, oldest_timestam
 use Rattle.mv_chain.specs.Laws.{HasMarksFrom}
 use Rattle.mv_chain.proofs.Marks.{every_install_keeps_marks_lem, every_prune_keeps_marks_lem, every_read_raises_one_mark_lem}
 use Rattle.mv_history.specs.Facts.{IsCheckedCommit}
-use Rattle.mv_history.specs.History.{Entry, IsEquality, IsRising, Meaning, entries_with, version_below}
+use Rattle.mv_history.specs.History.{Entry, IsEquality, IsRising, CallMeaning, entries_with, version_below}
 use Rattle.mv_history.specs.Schedule.{AreMarked}
 use Rattle.mv_history.specs.World.{Attempt, IsLowerBound, attempt_at, attempts_with_read, attempts_without}
 use Rattle.mv_history.proofs.Attempts.{found_attempt, found_timestamp}
@@ -91,7 +91,7 @@ reads_found {Item} {Value} same itself (r ∷ rs) = (
     passed true o some = refl
     passed false o some = some
 
-module _ {Item Value Outcome V : Type 0} (give : Value → V) (same : Item → Item → Bool) (Proper : (Item → Value) → Type 0) (means : Meaning Item Value Outcome) (base : Item → Value) (from clock low : ℕ) (es : List (Entry Item Value Outcome)) (live : List (Attempt Item Value)) (all new : Item → List (Version V)) (store : IsStore give same Proper means base from clock low es live all) where
+module _ {Item Value Outcome V : Type 0} (give : Value → V) (same : Item → Item → Bool) (Proper : (Item → Value) → Type 0) (means : CallMeaning Item Value Outcome) (base : Item → Value) (from clock low : ℕ) (es : List (Entry Item Value Outcome)) (live : List (Attempt Item Value)) (all new : Item → List (Version V)) (store : IsStore give same Proper means base from clock low es live all) where
   store_after_read : IsEquality same → (t place : ℕ) (x : Item) (a : Attempt Item Value) → attempt_at t live ≡ Some a → from ≤ t → ((y : Item) → new y ≡ after_item_read same t x all y)
       → IsStore give same Proper means base from clock low es (attempts_with_read t place (x, (version_below same base es (suc t) x).1) live) new
   store_after_read equality t place x a is_live above is =

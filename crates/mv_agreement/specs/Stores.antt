@@ -5,7 +5,7 @@ use Rattle.std.specs.Map.{lookup}
 use Rattle.mv_chain.specs.declared.Version.{Version}
 use Rattle.mv_chain.specs.Versions.{mark_in, versions_from, versions_read_at, versions_with}
 use Rattle.mv_history.specs.Facts.{IsCheckedCommit}
-use Rattle.mv_history.specs.History.{Entry, IsEquality, Meaning, entries_with, version_below}
+use Rattle.mv_history.specs.History.{Entry, IsEquality, CallMeaning, entries_with, version_below}
 use Rattle.mv_history.specs.Schedule.{IsConsistent}
 use Rattle.mv_history.specs.World.{Attempt, IsLowerBound, attempt_at, attempts_with_read, attempts_without}
 use Rattle.mv_agreement.specs.Agreement.{HoldsVersions}
@@ -35,14 +35,14 @@ abbrev pub after_entry : {Item Value Outcome V : Type 0} → (Value → V) → (
 after_entry give same e all x = written_where give (lookup (same x) e.writes) e.timestamp (marked_where (lookup (same x) e.reads) e.timestamp (all x))
 
 -- what a store keeps, from a timestamp on at which it holds each version that the entries have
-pub record IsStore {Item Value Outcome V : Type 0} (give : Value → V) (same : Item → Item → Bool) (Proper : (Item → Value) → Type 0) (means : Meaning Item Value Outcome) (base : Item → Value) (from clock low : ℕ) (es : List (Entry Item Value Outcome)) (live : List (Attempt Item Value)) (all : Item → List (Version V)) : Type 0 where
+pub record IsStore {Item Value Outcome V : Type 0} (give : Value → V) (same : Item → Item → Bool) (Proper : (Item → Value) → Type 0) (means : CallMeaning Item Value Outcome) (base : Item → Value) (from clock low : ℕ) (es : List (Entry Item Value Outcome)) (live : List (Attempt Item Value)) (all : Item → List (Version V)) : Type 0 where
   pub holds : HoldEntries give same base from es all
   pub consistent : IsConsistent same Proper means base (marks_of all) clock low es live
 
 -- a read leaves a store, whose attempt has one more read
 abbrev pub EveryReadLeavesAStore : (Item Value Outcome V : Type 0) → ((Item → Value) → Type 0) → Type 0
 EveryReadLeavesAStore Item Value Outcome V Proper =
-    (give : Value → V) (same : Item → Item → Bool) → IsEquality same → (means : Meaning Item Value Outcome) (base : Item → Value) (from clock low : ℕ) (es : List (Entry Item Value Outcome)) (live : List (Attempt Item Value)) (all new : Item → List (Version V))
+    (give : Value → V) (same : Item → Item → Bool) → IsEquality same → (means : CallMeaning Item Value Outcome) (base : Item → Value) (from clock low : ℕ) (es : List (Entry Item Value Outcome)) (live : List (Attempt Item Value)) (all new : Item → List (Version V))
     → IsStore give same Proper means base from clock low es live all
     → (t place : ℕ) (x : Item) (a : Attempt Item Value) → attempt_at t live ≡ Some a → from ≤ t → ((y : Item) → new y ≡ after_item_read same t x all y)
     → IsStore give same Proper means base from clock low es (attempts_with_read t place (x, (version_below same base es (suc t) x).1) live) new
@@ -50,7 +50,7 @@ EveryReadLeavesAStore Item Value Outcome V Proper =
 -- a commit, checked against the entries and by the store's own marks, leaves a store
 abbrev pub EveryCommitLeavesAStore : (Item Value Outcome V : Type 0) → ((Item → Value) → Type 0) → Type 0
 EveryCommitLeavesAStore Item Value Outcome V Proper =
-    (give : Value → V) (same : Item → Item → Bool) → IsEquality same → (means : Meaning Item Value Outcome) (base : Item → Value) (from clock low : ℕ) (es : List (Entry Item Value Outcome)) (live : List (Attempt Item Value)) (all new : Item → List (Version V))
+    (give : Value → V) (same : Item → Item → Bool) → IsEquality same → (means : CallMeaning Item Value Outcome) (base : Item → Value) (from clock low : ℕ) (es : List (Entry Item Value Outcome)) (live : List (Attempt Item Value)) (all new : Item → List (Version V))
     → IsStore give same Proper means base from clock low es live all
     → (a : Attempt Item Value) (e : Entry Item Value Outcome) → attempt_at e.timestamp live ≡ Some a → IsCheckedCommit same Proper means base (marks_of all) es a e → from ≤ e.timestamp
     → ((y : Item) → new y ≡ after_entry give same e all y)
@@ -63,7 +63,7 @@ KeepsMarksFrom {Item} same base higher es all new = (x : Item) (version : ℕ) �
 -- pruning at a higher low mark leaves a store
 abbrev pub EveryPruneLeavesAStore : (Item Value Outcome V : Type 0) → ((Item → Value) → Type 0) → Type 0
 EveryPruneLeavesAStore Item Value Outcome V Proper =
-    (give : Value → V) (same : Item → Item → Bool) (means : Meaning Item Value Outcome) (base : Item → Value) (from clock low : ℕ) (es : List (Entry Item Value Outcome)) (live : List (Attempt Item Value)) (all new : Item → List (Version V))
+    (give : Value → V) (same : Item → Item → Bool) (means : CallMeaning Item Value Outcome) (base : Item → Value) (from clock low : ℕ) (es : List (Entry Item Value Outcome)) (live : List (Attempt Item Value)) (all new : Item → List (Version V))
     → IsStore give same Proper means base from clock low es live all
     → (higher : ℕ) → from ≤ higher → low ≤ higher → higher ≤ clock → IsLowerBound higher live → ((y : Item) → new y ≡ versions_from higher (all y))
     → IsStore give same Proper means base higher clock higher es live new × KeepsMarksFrom same base higher es all new

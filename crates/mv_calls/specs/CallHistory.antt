@@ -11,7 +11,7 @@ use Rattle.avm_items.specs.Asks.{result_over}
 use Rattle.avm_call.specs.declared.outcome.Outcome.{Outcome}
 use Rattle.avm_call.specs.declared.outcome.Outcome.TheVariants as outcome
 use Rattle.avm_call.specs.Calls.{CallResult, call_result}
-use Rattle.mv_history.specs.History.{Entry, Meaning}
+use Rattle.mv_history.specs.History.{Entry, CallMeaning}
 use Rattle.mv_history.specs.World.{Attempt, Event, World}
 
 -- the test of items
@@ -28,7 +28,7 @@ result_in header look None = (outcome.Rejected, [])
 result_in header look (Some call) = ((result_over look (call_result call header)).0, pruned look (result_over look (call_result call header)).1)
 
 -- the meaning of calls by their numbers
-abbrev pub meaning_of : Header → List CallData → Meaning Item ItemValue Outcome
+abbrev pub meaning_of : Header → List CallData → CallMeaning Item ItemValue Outcome
 meaning_of header calls number look = result_in header look (call_of calls number)
 
 -- an entry of a history of calls

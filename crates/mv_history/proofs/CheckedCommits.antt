@@ -2,7 +2,7 @@
 use Rattle.std.proofs.Common.{◌≡◌, ℕ, suc, ◌+◌, ◌<◌, ◌≤◌, max, Bool, true, false, if◌then◌else◌, cond, not, ◌==◌, Some, List, [], ◌∷◌, refl, sym, ap, ◌∙◌, subst, arith}
 use Rattle.std.specs.List.{AllByRecursion}
 use Rattle.std.proofs.lemmas.Option.{same_Some}
-use Rattle.mv_history.specs.History.{Entry, Meaning, Agrees, IsFinished, entries_with, version_below, state_below}
+use Rattle.mv_history.specs.History.{Entry, CallMeaning, Agrees, IsFinished, entries_with, version_below, state_below}
 use Rattle.mv_history.specs.World.{Attempt, attempt_at, attempts_without, live_count, IsInTime}
 use Rattle.mv_history.specs.Schedule.{AreMarked, IsSchedule, IsConsistent}
 use Rattle.mv_history.specs.Facts.{EveryCheckedCommitKeepsFacts}
@@ -54,7 +54,7 @@ module _ {Item Value : Type 0} (t : ℕ) (reads : List (Item × Value)) where
       at_test true rest = refl
       at_test false rest = ap (λ m. (if b.number == n then 1 else 0) + m) rest
 
-module _ {Item Value Outcome : Type 0} (same : Item → Item → Bool) (Proper : (Item → Value) → Type 0) (means : Meaning Item Value Outcome) (base : Item → Value) where
+module _ {Item Value Outcome : Type 0} (same : Item → Item → Bool) (Proper : (Item → Value) → Type 0) (means : CallMeaning Item Value Outcome) (base : Item → Value) where
   pub consistent_after_checked_commit : ((x y : Item) → same x y ≡ true → x ≡ y) → (mark mark' : Item → ℕ → ℕ) (clock low : ℕ) (es : List (Entry Item Value Outcome)) (live : List (Attempt Item Value)) (a : Attempt Item Value) (e : Entry Item Value Outcome)
       → attempt_at e.timestamp live ≡ Some a → e.number ≡ a.number → IsFinished same Proper means e
       → Agrees e.reads (state_below same base es e.timestamp) → IsInTime same base mark es e

@@ -3,7 +3,7 @@ use Rattle.std.proofs.Common.{◌≡◌, ℕ, ◌+◌, ◌<◌, ◌≤◌, Bool,
 use Rattle.std.proofs.lemmas.List.{append-nil}
 use Rattle.std.specs.List.{AllByRecursion, insert}
 use Rattle.std.proofs.lemmas.Option.{same_Some}
-use Rattle.mv_history.specs.History.{Entry, Meaning, entries_with}
+use Rattle.mv_history.specs.History.{Entry, CallMeaning, entries_with}
 use Rattle.mv_history.specs.World.{World, Attempt, attempt_at, attempts_without, attempts_with_read, fresh_attempt, Event, Begin, Read, Commit, Abandon, Prune, after_event, first_world, AllApply, after_events}
 use Rattle.mv_history.specs.Laws.{Worker, Idle, Busy, RunsEachCall, numbers_begun, call_numbers, OneWorkerCommitsInOrder}
 use Rattle.mv_history.proofs.Lists.{Compared, less, not_less, compared, Equals, equal, unequal, equals, all_map, all_push}
@@ -70,7 +70,7 @@ module _ {Item Value Outcome : Type 0} where
   numbers-push [] e = refl
   numbers-push (f ∷ fs) e = ap (λ l. f.number ∷ l) (numbers-push fs e)
 
-module _ {Item Value Outcome : Type 0} (same : Item → Item → Bool) (Proper : (Item → Value) → Type 0) (means : Meaning Item Value Outcome) (base : Item → Value) where
+module _ {Item Value Outcome : Type 0} (same : Item → Item → Bool) (Proper : (Item → Value) → Type 0) (means : CallMeaning Item Value Outcome) (base : Item → Value) where
   runs_in_order : (worker : Worker) (events : List (Event Item Value Outcome)) (w : World Item Value Outcome) → AllApply same Proper means base w events → RunsEachCall worker events → IsAt worker w
       → call_numbers (after_events same base w events) ≡ call_numbers w ++ numbers_begun events
   runs_in_order worker [] w apply runs at = sym (append-nil (call_numbers w))

@@ -1,7 +1,7 @@
 -- Without Abandon and Prune each timestamp given is an entry's or a live attempt's.
 use Rattle.std.proofs.Common.{◌≡◌, ℕ, suc, ◌+◌, ◌<◌, ◌≤◌, Bool, true, false, cond, not, if◌then◌else◌, nat_lt, ◌==◌, Some, List, [], ◌∷◌, ◌++◌, length, refl, ap, arith}
 use Rattle.std.specs.List.{AllByRecursion, insert}
-use Rattle.mv_history.specs.History.{Entry, Meaning, entries_with}
+use Rattle.mv_history.specs.History.{Entry, CallMeaning, entries_with}
 use Rattle.mv_history.specs.World.{World, Attempt, attempt_at, attempts_without, attempts_with_read, fresh_attempt, Event, Begin, Read, Commit, Abandon, Prune, Applies, after_event, first_world, AllApply, after_events}
 use Rattle.mv_history.specs.Laws.{IsPlain, EveryPlainInterleavingKeepsAll}
 use Rattle.mv_history.proofs.Lists.{Equals, equal, unequal, equals}
@@ -80,7 +80,7 @@ length-entries_with e (f ∷ fs) = at_test (nat_lt e.timestamp f.timestamp) (len
     at_test true rest = refl
     at_test false rest = ap suc rest
 
-module _ {Item Value Outcome : Type 0} (same : Item → Item → Bool) (Proper : (Item → Value) → Type 0) (means : Meaning Item Value Outcome) (base : Item → Value) where
+module _ {Item Value Outcome : Type 0} (same : Item → Item → Bool) (Proper : (Item → Value) → Type 0) (means : CallMeaning Item Value Outcome) (base : Item → Value) where
   complete_after_event : (w : World Item Value Outcome) (event : Event Item Value Outcome) → Applies same Proper means base w event → IsPlain event → IsComplete w → IsComplete (after_event same base w event)
   complete_after_event w (Begin number) applies plain k =
       record {

@@ -1,6 +1,6 @@
 -- The facts hold in every world that events lead to, and make it serial.
 use Rattle.std.proofs.Common.{◌≡◌, ℕ, suc, inl, inr, ◌≤◌, Bool, true, false, if◌then◌else◌, ◌&&◌, ◌==◌, min, max, Some, List, [], ◌∷◌, ◌++◌, refl, sym, ap, ◌∙◌, subst, arith}
-use Rattle.mv_history.specs.History.{Entry, Meaning, IsEquality, Agrees, state_after, entries_below, state_below, version_below}
+use Rattle.mv_history.specs.History.{Entry, CallMeaning, IsEquality, Agrees, state_after, entries_below, state_below, version_below}
 use Rattle.mv_history.specs.World.{World, Attempt, Mark, greatest_mark, KeepsNeededMarks, attempt_at, attempts_with_read, low_after_prune, Event, Begin, Read, Commit, Abandon, Prune, Applies, after_event, AllApply, after_events, first_world, IsReachable}
 use Rattle.mv_history.specs.Schedule.{IsSchedule, IsConsistent, IsConsistentWorld}
 use Rattle.mv_history.specs.Laws.{EveryEventLeadsOn, EveryPruneApplies, EveryListingOfMarksServes}
@@ -48,7 +48,7 @@ module _ {Item : Type 0} (same : Item → Item → Bool) where
       at_test c (equal h) = omega arith
       at_test c (unequal h) = absurd (h refl)
 
-module _ {Item Value Outcome : Type 0} (same : Item → Item → Bool) (Proper : (Item → Value) → Type 0) (means : Meaning Item Value Outcome) (base : Item → Value) where
+module _ {Item Value Outcome : Type 0} (same : Item → Item → Bool) (Proper : (Item → Value) → Type 0) (means : CallMeaning Item Value Outcome) (base : Item → Value) where
   -- Read, where marks are a list; `found` is the version below the next timestamp
   pub schedule_after_marked_read : ((x : Item) → same x x ≡ true) → (clock low t place : ℕ) (x : Item) (found : ℕ × Value) (es : List (Entry Item Value Outcome)) (marks : List (Mark Item)) (live : List (Attempt Item Value)) (a : Attempt Item Value)
       → attempt_at t live ≡ Some a → version_below same base es (suc t) x ≡ found

@@ -2,7 +2,7 @@
 -- at a greater timestamp. A creation writes an application that it has not read; that no application stands from
 -- the next one on holds of every proper look-up.
 use Rattle.std.specs.Prelude.{◌≡◌, ℕ, ◌+◌, ◌≤◌, ◌==◌, Bool, true, false, not, if◌then◌else◌, List, [], ◌∷◌, ◌++◌, filter}
-use Rattle.mv_history.specs.History.{Entry, Meaning, state_below}
+use Rattle.mv_history.specs.History.{Entry, CallMeaning, state_below}
 use Rattle.mv_history.specs.World.{World, Event, Begin, Read, Commit, Abandon, first_world, AllApply, after_events}
 use Rattle.mv_history.specs.Laws.{IsLate}
 
@@ -24,7 +24,7 @@ abbrev pub changes : (Item → ℕ) → List (Item × ℕ) → List (Item × ℕ
 changes look writes = filter (λ write. not (look write.0 == write.1)) writes
 
 -- call 1 creates the next application, and call 2 tells whether application 2 stands
-abbrev pub means : Meaning Item ℕ ℕ
+abbrev pub means : CallMeaning Item ℕ ℕ
 means number look = if number == 1 then (look Next, changes look ((Next, look Next + 1) ∷ (Application (look Next), 1) ∷ [])) else (look (Application 2), [])
 
 -- application 1 stands

@@ -2,7 +2,7 @@
 use Rattle.std.specs.Prelude.{◌≡◌, ℕ, suc, ◌+◌, ◌<◌, ◌≤◌, ◌⊎◌, Bool, Some, None, IsSome, List, [], ◌∷◌, ◌++◌, length, map, Contains}
 use Rattle.std.specs.Map.{lookup}
 use Rattle.std.specs.List.{AllByRecursion}
-use Rattle.mv_history.specs.History.{Entry, Meaning, IsEquality, IsRising, version_below, entries_with}
+use Rattle.mv_history.specs.History.{Entry, CallMeaning, IsEquality, IsRising, version_below, entries_with}
 use Rattle.mv_history.specs.World.{World, Mark, greatest_mark, KeepsNeededMarks, IsInTime, Event, Begin, Read, Commit, Abandon, Prune, first_world, AllApply, after_events, IsReachable, Applies, after_event}
 use Rattle.mv_history.specs.Serial.{IsSerial}
 
@@ -69,7 +69,7 @@ EveryCommitWithoutWritesIsInTime Item Value Outcome =
 -- each event that applies leads on to a world that events lead to
 abbrev pub EveryEventLeadsOn : (Item Value Outcome : Type 0) → ((Item → Value) → Type 0) → Type 0
 EveryEventLeadsOn Item Value Outcome Proper =
-    (same : Item → Item → Bool) (means : Meaning Item Value Outcome) (base : Item → Value)
+    (same : Item → Item → Bool) (means : CallMeaning Item Value Outcome) (base : Item → Value)
     → IsReachable same Proper means base first_world
     × ((w : World Item Value Outcome) (event : Event Item Value Outcome) → IsReachable same Proper means base w → Applies same Proper means base w event
     → IsReachable same Proper means base (after_event same base w event))
@@ -77,20 +77,20 @@ EveryEventLeadsOn Item Value Outcome Proper =
 -- pruning at any timestamp applies, with all marks left
 abbrev pub EveryPruneApplies : (Item Value Outcome : Type 0) → ((Item → Value) → Type 0) → Type 0
 EveryPruneApplies Item Value Outcome Proper =
-    (same : Item → Item → Bool) (means : Meaning Item Value Outcome) (base : Item → Value) (w : World Item Value Outcome) (t : ℕ)
+    (same : Item → Item → Bool) (means : CallMeaning Item Value Outcome) (base : Item → Value) (w : World Item Value Outcome) (t : ℕ)
     → Applies same Proper means base w (Prune t w.marks)
 
 -- how marks are listed is free, and those that no one from the low mark on asks for may be missing
 abbrev pub EveryListingOfMarksServes : (Item Value Outcome : Type 0) → ((Item → Value) → Type 0) → Type 0
 EveryListingOfMarksServes Item Value Outcome Proper =
-    (same : Item → Item → Bool) (means : Meaning Item Value Outcome) (base : Item → Value) (w : World Item Value Outcome) → IsReachable same Proper means base w
+    (same : Item → Item → Bool) (means : CallMeaning Item Value Outcome) (base : Item → Value) (w : World Item Value Outcome) → IsReachable same Proper means base w
     → (marks : List (Mark Item)) → KeepsNeededMarks same base w.low w.entries w.marks marks
     → IsReachable same Proper means base (record w { marks = marks })
 
 -- the clock is the last timestamp given
 abbrev pub EveryCommitAtTheClockIsInTime : (Item Value Outcome : Type 0) → ((Item → Value) → Type 0) → Type 0
 EveryCommitAtTheClockIsInTime Item Value Outcome Proper =
-    (same : Item → Item → Bool) → IsEquality same → (means : Meaning Item Value Outcome) (base : Item → Value)
+    (same : Item → Item → Bool) → IsEquality same → (means : CallMeaning Item Value Outcome) (base : Item → Value)
     → (w : World Item Value Outcome) → IsReachable same Proper means base w → (e : Entry Item Value Outcome)
     → e.timestamp ≡ w.clock → IsInTime same base (greatest_mark same w.marks) w.entries e
 
@@ -104,7 +104,7 @@ IsPlain event = Unit {0}
 -- pruned.
 abbrev pub EveryPlainInterleavingKeepsAll : (Item Value Outcome : Type 0) → ((Item → Value) → Type 0) → Type 0
 EveryPlainInterleavingKeepsAll Item Value Outcome Proper =
-    (same : Item → Item → Bool) → IsEquality same → (means : Meaning Item Value Outcome) (base : Item → Value) → Proper base
+    (same : Item → Item → Bool) → IsEquality same → (means : CallMeaning Item Value Outcome) (base : Item → Value) → Proper base
     → (events : List (Event Item Value Outcome)) → AllApply same Proper means base first_world events → AllByRecursion IsPlain events
     → IsSerial same Proper means base (after_events same base first_world events)
     × ((after_events same base first_world events).low ≡ 0)
@@ -136,6 +136,6 @@ call_numbers w = map (λ e. e.number) w.entries ++ map (λ a. a.number) w.live
 
 abbrev pub OneWorkerCommitsInOrder : (Item Value Outcome : Type 0) → ((Item → Value) → Type 0) → Type 0
 OneWorkerCommitsInOrder Item Value Outcome Proper =
-    (same : Item → Item → Bool) (means : Meaning Item Value Outcome) (base : Item → Value)
+    (same : Item → Item → Bool) (means : CallMeaning Item Value Outcome) (base : Item → Value)
     → (events : List (Event Item Value Outcome)) → AllApply same Proper means base first_world events → RunsEachCall Idle events
     → call_numbers (after_events same base first_world events) ≡ numbers_begun events

@@ -1,7 +1,7 @@
 -- What holds in every world, of marks and live attempts beside the journal of the entries.
 use Rattle.std.specs.Prelude.{ℕ, ◌+◌, ◌<◌, ◌≤◌, ◌≢◌, Bool, List}
 use Rattle.std.specs.List.{AllByRecursion}
-use Rattle.mv_history.specs.History.{Entry, Meaning, Agrees, version_below, state_below, commit_count}
+use Rattle.mv_history.specs.History.{Entry, CallMeaning, Agrees, version_below, state_below, commit_count}
 use Rattle.mv_history.specs.World.{Attempt, World, greatest_mark, live_count, IsLowerBound}
 use Rattle.mv_history.specs.Journal.{IsJournal}
 
@@ -27,10 +27,10 @@ pub record IsSchedule {Item Value Outcome : Type 0} (same : Item → Item → Bo
   -- no call is committed twice, live twice, or both
   pub once : (number : ℕ) → commit_count number es + live_count number live ≤ 1
 
-pub record IsConsistent {Item Value Outcome : Type 0} (same : Item → Item → Bool) (Proper : (Item → Value) → Type 0) (means : Meaning Item Value Outcome) (base : Item → Value) (mark : Item → ℕ → ℕ) (clock low : ℕ) (es : List (Entry Item Value Outcome)) (live : List (Attempt Item Value)) : Type 0 where
+pub record IsConsistent {Item Value Outcome : Type 0} (same : Item → Item → Bool) (Proper : (Item → Value) → Type 0) (means : CallMeaning Item Value Outcome) (base : Item → Value) (mark : Item → ℕ → ℕ) (clock low : ℕ) (es : List (Entry Item Value Outcome)) (live : List (Attempt Item Value)) : Type 0 where
   pub journal : IsJournal same Proper means base es
   pub schedule : IsSchedule same base mark clock low es live
 
 -- of a world, whose marks are a list
-abbrev pub IsConsistentWorld : {Item Value Outcome : Type 0} → (Item → Item → Bool) → ((Item → Value) → Type 0) → Meaning Item Value Outcome → (Item → Value) → World Item Value Outcome → Type 0
+abbrev pub IsConsistentWorld : {Item Value Outcome : Type 0} → (Item → Item → Bool) → ((Item → Value) → Type 0) → CallMeaning Item Value Outcome → (Item → Value) → World Item Value Outcome → Type 0
 IsConsistentWorld same Proper means base w = IsConsistent same Proper means base (greatest_mark same w.marks) w.clock w.low w.entries w.live

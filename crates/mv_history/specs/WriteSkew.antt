@@ -1,7 +1,7 @@
 -- Write skew, computed: two calls each read both items and write one of them. Were both to commit on what they
 -- first read, no serial order would give their outcomes.
 use Rattle.std.specs.Prelude.{◌≡◌, ℕ, ◌+◌, ◌==◌, Bool, true, false, if◌then◌else◌, List, [], ◌∷◌, ◌++◌}
-use Rattle.mv_history.specs.History.{Entry, Meaning, state_below}
+use Rattle.mv_history.specs.History.{Entry, CallMeaning, state_below}
 use Rattle.mv_history.specs.World.{World, Event, Begin, Read, Commit, Abandon, first_world, AllApply, after_events}
 use Rattle.mv_history.specs.Laws.{IsLate}
 
@@ -19,7 +19,7 @@ abbrev pub Proper : (Account → ℕ) → Type 0
 Proper look = Unit {0}
 
 -- call 1 sets X to one more than Y, and call 2 sets Y to one more than X
-abbrev pub means : Meaning Account ℕ ℕ
+abbrev pub means : CallMeaning Account ℕ ℕ
 means number look = if number == 1 then (look Y + 1, (X, look Y + 1) ∷ []) else (look X + 1, (Y, look X + 1) ∷ [])
 
 abbrev pub base : Account → ℕ

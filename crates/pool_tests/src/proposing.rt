@@ -11,6 +11,7 @@ use avm_ledger::{Header, Ledger};
 use avm_ops::{BoxedOp, Op, OpSet};
 use avm_pool::{Gate, Proposal, propose};
 use avm_replay::{Verdict, replay};
+use sample_calls::numbers::stand_once;
 use sample_calls::rows::{HEADER, call_of, ledger_of};
 use std::alloc::Global;
 use std::sync::Wait;
@@ -39,33 +40,14 @@ pub fn proposed<G: Gate, R: Threads + Wait + Sync>(
             if !left.is_empty() {
                 return Err("a call is left".into());
             }
-            if !stand_once(alloc, &numbers, count)? || block.entries().len() != count {
+            let is_whole = numbers.len() == count && block.entries().len() == count;
+            if !is_whole || !stand_once(alloc, &numbers, count)? {
                 return Err("each call is in the block, once".into());
             }
             Ok(block)
         }
         Err(_) => Err("the calls are proposed".into()),
     }
-}
-
-/// Whether the numbers 1 to the count stand each once.
-fn stand_once(alloc: Global, numbers: &[u32], count: usize) -> Result<bool, Fail> {
-    let mut seen = vec![in alloc; true]?;
-    for _number in 0..count {
-        seen.push(false)?;
-    }
-    for number in numbers {
-        match seen.get_mut(*number as usize) {
-            Some(flag) => {
-                if *flag {
-                    return Ok(false);
-                }
-                *flag = true;
-            }
-            None => return Ok(false),
-        }
-    }
-    Ok(numbers.len() == count)
 }
 
 /// The ledger after a block, in hexadecimal, where it replays.

@@ -3,6 +3,7 @@
 
 pub mod bare;
 pub mod counted;
+pub mod numbers;
 pub mod random;
 pub mod rows;
 pub mod running;

@@ -9,6 +9,7 @@ use Rattle.std.proofs.lemmas.List.{append-nil}
 use Rattle.teal_value.specs.declared.failure.Failure.{Failure}
 use Rattle.teal_value.specs.declared.failure.Failure.TheVariants as failure
 use Rattle.teal_value.specs.Answer.{◌>>=◌, Fails}
+use Rattle.teal_value.specs.Choice.{or_else}
 use Rattle.teal_table.specs.declared.opcode.Opcode.{Opcode}
 use Rattle.teal_source.specs.declared.statement.Statement.{Statement}
 use Rattle.teal_source.specs.declared.command.Command.{Command}
@@ -19,7 +20,7 @@ use Rattle.teal_source.specs.Operands.{Word}
 use Rattle.teal_source.specs.Statements.{has_label}
 use Rattle.teal_asm.specs.Meaning.{Meant, Straight, Branch, branch, commands_in, label_entry, labels_from, gathered_blocks, optional_instruction, instructions, all_instructions}
 use Rattle.teal_asm.specs.Program.{size, total_size}
-use Rattle.teal_asm.specs.Thinned.{AreSameOrLong, Thins, command_count, branch_fault, branch_label, or_else, own_fault}
+use Rattle.teal_asm.specs.Thinned.{AreSameOrLong, Thins, command_count, branch_fault, branch_label, own_fault}
 use Rattle.teal_asm.proofs.Bodying.{command_count-push, label_there, labels-push}
 
 -- ---- where labels stand

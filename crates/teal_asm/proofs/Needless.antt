@@ -8,11 +8,12 @@ use Rattle.std.specs.Option.{option_map_or}
 use Rattle.std.proofs.lemmas.List.{append-nil}
 use Rattle.std.proofs.lemmas.Slice.Eq.{bytes_eq-Decides}
 use Rattle.std.proofs.lemmas.Bool.{or_right, or_parts}
+use Rattle.teal_value.specs.Choice.{or_else}
 use Rattle.teal_source.specs.declared.statement.Statement.{Statement}
 use Rattle.teal_source.specs.declared.fault.AsmFault.{AsmFault}
 use Rattle.teal_source.specs.Operands.{Word}
 use Rattle.teal_source.specs.Statements.{has_label}
-use Rattle.teal_asm.specs.Thinned.{or_else, own_fault, branch_fault, branch_label, front_fault, jumps_to, leads_back, IsNeedless}
+use Rattle.teal_asm.specs.Thinned.{own_fault, branch_fault, branch_label, front_fault, jumps_to, leads_back, IsNeedless}
 use Rattle.teal_asm.proofs.Bodying.{list_any-push, or_assoc, or_false}
 
 -- ---- what labels decide

@@ -5,6 +5,7 @@ use Rattle.std.specs.Option.{option_map_or}
 use Rattle.std.specs.Str.{bytes_eq}
 use Rattle.teal_value.specs.declared.failure.Failure.{Failure}
 use Rattle.teal_value.specs.Answer.{Fails}
+use Rattle.teal_value.specs.Choice.{or_else}
 use Rattle.teal_source.specs.declared.command.Command.{Command}
 use Rattle.teal_source.specs.declared.command.Command.TheVariants.{Jump}
 use Rattle.teal_source.specs.declared.statement.Statement.{Statement}
@@ -16,10 +17,6 @@ use Rattle.teal_asm.specs.Meaning.{Meant, Meaning, commands_in}
 use Rattle.teal_asm.specs.Program.{total_size}
 
 -- ---- the first branch that has a fault, found by labels alone: whether its label stands before it, behind it, or nowhere
-
-abbrev pub or_else : {A : Type 0} → Option A → Option A → Option A
-or_else (Some x) o = Some x
-or_else None o = o
 
 -- the label that a command branches to
 abbrev pub branch_label : Option Command → Option Word

@@ -9,21 +9,21 @@ use Rattle.teal_code.specs.declared.instr.Immediates.TheVariants as is
 use Rattle.teal_check.specs.declared.fault.CheckFault.{CheckFault}
 use Rattle.teal_check.specs.declared.fault.CheckFault.TheVariants as fault
 use Rattle.teal_check.specs.declared.program.Placed.{Placed}
-use Rattle.teal_check.specs.WellFormed.{WellFormed, places, index_of, number_at, resolved_target, immediates_target, target_of, with_targets, checked}
+use Rattle.teal_check.specs.WellFormed.{WellFormed, places, first_index, number_of_place, resolved_target, immediates_target, target_of, with_targets, checked}
 use Rattle.teal_check.proofs.CheckedPrograms.{is_checked, length-places}
 
-found_within : (x n : ℕ) (xs : List ℕ) → index_of x xs ≡ Some n → n < length xs
+found_within : (x n : ℕ) (xs : List ℕ) → first_index x xs ≡ Some n → n < length xs
 found_within x n [] e = absurd cc
 found_within x n (y ∷ ys) e = elim (chosen (eqb x y) _ _ _ e) [
   | inl (here, at) ↦ let same : 0 ≡ n = cc in omega arith
-  | inr (other, more) ↦ later (index_of x ys) (λ k found. found_within x k ys found) more
+  | inr (other, more) ↦ later (first_index x ys) (λ k found. found_within x k ys found) more
 ]
   where
     later : (o : Option ℕ) → ((k : ℕ) → o ≡ Some k → k < length ys) → option_map suc o ≡ Some n → n < suc (length ys)
     later None within e = absurd cc
     later (Some k) within e = let same : suc k ≡ n = cc in let lt = within k refl in omega arith
 
-number_within : (starts : List ℕ) (end target n : ℕ) → number_at starts end target ≡ Some n → n ≤ length starts
+number_within : (starts : List ℕ) (end target n : ℕ) → number_of_place starts end target ≡ Some n → n ≤ length starts
 number_within starts end target n e = elim (chosen (eqb target end) _ _ _ e) [
   | inl (at, here) ↦ let same : length starts ≡ n = cc in omega arith
   | inr (before, more) ↦ let lt = found_within target n starts more in omega arith
@@ -38,7 +38,7 @@ branch_within starts end place next offset t e = elim (chosen (ltb 32767 offset)
   | inl (back, bad) ↦ absurd cc
   | inr (forward, more) ↦ elim (chosen (ltb end (next + offset)) _ _ _ more) [
     | inl (past, bad) ↦ absurd cc
-    | inr (within, found) ↦ number_within starts end (next + offset) t (known (number_at starts end (next + offset)) (fault.NotAligned place) t found)
+    | inr (within, found) ↦ number_within starts end (next + offset) t (known (number_of_place starts end (next + offset)) (fault.NotAligned place) t found)
   ]
 ]
 

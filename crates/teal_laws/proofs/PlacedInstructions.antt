@@ -18,7 +18,7 @@ use Rattle.teal_code.proofs.Reading.{same_value}
 use Rattle.teal_check.specs.declared.fault.CheckFault.{CheckFault}
 use Rattle.teal_check.specs.declared.fault.CheckFault.TheVariants as fault
 use Rattle.teal_check.specs.declared.program.Placed.{Placed}
-use Rattle.teal_check.specs.WellFormed.{WellFormed, has_field, placed_at, placed_from, places, index_of, number_at, RisesFrom, resolved_target, immediates_target, target_of, with_targets, checked}
+use Rattle.teal_check.specs.WellFormed.{WellFormed, has_field, placed_at, placed_from, places, first_index, number_of_place, RisesFrom, resolved_target, immediates_target, target_of, with_targets, checked}
 use Rattle.teal_check.proofs.CheckedPrograms.{is_checked, is_kept, is_placed, length-places, placed_forward}
 use Rattle.teal_check.proofs.Starts.{rises}
 use Rattle.teal_laws.specs.Listed.{HasShape, nothing, index, txn, stack, global, group, array, stack_array, group_array, bounds, offset, uints, strings, uint, string, IsOfVersion, AreOf, IsAimed, AreAimed, IsListed}
@@ -146,16 +146,16 @@ index_later x y ys n (Some k) found e =
     let i = found k refl in
     subst (λ j. (j < length (y ∷ ys)) × (get_or (y ∷ ys) j 0 ≡ x)) next (omega (arith, i.0), i.1)
 
-pub index_is : (x : ℕ) (xs : List ℕ) (n : ℕ) → index_of x xs ≡ Some n → (n < length xs) × (get_or xs n 0 ≡ x)
+pub index_is : (x : ℕ) (xs : List ℕ) (n : ℕ) → first_index x xs ≡ Some n → (n < length xs) × (get_or xs n 0 ≡ x)
 index_is x [] n e = absurd cc
 index_is x (y ∷ ys) n e =
     elim (chosen (eqb x y) _ _ _ e) [
       | inl (here, one) ↦ let zeroth : 0 ≡ n = cc in subst (λ k. (k < length (y ∷ ys)) × (get_or (y ∷ ys) k 0 ≡ x)) zeroth (omega arith, sym (eqb-true x y here))
-      | inr (other, more) ↦ index_later x y ys n (index_of x ys) (λ k found. index_is x ys k found) more
+      | inr (other, more) ↦ index_later x y ys n (first_index x ys) (λ k found. index_is x ys k found) more
     ]
 
 -- a target behind an instruction has a greater number
-number_is : (starts : List ℕ) (end number place target n : ℕ) → RisesFrom 0 starts → number < length starts → get_or starts number 0 ≡ place → place < target → number_at starts end target ≡ Some n → (number < n) × (n ≤ length starts)
+number_is : (starts : List ℕ) (end number place target n : ℕ) → RisesFrom 0 starts → number < length starts → get_or starts number 0 ≡ place → place < target → number_of_place starts end target ≡ Some n → (number < n) × (n ≤ length starts)
 number_is starts end number place target n r within stands behind e =
     elim (chosen (eqb target end) _ _ _ e) [
       | inl (last, one) ↦ let same : length starts ≡ n = cc in (omega (arith, within, same), omega (arith, same))
@@ -181,7 +181,7 @@ branch_aimed starts end number place next n t r within stands forward e =
       | inr (fits, more) ↦ elim (chosen (ltb end (next + n)) _ _ _ more) [
         | inl (past, bad) ↦ absurd cc
         | inr (inside, found) ↦
-            let s = some_number (number_at starts end (next + n)) place t found in
+            let s = some_number (number_of_place starts end (next + n)) place t found in
             subst (IsAimed (length starts) number (is.Offset n)) (sym s.2) (number_is starts end number place (next + n) s.0 r within stands (omega (arith, forward)) s.1)
       ]
     ]

@@ -20,7 +20,7 @@ use Rattle.teal_code.proofs.Reading.{is_read, varuint_sound, varuint_complete}
 use Rattle.teal_code.specs.Limits.{most_program_bytes, most_cost}
 use Rattle.teal_check.specs.declared.fault.CheckFault.{CheckFault}
 use Rattle.teal_check.specs.declared.program.Placed.{Placed}
-use Rattle.teal_check.specs.WellFormed.{WellFormed, on_code, version_of, version_at, placed_at, placed_from, places, number_at, RisesFrom, resolved_target, immediates_target, target_of, with_targets, cost_of, checked}
+use Rattle.teal_check.specs.WellFormed.{WellFormed, on_code, version_of, version_at, placed_at, placed_from, places, number_of_place, RisesFrom, resolved_target, immediates_target, target_of, with_targets, cost_of, checked}
 use Rattle.teal_check.proofs.CheckedPrograms.{coded_ok, is_checked, is_placed, placed_forward, weaken}
 use Rattle.teal_check.proofs.Starts.{index_of-there}
 use Rattle.teal_laws.specs.ProgramRules.{version_number, BeginsWithVersion, StandsAt, StandFrom, Leads, AllLead, IsProgram}
@@ -181,7 +181,7 @@ get_within [] k d e lt = absurd (omega (arith, lt))
 get_within (x ∷ xs) zero d e lt = refl
 get_within (x ∷ xs) (suc k) d e lt = get_within xs k d e (omega (arith, lt))
 
-number_is : (starts : List ℕ) (end target k : ℕ) → number_at starts end target ≡ Some k → (k ≤ length starts) × (get_or starts k end ≡ target)
+number_is : (starts : List ℕ) (end target k : ℕ) → number_of_place starts end target ≡ Some k → (k ≤ length starts) × (get_or starts k end ≡ target)
 number_is starts end target k e =
     elim (chosen (eqb target end) _ _ _ e) [
       | inl (last, one) ↦
@@ -202,7 +202,7 @@ branch_leads starts end place next n t e =
       | inr (fits, more) ↦ elim (chosen (ltb end (next + n)) _ _ _ more) [
         | inl (past, bad) ↦ absurd cc
         | inr (inside, found) ↦
-            let s = some_number (number_at starts end (next + n)) place t found in
+            let s = some_number (number_of_place starts end (next + n)) place t found in
             let k = number_is starts end (next + n) s.0 s.1 in
             subst (Leads starts end next (is.Offset n)) (sym s.2) (ltb-false 32767 n fits, k.0, k.1)
       ]

@@ -15,7 +15,7 @@ use Rattle.teal_code.specs.Reader.{read_at}
 use Rattle.teal_code.proofs.Reading.{is_read}
 use Rattle.teal_code.specs.Limits.{most_program_bytes, most_cost}
 use Rattle.teal_check.specs.declared.program.Placed.{Placed}
-use Rattle.teal_check.specs.WellFormed.{WellFormed, placed_at, placed_from, places, number_at, RisesFrom, resolved_target, immediates_target, with_targets, version_at, cost_of, checked, affordable}
+use Rattle.teal_check.specs.WellFormed.{WellFormed, placed_at, placed_from, places, number_of_place, RisesFrom, resolved_target, immediates_target, with_targets, version_at, cost_of, checked, affordable}
 use Rattle.teal_check.proofs.CheckedPrograms.{length-places, placed_rises, weaken}
 use Rattle.teal_check.proofs.Starts.{index_of-there}
 use Rattle.teal_asm.specs.Meaning.{Meant, Straight, Branch, Meaning}
@@ -153,7 +153,7 @@ part_size (suc k) (m ∷ ms) lt = omega (arith, part_size k ms (omega (arith, lt
 
 -- where the k-th instruction behind one stands is its place
 abbrev Stand : List ℕ → ℕ → ℕ → ℕ → List Meant → Type 0
-Stand starts end number place ms = (k : ℕ) → k ≤ length ms → number_at starts end (place + total_size (take k ms)) ≡ Some (number + k)
+Stand starts end number place ms = (k : ℕ) → k ≤ length ms → number_of_place starts end (place + total_size (take k ms)) ≡ Some (number + k)
 
 all_stand : (end : ℕ) (ms : List Meant) → RisesFrom 0 (places (laid 1 0 ms)) → 1 + total_size ms ≡ end → Stand (places (laid 1 0 ms)) end 0 1 ms
 all_stand end ms rising e k le =
@@ -178,7 +178,7 @@ next_stand : (starts : List ℕ) (end number place : ℕ) (m : Meant) (ms : List
 next_stand starts end number place m ms stand k le =
     let there : place + size m + total_size (take k ms) ≡ place + (size m + total_size (take k ms)) = omega arith in
     let which : number + suc k ≡ number + 1 + k = omega arith in
-    ap (number_at starts end) there ∙ stand (suc k) (omega (arith, le)) ∙ ap (λ n. Some n) which
+    ap (number_of_place starts end) there ∙ stand (suc k) (omega (arith, le)) ∙ ap (λ n. Some n) which
 
 no_branch : (starts : List ℕ) (end place next : ℕ) (m : Immediates) → IsNoOffset m → immediates_target starts end place next m ≡ Ok None
 no_branch starts end place next (is.Offset n) h = absurd h
@@ -194,7 +194,7 @@ no_branch starts end place next (is.ByteBlock ss) h = refl
 no_branch starts end place next (is.Uint n) h = refl
 no_branch starts end place next (is.Bytes s) h = refl
 
-branch_is : (starts : List ℕ) (end place next offset target : ℕ) → offset ≤ most_program_bytes → next + offset ≤ end → number_at starts end (next + offset) ≡ Some target → resolved_target starts end place next offset ≡ Ok (Some target)
+branch_is : (starts : List ℕ) (end place next offset target : ℕ) → offset ≤ most_program_bytes → next + offset ≤ end → number_of_place starts end (next + offset) ≡ Some target → resolved_target starts end place next offset ≡ Ok (Some target)
 branch_is starts end place next offset target few within at =
     let fits : ltb 32767 offset ≡ false = grind (arith, nat_tests) in
     let inside : ltb end (next + offset) ≡ false = grind (arith, nat_tests) in
@@ -208,7 +208,7 @@ target_is version starts end number place count (Branch o t) ms few close all h 
     let over = size_front (t - (number + 1)) ms in
     let there : place + 3 + offset ≡ place + (3 + offset) = omega arith in
     let which : number + suc (t - (number + 1)) ≡ t = omega (arith, h.1) in
-    let at : number_at starts end (place + 3 + offset) ≡ Some t = ap (number_at starts end) there ∙ stand (suc (t - (number + 1))) (omega (arith, h.1, h.2, all)) ∙ ap (λ n. Some n) which in
+    let at : number_of_place starts end (place + 3 + offset) ≡ Some t = ap (number_of_place starts end) there ∙ stand (suc (t - (number + 1))) (omega (arith, h.1, h.2, all)) ∙ ap (λ n. Some n) which in
     branch_is starts end place (place + 3) offset t (omega (arith, over, few)) (omega (arith, over, close)) at
 
 targets_are : (version : Version) (starts : List ℕ) (end number place count : ℕ) (ms : List Meant) → total_size ms ≤ most_program_bytes → place + total_size ms ≡ end → number + length ms ≡ count → AreMeant version count number ms → Stand starts end number place ms

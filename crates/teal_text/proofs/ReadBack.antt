@@ -14,7 +14,7 @@ use Rattle.hex.proofs.HexLemmas.{decode_of-encode_lower}
 use Rattle.teal_text.specs.declared.fault.TextFaultKind.{TextFaultKind}
 use Rattle.teal_text.specs.declared.string.StringState.{StringState}
 use Rattle.teal_text.specs.declared.string.StringState.TheVariants.{Plain}
-use Rattle.teal_text.specs.Strings.{closes, next_state, byte_at, value_from, string_value}
+use Rattle.teal_text.specs.Strings.{closes, next_state, byte_read, value_from, string_value}
 use Rattle.teal_text.specs.Tokens.{one_more, unless_bad, string_len}
 use Rattle.teal_text.specs.Numbers.{base_of, digits_of, numeral_value, number_of}
 use Rattle.teal_text.specs.Literals.{token_bytes}
@@ -77,7 +77,7 @@ has_value state (b ∷ bs) n e =
         | None ↦ λ _ g. absurd cc
         | Some next ↦ λ d g.
             let less = one_less (string_len next bs) n g in
-            rw (← less.2, ← c, ← d) (valued (byte_at state b) next (λ s. string_value s (take less.0 bs)) (has_value next bs less.0 less.1))
+            rw (← less.2, ← c, ← d) (valued (byte_read state b) next (λ s. string_value s (take less.0 bs)) (has_value next bs less.0 less.1))
       ] refl h
     ] refl e
 

@@ -7,6 +7,7 @@ use Rattle.base64.specs.Engines.{standard, standard_no_pad}
 use Rattle.base64.specs.GeneralPurpose as base64
 use Rattle.hex.specs.Hex as hex
 use Rattle.teal_value.specs.Base32.{base32_decoded}
+use Rattle.teal_value.specs.Choice.{or_else}
 use Rattle.teal_text.specs.declared.string.StringState.TheVariants.{Plain}
 use Rattle.teal_text.specs.Tokens.{is_base64_name}
 use Rattle.teal_text.specs.Strings.{string_value}
@@ -14,10 +15,6 @@ use Rattle.teal_text.specs.Strings.{string_value}
 -- a text of bytes in base64 of the standard alphabet, with its padding complete or absent
 abbrev pub IsBase64 : List ℕ → List ℕ → Type 0
 IsBase64 text bytes = (text ≡ base64.encode_of standard bytes) ⊎ (text ≡ base64.encode_of standard_no_pad bytes)
-
-abbrev pub or_else : Option (List ℕ) → Option (List ℕ) → Option (List ℕ)
-or_else (Some bytes) other = Some bytes
-or_else None other = other
 
 -- the bytes of which a text is such a spelling
 unfoldable pub base64_bytes : List ℕ → Option (List ℕ)

@@ -31,11 +31,11 @@ abbrev pub hex_value : ℕ → ℕ
 hex_value b = if is_ascii_hexdigit b then digit_value b else 0
 
 -- the byte of the value that is complete with this byte of the text, if one is
-abbrev pub byte_at : StringState → ℕ → Option ℕ
-byte_at Plain b = if b == 92 then None else Some b
-byte_at Escape b = if b == 120 then None else Some (escaped b)
-byte_at TwoDigits b = None
-byte_at (OneDigit high) b = Some (hex_value high * 16 + hex_value b)
+abbrev pub byte_read : StringState → ℕ → Option ℕ
+byte_read Plain b = if b == 92 then None else Some b
+byte_read Escape b = if b == 120 then None else Some (escaped b)
+byte_read TwoDigits b = None
+byte_read (OneDigit high) b = Some (hex_value high * 16 + hex_value b)
 
 abbrev pub push_front : Option ℕ → List ℕ → List ℕ
 push_front None bytes = bytes
@@ -50,4 +50,4 @@ unfoldable pub string_value : StringState → List ℕ → Option (List ℕ)
 string_value state [] = None
 string_value state (b ∷ bs) =
     if closes state b then (if length bs == 0 then Some [] else None)
-    else value_from (byte_at state b) (next_state state b) (λ next. string_value next bs)
+    else value_from (byte_read state b) (next_state state b) (λ next. string_value next bs)

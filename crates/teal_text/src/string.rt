@@ -2,7 +2,7 @@
 
 ghost use Rattle.std.specs.Prelude.{◌≡◌, ◌<◌, IfOk};
 ghost use Rattle.std.specs.Option.{option_map};
-ghost use Rattle.teal_text.specs.Strings.{closes, next_state, escaped, hex_value, byte_at, string_value};
+ghost use Rattle.teal_text.specs.Strings.{closes, next_state, escaped, hex_value, byte_read, string_value};
 
 use std::alloc::{AllocError, Global};
 
@@ -76,7 +76,7 @@ pub fn string_value(alloc: Global, string: &[u8]) -> Result<Option<Vec<u8>>, All
 
 /// The byte of the string's value that a byte of its text completes, if it does.
 fn byte_at(state: StringState, byte: u8) -> Option<u8>
-    ensures { result ≡ byte_at state byte }
+    ensures { result ≡ byte_read state byte }
 {
     match state {
         StringState::Plain => (byte != b'\\').then_some(byte),

@@ -2,15 +2,15 @@
 use Rattle.std.proofs.Common.{◌≡◌, ℕ, ◌<◌, ◌≤◌, List, [], ◌∷◌, ◌++◌, length, take, drop, append_assoc, get_or, refl, arith, rules, All}
 use Rattle.std.specs.List.{AllByRecursion}
 use Rattle.std.proofs.lemmas.List.Elements.{All-drop}
-use Rattle.teal_value.specs.Base32.{bytes_of}
+use Rattle.teal_value.specs.Base32.{bytes_of_digits}
 
 pub small_behind : (n : ℕ) (rest tail : List ℕ) → tail ≡ drop n rest → All (λ g. g < 32) rest → All (λ g. g < 32) tail
 small_behind n rest tail e small = rw e (All-drop (λ g. g < 32) n rest small)
 
 -- eight groups go from the rest to the bytes that are written
 pub goes_on : (out now rest tail : List ℕ) (all : List ℕ) → 8 ≤ length rest → tail ≡ drop 8 rest
-    → now ≡ out ++ take 5 (bytes_of (take 8 rest)) → out ++ bytes_of rest ≡ all → now ++ bytes_of tail ≡ all
-unfolding bytes_of
+    → now ≡ out ++ take 5 (bytes_of_digits (take 8 rest)) → out ++ bytes_of_digits rest ≡ all → now ++ bytes_of_digits tail ≡ all
+unfolding bytes_of_digits
 goes_on out now [] tail all long t n so_far = absurd (omega arith)
 goes_on out now (a ∷ []) tail all long t n so_far = absurd (omega arith)
 goes_on out now (a ∷ b ∷ []) tail all long t n so_far = absurd (omega arith)
@@ -33,8 +33,8 @@ front_of (a ∷ b ∷ c ∷ d ∷ e ∷ f ∷ []) long = absurd (omega arith)
 front_of (a ∷ b ∷ c ∷ d ∷ e ∷ f ∷ g ∷ []) long = absurd (omega arith)
 front_of (a ∷ b ∷ c ∷ d ∷ e ∷ f ∷ g ∷ h ∷ rest) long = refl
 
-pub bytes_each : (gs : List ℕ) → AllByRecursion (λ g. g < 32) gs → AllByRecursion (λ b. b < 256) (bytes_of gs)
-unfolding bytes_of
+pub bytes_each : (gs : List ℕ) → AllByRecursion (λ g. g < 32) gs → AllByRecursion (λ b. b < 256) (bytes_of_digits gs)
+unfolding bytes_of_digits
 bytes_each [] h = search rules
 bytes_each (p ∷ []) h = search rules
 bytes_each (p ∷ q ∷ []) h = (omega arith, search rules)

@@ -2,7 +2,7 @@
 use Rattle.std.proofs.Common.{◌≡◌, ℕ, ◌+◌, ◌*◌, ◌/◌, ◌%◌, ◌<◌, ◌≤◌, List, [], ◌∷◌, ◌++◌, length, take, drop, append_assoc, get_or, refl, ap, arith, rules, suc, All}
 use Rattle.std.specs.List.{AllByRecursion}
 use Rattle.std.proofs.lemmas.List.Elements.{All-from_recursion}
-use Rattle.teal_value.specs.Base32.{groups, bytes_of, IsBytes}
+use Rattle.teal_value.specs.Base32.{groups, bytes_of_digits, IsBytes}
 
 first : (a b : ℕ) → a < 256 → b < 256 → a / 8 * 8 + (a % 8 * 4 + b / 64) / 4 ≡ a
 first a b x y = omega arith
@@ -31,8 +31,8 @@ fourth_last c d x = omega arith
 fifth : (d e : ℕ) → e < 256 → (d % 4 * 8 + e / 32) % 8 * 32 + e % 32 ≡ e
 fifth d e x = omega arith
 
-pub bytes_of-groups : (bytes : List ℕ) → IsBytes bytes → bytes_of (groups bytes) ≡ bytes
-unfolding groups bytes_of
+pub bytes_of-groups : (bytes : List ℕ) → IsBytes bytes → bytes_of_digits (groups bytes) ≡ bytes
+unfolding groups bytes_of_digits
 bytes_of-groups [] h = refl
 bytes_of-groups (a ∷ []) h = rw (first_last a (h 0)) refl
 bytes_of-groups (a ∷ b ∷ []) h = rw (first a b (h 0) (h 1), second_last a b (h 1)) refl

@@ -12,7 +12,7 @@ use Rattle.std.proofs.lemmas.Slice.Eq.{bytes_eq-Decides}
 use Rattle.std.proofs.lemmas.Bool.{cases_lt, and_parts, or_cases}
 use Rattle.std.proofs.lemmas.Bool.Decides.{nat_tests}
 use Rattle.teal_value.specs.declared.base32.BadText.{BadText}
-use Rattle.teal_value.specs.Base32.{symbol, groups, base32, padding, padding_len, IsBase32, IsBytes, is_symbol, group_of, bytes_of, symbol_count, candidate, is_tail, base32_decoded}
+use Rattle.teal_value.specs.Base32.{symbol, groups, base32, padding, padding_len, IsBase32, IsBytes, is_symbol, group_of, bytes_of_digits, symbol_count, candidate, is_tail, base32_decoded}
 use Rattle.teal_value.proofs.Base32Groups.{bytes_of-groups, groups_each}
 use Rattle.teal_value.proofs.Base32Bytes.{bytes_each}
 
@@ -46,7 +46,7 @@ padding_count (suc n) = refl
 equal : (xs : List ℕ) → bytes_eq xs xs ≡ true
 equal xs = (bytes_eq-Decides xs xs).1 refl
 
-read : (text front rest bytes : List ℕ) (n : ℕ) → symbol_count text ≡ n → take n text ≡ front → drop n text ≡ rest → bytes_of (map group_of front) ≡ bytes → base32 bytes ≡ front → is_tail n rest ≡ true
+read : (text front rest bytes : List ℕ) (n : ℕ) → symbol_count text ≡ n → take n text ≡ front → drop n text ≡ rest → bytes_of_digits (map group_of front) ≡ bytes → base32 bytes ≡ front → is_tail n rest ≡ true
     → base32_decoded text ≡ Ok bytes
 unfolding base32_decoded
 read text front rest bytes n count before behind back spelled tail = rw (count, before, behind, back, spelled, equal front, tail) refl
@@ -56,7 +56,7 @@ unfolding base32
 read_spelling bytes rest small none tail =
     let each = groups_each bytes small in
     let text = map symbol (groups bytes) in
-    read (text ++ rest) text rest bytes (length text) (count_symbols (groups bytes) rest each none) (take-append_seam text rest) (drop-append_seam text rest) (ap bytes_of (groups_back (groups bytes) each) ∙ bytes_of-groups bytes small) refl tail
+    read (text ++ rest) text rest bytes (length text) (count_symbols (groups bytes) rest each none) (take-append_seam text rest) (drop-append_seam text rest) (ap bytes_of_digits (groups_back (groups bytes) each) ∙ bytes_of-groups bytes small) refl tail
 
 pub reads : (text bytes : List ℕ) → IsBytes bytes × IsBase32 text bytes → base32_decoded text ≡ Ok bytes
 reads text bytes (small, spelled) =
@@ -69,12 +69,12 @@ found : (b : Bool) (x bytes : List ℕ) (f : BadText) → cond b (Ok x) (Err f) 
 found true x bytes f e = (refl, cc)
 found false x bytes f e = absurd cc
 
-bytes_small : (gs : List ℕ) → AllByRecursion (λ g. g < 32) gs → IsBytes (bytes_of gs)
+bytes_small : (gs : List ℕ) → AllByRecursion (λ g. g < 32) gs → IsBytes (bytes_of_digits gs)
 bytes_small gs small i =
-    let each = All-from_recursion (λ b. b < 256) (bytes_of gs) (bytes_each gs small) in
-    elim (cases_lt i (length (bytes_of gs))) [
-      | inl lt ↦ All-get_or (λ b. b < 256) (bytes_of gs) i 0 lt each
-      | inr le ↦ rw (get_or-eq_default (bytes_of gs) 0 le) (omega arith)
+    let each = All-from_recursion (λ b. b < 256) (bytes_of_digits gs) (bytes_each gs small) in
+    elim (cases_lt i (length (bytes_of_digits gs))) [
+      | inl lt ↦ All-get_or (λ b. b < 256) (bytes_of_digits gs) i 0 lt each
+      | inr le ↦ rw (get_or-eq_default (bytes_of_digits gs) 0 le) (omega arith)
     ]
 
 tail_is : (n : ℕ) (text front rest : List ℕ) → text ≡ front ++ rest → n ≡ length front → is_tail n rest ≡ true → (text ≡ front) ⊎ (text ≡ front ++ padding (length front))

@@ -43,13 +43,13 @@ abbrev pub group_of : ℕ → ℕ
 group_of c = if nat_le 65 c && nat_le c 90 then c - 65 else if nat_le 50 c && nat_le c 55 then c - 24 else 0
 
 -- the bytes that groups fill: bits left over are dropped
-unfoldable pub bytes_of : List ℕ → List ℕ
-bytes_of (p ∷ q ∷ r ∷ s ∷ t ∷ u ∷ v ∷ w ∷ rest) = (p * 8 + q / 4) ∷ (q % 4 * 64 + r * 2 + s / 16) ∷ (s % 16 * 16 + t / 2) ∷ (t % 2 * 128 + u * 4 + v / 8) ∷ (v % 8 * 32 + w) ∷ bytes_of rest
-bytes_of (p ∷ q ∷ r ∷ s ∷ t ∷ u ∷ v ∷ []) = (p * 8 + q / 4) ∷ (q % 4 * 64 + r * 2 + s / 16) ∷ (s % 16 * 16 + t / 2) ∷ (t % 2 * 128 + u * 4 + v / 8) ∷ []
-bytes_of (p ∷ q ∷ r ∷ s ∷ t ∷ []) = (p * 8 + q / 4) ∷ (q % 4 * 64 + r * 2 + s / 16) ∷ (s % 16 * 16 + t / 2) ∷ []
-bytes_of (p ∷ q ∷ r ∷ s ∷ []) = (p * 8 + q / 4) ∷ (q % 4 * 64 + r * 2 + s / 16) ∷ []
-bytes_of (p ∷ q ∷ []) = (p * 8 + q / 4) ∷ []
-bytes_of other = []
+unfoldable pub bytes_of_digits : List ℕ → List ℕ
+bytes_of_digits (p ∷ q ∷ r ∷ s ∷ t ∷ u ∷ v ∷ w ∷ rest) = (p * 8 + q / 4) ∷ (q % 4 * 64 + r * 2 + s / 16) ∷ (s % 16 * 16 + t / 2) ∷ (t % 2 * 128 + u * 4 + v / 8) ∷ (v % 8 * 32 + w) ∷ bytes_of_digits rest
+bytes_of_digits (p ∷ q ∷ r ∷ s ∷ t ∷ u ∷ v ∷ []) = (p * 8 + q / 4) ∷ (q % 4 * 64 + r * 2 + s / 16) ∷ (s % 16 * 16 + t / 2) ∷ (t % 2 * 128 + u * 4 + v / 8) ∷ []
+bytes_of_digits (p ∷ q ∷ r ∷ s ∷ t ∷ []) = (p * 8 + q / 4) ∷ (q % 4 * 64 + r * 2 + s / 16) ∷ (s % 16 * 16 + t / 2) ∷ []
+bytes_of_digits (p ∷ q ∷ r ∷ s ∷ []) = (p * 8 + q / 4) ∷ (q % 4 * 64 + r * 2 + s / 16) ∷ []
+bytes_of_digits (p ∷ q ∷ []) = (p * 8 + q / 4) ∷ []
+bytes_of_digits other = []
 
 -- how many characters of the alphabet a text begins with
 abbrev pub symbol_count : List ℕ → ℕ
@@ -57,7 +57,7 @@ symbol_count text = prefix_len is_symbol text
 
 -- the bytes of the characters in front, which are the text's if it is one of their spellings
 abbrev pub candidate : List ℕ → List ℕ
-candidate text = bytes_of (map group_of (take (symbol_count text) text))
+candidate text = bytes_of_digits (map group_of (take (symbol_count text) text))
 
 -- what stands behind the characters of the alphabet: nothing or the padding
 abbrev pub is_tail : ℕ → List ℕ → Bool

@@ -1,5 +1,6 @@
 pub mod Answer
 pub mod ByteLists
+pub mod Choice
 pub mod Keys
 pub mod Base32
 pub mod AddressText

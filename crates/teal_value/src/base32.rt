@@ -3,7 +3,7 @@
 ghost use Rattle.std.specs.Prelude.{◌≡◌, ◌<◌, ◌≤◌, ◌↔◌, ℕ, List, Ok, IfOk, All, length, map};
 ghost use Rattle.std.specs.String.{string_bytes};
 ghost use Rattle.teal_value.specs.Answer.{Gives};
-ghost use Rattle.teal_value.specs.Base32.{base32, symbol, groups, group_of, bytes_of, symbol_count, is_symbol, is_tail, base32_decoded, IsBytes, IsBase32};
+ghost use Rattle.teal_value.specs.Base32.{base32, symbol, groups, group_of, bytes_of_digits, symbol_count, is_symbol, is_tail, base32_decoded, IsBytes, IsBase32};
 
 use crate::failure::Failure;
 use std::alloc::{AllocError, Global};
@@ -161,10 +161,10 @@ fn groups_of_symbols(alloc: Global, symbols: &[u8]) -> Result<Vec<u8>, AllocErro
 }
 
 /// The bytes that groups fill.
-#[tactic(auto, unfolding(crate::specs::Base32::bytes_of))]
+#[tactic(auto, unfolding(crate::specs::Base32::bytes_of_digits))]
 fn bytes_of(alloc: Global, groups: &[u8]) -> Result<Vec<u8>, AllocError>
     requires { All (λ g. g < 32) groups.now }
-    ensures { IfOk result (λ v. v.items ≡ bytes_of groups.now) }
+    ensures { IfOk result (λ v. v.items ≡ bytes_of_digits groups.now) }
 {
     let mut out = Vec::new(alloc);
     let mut rest = groups;
