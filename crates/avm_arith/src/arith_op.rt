@@ -4,9 +4,9 @@ ghost use Rattle.std.specs.Prelude.{◌≡◌, IfSome, Some};
 ghost use Rattle.avm_arith.specs.Families.{arith_opcode};
 
 use crate::{Binary, Bits, Comparison, Equality, Joined, OfBytes, Unary, Wide};
-use avm_cpu::{Cpu, Flow};
+use avm_cpu::Cpu;
 use avm_items::Env;
-use avm_ops::{Op, Stop};
+use avm_ops::{Executed, Op};
 use std::alloc::Global;
 use teal_code::Instr;
 use teal_table::Opcode;
@@ -68,13 +68,7 @@ impl Op for ArithOp {
         }
     }
 
-    fn exec(
-        &self,
-        alloc: Global,
-        instr: &Instr,
-        cpu: &mut Cpu,
-        env: &mut Env,
-    ) -> Result<Flow, Stop> {
+    fn exec(&self, alloc: Global, instr: &Instr, cpu: &mut Cpu, env: &mut Env) -> Executed {
         match self {
             ArithOp::Binary(op) => op.exec(alloc, instr, cpu, env),
             ArithOp::Comparison(op) => op.exec(alloc, instr, cpu, env),

@@ -5,7 +5,7 @@ ghost use Rattle.avm_arith.specs.Families.{binary_opcode, binary_value};
 
 use avm_cpu::{Cpu, Flow};
 use avm_items::Env;
-use avm_ops::{Op, Stop};
+use avm_ops::{Executed, Op};
 use std::alloc::Global;
 use teal_code::Instr;
 use teal_table::Opcode;
@@ -83,13 +83,7 @@ impl Op for Binary {
     }
 
     #[tactic(auto, unfolding(avm_ops::specs::Effect::effect))]
-    fn exec(
-        &self,
-        _alloc: Global,
-        _instr: &Instr,
-        cpu: &mut Cpu,
-        _env: &mut Env,
-    ) -> Result<Flow, Stop> {
+    fn exec(&self, _alloc: Global, _instr: &Instr, cpu: &mut Cpu, _env: &mut Env) -> Executed {
         let (a, b) = cpu.two_uints()?;
         let value = self.value(a, b)?;
         cpu.replace(2, Value::Uint(value));

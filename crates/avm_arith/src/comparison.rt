@@ -7,7 +7,7 @@ ghost use Rattle.avm_arith.specs.Families.{comparison_opcode, comparison_holds, 
 
 use avm_cpu::{Cpu, Flow};
 use avm_items::Env;
-use avm_ops::{Op, Stop};
+use avm_ops::{Executed, Op};
 use std::alloc::Global;
 use teal_code::Instr;
 use teal_table::Opcode;
@@ -88,13 +88,7 @@ impl Op for Comparison {
     }
 
     #[tactic(auto, unfolding(avm_ops::specs::Effect::effect))]
-    fn exec(
-        &self,
-        _alloc: Global,
-        _instr: &Instr,
-        cpu: &mut Cpu,
-        _env: &mut Env,
-    ) -> Result<Flow, Stop> {
+    fn exec(&self, _alloc: Global, _instr: &Instr, cpu: &mut Cpu, _env: &mut Env) -> Executed {
         let (a, b) = cpu.two_uints()?;
         let holds = self.holds(a, b);
         cpu.replace(2, flag(holds));
@@ -161,13 +155,7 @@ impl Op for Equality {
     }
 
     #[tactic(auto, unfolding(avm_ops::specs::Effect::effect))]
-    fn exec(
-        &self,
-        _alloc: Global,
-        _instr: &Instr,
-        cpu: &mut Cpu,
-        _env: &mut Env,
-    ) -> Result<Flow, Stop> {
+    fn exec(&self, _alloc: Global, _instr: &Instr, cpu: &mut Cpu, _env: &mut Env) -> Executed {
         let (a, b) = cpu.two_values()?;
         let same = are_equal(a, b)?;
         cpu.replace(2, flag(self.holds(same)));

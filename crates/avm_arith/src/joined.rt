@@ -6,7 +6,7 @@ ghost use Rattle.avm_arith.specs.Families.{joined_opcode};
 use crate::of_bytes::range_of;
 use avm_cpu::{Cpu, Flow, MAX_BYTES};
 use avm_items::Env;
-use avm_ops::{Op, Stop};
+use avm_ops::{Executed, Op, Stop};
 use std::alloc::{AllocError, Global};
 use teal_code::Instr;
 use teal_table::Opcode;
@@ -61,13 +61,7 @@ impl Op for Joined {
     }
 
     #[tactic(auto, unfolding(avm_ops::specs::Effect::effect))]
-    fn exec(
-        &self,
-        alloc: Global,
-        _instr: &Instr,
-        cpu: &mut Cpu,
-        _env: &mut Env,
-    ) -> Result<Flow, Stop> {
+    fn exec(&self, alloc: Global, _instr: &Instr, cpu: &mut Cpu, _env: &mut Env) -> Executed {
         match self {
             Joined::Concat => {
                 let (first, second) = cpu.two_bytes()?;

@@ -10,7 +10,7 @@ ghost use Rattle.avm_arith.specs.Families.{of_bytes_opcode, of_bytes_value};
 use avm_cpu::{Cpu, Flow};
 use avm_items::Env;
 use avm_ops::immediates::{end_of, start_of};
-use avm_ops::{Op, Stop};
+use avm_ops::{Executed, Op};
 use sha2::{Digest, Sha256, Sha512_256};
 use std::alloc::Global;
 use teal_code::{Immediates, Instr};
@@ -141,13 +141,7 @@ impl Op for OfBytes {
     }
 
     #[tactic(auto, unfolding(avm_ops::specs::Effect::effect))]
-    fn exec(
-        &self,
-        alloc: Global,
-        instr: &Instr,
-        cpu: &mut Cpu,
-        _env: &mut Env,
-    ) -> Result<Flow, Stop> {
+    fn exec(&self, alloc: Global, instr: &Instr, cpu: &mut Cpu, _env: &mut Env) -> Executed {
         let bytes = cpu.one_bytes()?;
         let value = self.value(alloc, &instr.immediates, bytes)?;
         cpu.replace(1, value);

@@ -7,7 +7,7 @@ ghost use Rattle.avm_arith.specs.Families.{unary_opcode, unary_value};
 use crate::comparison::flag;
 use avm_cpu::{Cpu, Flow};
 use avm_items::Env;
-use avm_ops::{Op, Stop};
+use avm_ops::{Executed, Op};
 use std::alloc::{AllocError, Global};
 use teal_code::Instr;
 use teal_table::Opcode;
@@ -65,13 +65,7 @@ impl Op for Unary {
     }
 
     #[tactic(auto, unfolding(avm_ops::specs::Effect::effect))]
-    fn exec(
-        &self,
-        alloc: Global,
-        _instr: &Instr,
-        cpu: &mut Cpu,
-        _env: &mut Env,
-    ) -> Result<Flow, Stop> {
+    fn exec(&self, alloc: Global, _instr: &Instr, cpu: &mut Cpu, _env: &mut Env) -> Executed {
         let a = cpu.one_uint()?;
         let value = self.value(alloc, a)?;
         cpu.replace(1, value);

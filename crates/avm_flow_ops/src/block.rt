@@ -6,7 +6,7 @@ ghost use Rattle.avm_flow_ops.specs.Families.{block_opcode};
 use avm_cpu::{Cpu, Flow};
 use avm_items::Env;
 use avm_ops::immediates::{byte_strings_of, uints_of};
-use avm_ops::{Op, Stop};
+use avm_ops::{Executed, Op};
 use std::alloc::Global;
 use teal_code::Instr;
 use teal_table::Opcode;
@@ -49,13 +49,7 @@ impl Op for Block {
     }
 
     #[tactic(auto, unfolding(avm_ops::specs::Effect::effect))]
-    fn exec(
-        &self,
-        alloc: Global,
-        instr: &Instr,
-        cpu: &mut Cpu,
-        _env: &mut Env,
-    ) -> Result<Flow, Stop> {
+    fn exec(&self, alloc: Global, instr: &Instr, cpu: &mut Cpu, _env: &mut Env) -> Executed {
         match self {
             Block::Intcblock => cpu.set_uint_constants(uints_of(&instr.immediates))?,
             Block::Bytecblock => {

@@ -6,7 +6,7 @@ ghost use Rattle.avm_flow_ops.specs.Families.{intc_opcode, intc_index, bytec_opc
 use avm_cpu::{Cpu, Flow};
 use avm_items::Env;
 use avm_ops::immediates::index_of;
-use avm_ops::{Op, Stop};
+use avm_ops::{Executed, Op};
 use std::alloc::Global;
 use teal_code::{Immediates, Instr};
 use teal_table::Opcode;
@@ -83,13 +83,7 @@ impl Op for Intc {
     }
 
     #[tactic(auto, unfolding(avm_ops::specs::Effect::effect))]
-    fn exec(
-        &self,
-        _alloc: Global,
-        instr: &Instr,
-        cpu: &mut Cpu,
-        _env: &mut Env,
-    ) -> Result<Flow, Stop> {
+    fn exec(&self, _alloc: Global, instr: &Instr, cpu: &mut Cpu, _env: &mut Env) -> Executed {
         let index = self.index(&instr.immediates);
         let number = cpu.uint_constant(index).ok_or(Fault::NoConstant)?;
         cpu.push(Value::Uint(number))?;
@@ -146,13 +140,7 @@ impl Op for Bytec {
     }
 
     #[tactic(auto, unfolding(avm_ops::specs::Effect::effect))]
-    fn exec(
-        &self,
-        alloc: Global,
-        instr: &Instr,
-        cpu: &mut Cpu,
-        _env: &mut Env,
-    ) -> Result<Flow, Stop> {
+    fn exec(&self, alloc: Global, instr: &Instr, cpu: &mut Cpu, _env: &mut Env) -> Executed {
         let index = self.index(&instr.immediates);
         let bytes = cpu.byte_constant(index).ok_or(Fault::NoConstant)?;
         let copy = ByteString::from_slice(alloc, bytes)?;

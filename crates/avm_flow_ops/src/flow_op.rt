@@ -4,9 +4,9 @@ ghost use Rattle.std.specs.Prelude.{◌≡◌, IfSome, Some};
 ghost use Rattle.avm_flow_ops.specs.Families.{flow_opcode};
 
 use crate::{Block, Branch, Bytec, Intc, Literal, Scratch, Stack, Stops};
-use avm_cpu::{Cpu, Flow};
+use avm_cpu::Cpu;
 use avm_items::Env;
-use avm_ops::{Op, Stop};
+use avm_ops::{Executed, Op};
 use std::alloc::Global;
 use teal_code::Instr;
 use teal_table::Opcode;
@@ -68,13 +68,7 @@ impl Op for FlowOp {
         }
     }
 
-    fn exec(
-        &self,
-        alloc: Global,
-        instr: &Instr,
-        cpu: &mut Cpu,
-        env: &mut Env,
-    ) -> Result<Flow, Stop> {
+    fn exec(&self, alloc: Global, instr: &Instr, cpu: &mut Cpu, env: &mut Env) -> Executed {
         match self {
             FlowOp::Block(op) => op.exec(alloc, instr, cpu, env),
             FlowOp::Branch(op) => op.exec(alloc, instr, cpu, env),

@@ -6,7 +6,7 @@ ghost use Rattle.avm_flow_ops.specs.Families.{literal_opcode};
 use avm_cpu::{Cpu, Flow};
 use avm_items::Env;
 use avm_ops::immediates::{bytes_of, uint_of};
-use avm_ops::{Op, Stop};
+use avm_ops::{Executed, Op};
 use std::alloc::Global;
 use teal_code::Instr;
 use teal_table::Opcode;
@@ -50,13 +50,7 @@ impl Op for Literal {
     }
 
     #[tactic(auto, unfolding(avm_ops::specs::Effect::effect))]
-    fn exec(
-        &self,
-        alloc: Global,
-        instr: &Instr,
-        cpu: &mut Cpu,
-        _env: &mut Env,
-    ) -> Result<Flow, Stop> {
+    fn exec(&self, alloc: Global, instr: &Instr, cpu: &mut Cpu, _env: &mut Env) -> Executed {
         match self {
             Literal::Pushbytes => {
                 let copy = ByteString::from_slice(alloc, bytes_of(&instr.immediates))?;

@@ -5,7 +5,7 @@ ghost use Rattle.avm_flow_ops.specs.Families.{stops_opcode};
 
 use avm_cpu::{Cpu, Flow};
 use avm_items::Env;
-use avm_ops::{Op, Stop};
+use avm_ops::{Executed, Op, Stop};
 use std::alloc::Global;
 use teal_code::Instr;
 use teal_table::Opcode;
@@ -55,13 +55,7 @@ impl Op for Stops {
     }
 
     #[tactic(auto, unfolding(avm_ops::specs::Effect::effect))]
-    fn exec(
-        &self,
-        _alloc: Global,
-        _instr: &Instr,
-        cpu: &mut Cpu,
-        _env: &mut Env,
-    ) -> Result<Flow, Stop> {
+    fn exec(&self, _alloc: Global, _instr: &Instr, cpu: &mut Cpu, _env: &mut Env) -> Executed {
         match self {
             Stops::Err => Err(Stop::Fault(Fault::Err)),
             Stops::Return => {

@@ -11,5 +11,5 @@ pub mod laws;
 mod op;
 mod set;
 
-pub use op::{BoxedOp, Op, Stop};
+pub use op::{BoxedOp, Executed, Op, Stop};
 pub use set::{OpSet, Ops, PushFault};

@@ -56,6 +56,9 @@ impl From<Failure<Fault>> for Stop {
     }
 }
 
+/// What an instruction comes to: where the program goes on, or why it was not carried out.
+pub type Executed = Result<Flow, Stop>;
+
 /// An object that carries out the instructions of one opcode. Whoever runs programs knows instructions by this alone.
 pub trait Op: Send + Drop {
     /// The opcode.
@@ -69,7 +72,7 @@ pub trait Op: Send + Drop {
     ///
     /// A branch has to lead to a place of at most 1024, the longest program. `Memory` is answered only where a growth
     /// was refused; the machine and the call's writes may be changed then.
-    fn exec(&self, alloc: Global, instr: &Instr, cpu: &mut Cpu, env: &mut Env) -> Result<Flow, Stop>
+    fn exec(&self, alloc: Global, instr: &Instr, cpu: &mut Cpu, env: &mut Env) -> Executed
         requires opcode { instr.now.opcode ≡ opcode self.now }
         requires ready { IsReady cpu.old.place (opcode self.now) instr.now.immediates }
         // What the opcode table says: the flow, the machine and the writes; or the fault; or the first item that isn't known.
@@ -93,13 +96,7 @@ impl Op for BoxedOp {
         self.op.code()
     }
 
-    fn exec(
-        &self,
-        alloc: Global,
-        instr: &Instr,
-        cpu: &mut Cpu,
-        env: &mut Env,
-    ) -> Result<Flow, Stop> {
+    fn exec(&self, alloc: Global, instr: &Instr, cpu: &mut Cpu, env: &mut Env) -> Executed {
         self.op.exec(alloc, instr, cpu, env)
     }
 }

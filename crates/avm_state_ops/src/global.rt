@@ -15,7 +15,7 @@ use avm_cpu::{Cpu, Flow};
 use avm_items::{Env, Item, ItemValue};
 use avm_ledger::Profile;
 use avm_ops::immediates::field_of;
-use avm_ops::{Op, Stop};
+use avm_ops::{Executed, Op, Stop};
 use std::alloc::Global;
 use teal_code::Instr;
 use teal_table::{GlobalField, Opcode, global_field};
@@ -77,13 +77,7 @@ impl Op for GlobalOp {
     }
 
     #[tactic(auto, unfolding(avm_ops::specs::Effect::effect))]
-    fn exec(
-        &self,
-        alloc: Global,
-        instr: &Instr,
-        cpu: &mut Cpu,
-        env: &mut Env,
-    ) -> Result<Flow, Stop> {
+    fn exec(&self, alloc: Global, instr: &Instr, cpu: &mut Cpu, env: &mut Env) -> Executed {
         let Some(field) = global_field(field_of(&instr.immediates)) else {
             return Err(Stop::Fault(Fault::BadField));
         };

@@ -13,7 +13,7 @@ use crate::fields::account;
 use crate::known::{application, global_entry, local_state};
 use avm_cpu::{Cpu, Flow};
 use avm_items::Env;
-use avm_ops::{Op, Stop};
+use avm_ops::{Executed, Op, Stop};
 use std::alloc::{AllocError, Global};
 use teal_code::Instr;
 use teal_table::Opcode;
@@ -109,7 +109,7 @@ fn foreign_application(env: &Env, offset: u64) -> Result<u64, Fault>
     }
 }
 
-fn opted_in(alloc: Global, cpu: &mut Cpu, env: &Env) -> Result<Flow, Stop>
+fn opted_in(alloc: Global, cpu: &mut Cpu, env: &Env) -> Executed
     ensures row { Does result cpu.new env.now (known_row opted_in cpu.old env.now) }
     ensures unchanged { IfStopped result (cpu.new ≡ cpu.old) }
 {
@@ -120,7 +120,7 @@ fn opted_in(alloc: Global, cpu: &mut Cpu, env: &Env) -> Result<Flow, Stop>
     Ok(Flow::Next)
 }
 
-fn local_get(alloc: Global, cpu: &mut Cpu, env: &Env) -> Result<Flow, Stop>
+fn local_get(alloc: Global, cpu: &mut Cpu, env: &Env) -> Executed
     ensures row { Does result cpu.new env.now (known_row local_get cpu.old env.now) }
     ensures unchanged { IfStopped result (cpu.new ≡ cpu.old) }
 {
@@ -134,7 +134,7 @@ fn local_get(alloc: Global, cpu: &mut Cpu, env: &Env) -> Result<Flow, Stop>
     Ok(Flow::Next)
 }
 
-fn local_get_ex(alloc: Global, cpu: &mut Cpu, env: &Env) -> Result<Flow, Stop>
+fn local_get_ex(alloc: Global, cpu: &mut Cpu, env: &Env) -> Executed
     ensures row { Does result cpu.new env.now (known_row local_get_ex cpu.old env.now) }
     ensures unchanged { IfStopped result (cpu.new ≡ cpu.old) }
 {
@@ -150,7 +150,7 @@ fn local_get_ex(alloc: Global, cpu: &mut Cpu, env: &Env) -> Result<Flow, Stop>
     Ok(Flow::Next)
 }
 
-fn global_get(alloc: Global, cpu: &mut Cpu, env: &Env) -> Result<Flow, Stop>
+fn global_get(alloc: Global, cpu: &mut Cpu, env: &Env) -> Executed
     ensures row { Does result cpu.new env.now (known_row global_get cpu.old env.now) }
     ensures unchanged { IfStopped result (cpu.new ≡ cpu.old) }
 {
@@ -160,7 +160,7 @@ fn global_get(alloc: Global, cpu: &mut Cpu, env: &Env) -> Result<Flow, Stop>
     Ok(Flow::Next)
 }
 
-fn global_get_ex(alloc: Global, cpu: &mut Cpu, env: &Env) -> Result<Flow, Stop>
+fn global_get_ex(alloc: Global, cpu: &mut Cpu, env: &Env) -> Executed
     ensures row { Does result cpu.new env.now (known_row global_get_ex cpu.old env.now) }
     ensures unchanged { IfStopped result (cpu.new ≡ cpu.old) }
 {
@@ -184,13 +184,7 @@ impl Op for StateRead {
     }
 
     #[tactic(auto, unfolding(avm_ops::specs::Effect::effect))]
-    fn exec(
-        &self,
-        alloc: Global,
-        _instr: &Instr,
-        cpu: &mut Cpu,
-        env: &mut Env,
-    ) -> Result<Flow, Stop> {
+    fn exec(&self, alloc: Global, _instr: &Instr, cpu: &mut Cpu, env: &mut Env) -> Executed {
         match self {
             StateRead::OptedIn => opted_in(alloc, cpu, env),
             StateRead::LocalGet => local_get(alloc, cpu, env),

@@ -4,9 +4,9 @@ ghost use Rattle.std.specs.Prelude.{◌≡◌, IfSome, Some};
 ghost use Rattle.avm_state_ops.specs.Families.{state_opcode};
 
 use crate::{GlobalOp, StateRead, StateWrite, Txn};
-use avm_cpu::{Cpu, Flow};
+use avm_cpu::Cpu;
 use avm_items::Env;
-use avm_ops::{Op, Stop};
+use avm_ops::{Executed, Op};
 use std::alloc::Global;
 use teal_code::Instr;
 use teal_table::Opcode;
@@ -52,13 +52,7 @@ impl Op for StateOp {
         }
     }
 
-    fn exec(
-        &self,
-        alloc: Global,
-        instr: &Instr,
-        cpu: &mut Cpu,
-        env: &mut Env,
-    ) -> Result<Flow, Stop> {
+    fn exec(&self, alloc: Global, instr: &Instr, cpu: &mut Cpu, env: &mut Env) -> Executed {
         match self {
             StateOp::Txn(op) => op.exec(alloc, instr, cpu, env),
             StateOp::Global(op) => op.exec(alloc, instr, cpu, env),

@@ -16,7 +16,7 @@ use crate::known::{application, global_counts, global_entry, local_state};
 use avm_cpu::{Cpu, Flow};
 use avm_items::{Env, Item, ItemValue};
 use avm_ledger::Application;
-use avm_ops::{Op, Stop};
+use avm_ops::{Executed, Op, Stop};
 use avm_states::{EntryCounts, MAX_VALUE_BYTES, Schema, State};
 use std::alloc::Global;
 use teal_code::Instr;
@@ -168,7 +168,7 @@ fn counts_of_delete(
     }
 }
 
-fn local_put(alloc: Global, cpu: &mut Cpu, env: &mut Env) -> Result<Flow, Stop>
+fn local_put(alloc: Global, cpu: &mut Cpu, env: &mut Env) -> Executed
     ensures row { Does result cpu.new env.new (known_row local_put cpu.old env.old) }
     ensures writes { env.new ≡ record env.old { writes = env.new.writes } }
     ensures unchanged { IfStopped result ((cpu.new ≡ cpu.old) × (env.new ≡ env.old)) }
@@ -193,7 +193,7 @@ fn local_put(alloc: Global, cpu: &mut Cpu, env: &mut Env) -> Result<Flow, Stop>
     Ok(Flow::Next)
 }
 
-fn global_put(alloc: Global, cpu: &mut Cpu, env: &mut Env) -> Result<Flow, Stop>
+fn global_put(alloc: Global, cpu: &mut Cpu, env: &mut Env) -> Executed
     ensures row { Does result cpu.new env.new (known_row global_put cpu.old env.old) }
     ensures writes { env.new ≡ record env.old { writes = env.new.writes } }
     ensures unchanged { IfStopped result ((cpu.new ≡ cpu.old) × (env.new ≡ env.old)) }
@@ -217,7 +217,7 @@ fn global_put(alloc: Global, cpu: &mut Cpu, env: &mut Env) -> Result<Flow, Stop>
     Ok(Flow::Next)
 }
 
-fn local_delete(alloc: Global, cpu: &mut Cpu, env: &mut Env) -> Result<Flow, Stop>
+fn local_delete(alloc: Global, cpu: &mut Cpu, env: &mut Env) -> Executed
     ensures row { Does result cpu.new env.new (known_row local_delete cpu.old env.old) }
     ensures writes { env.new ≡ record env.old { writes = env.new.writes } }
     ensures unchanged { IfStopped result ((cpu.new ≡ cpu.old) × (env.new ≡ env.old)) }
@@ -237,7 +237,7 @@ fn local_delete(alloc: Global, cpu: &mut Cpu, env: &mut Env) -> Result<Flow, Sto
     Ok(Flow::Next)
 }
 
-fn global_delete(alloc: Global, cpu: &mut Cpu, env: &mut Env) -> Result<Flow, Stop>
+fn global_delete(alloc: Global, cpu: &mut Cpu, env: &mut Env) -> Executed
     ensures row { Does result cpu.new env.new (known_row global_delete cpu.old env.old) }
     ensures writes { env.new ≡ record env.old { writes = env.new.writes } }
     ensures unchanged { IfStopped result ((cpu.new ≡ cpu.old) × (env.new ≡ env.old)) }
@@ -262,13 +262,7 @@ impl Op for StateWrite {
     }
 
     #[tactic(auto, unfolding(avm_ops::specs::Effect::effect))]
-    fn exec(
-        &self,
-        alloc: Global,
-        _instr: &Instr,
-        cpu: &mut Cpu,
-        env: &mut Env,
-    ) -> Result<Flow, Stop> {
+    fn exec(&self, alloc: Global, _instr: &Instr, cpu: &mut Cpu, env: &mut Env) -> Executed {
         match self {
             StateWrite::LocalPut => local_put(alloc, cpu, env),
             StateWrite::GlobalPut => global_put(alloc, cpu, env),
