@@ -17,7 +17,7 @@ use Rattle.avm_ledger.proofs.LedgerKept.{ledger_kept}
 use Rattle.avm_items.specs.declared.call_data.CallData.{CallData}
 use Rattle.avm_items.specs.CallFields.{completion_number}
 use Rattle.avm_call_codec.specs.CallReader.{call_front}
-use Rattle.avm_call_codec.specs.CallSpelling.{address_bytes, call_bytes}
+use Rattle.avm_call_codec.specs.CallSpelling.{address_bytes, terms_bytes, target_bytes, lists_bytes, programs_bytes, call_bytes}
 use Rattle.avm_call_codec.proofs.CallSpelled.{front_spells}
 use Rattle.avm_items.proofs.RulesKept.{empty_keeps}
 use Rattle.avm_laws.specs.Rules.{AreBytes, IsMachineValue, AreMachineValues, IsStoredOfBytes, IsCallOfBytes, IsSound}
@@ -96,19 +96,20 @@ empty_sound = record { rules = empty_keeps; of_bytes = record { applications = A
 pub call_of_bytes : (bytes : List ℕ) (c : CallData) (rest : List ℕ) → AreBytes bytes → call_front bytes ≡ Ok (c, rest) → IsCallOfBytes c
 call_of_bytes bytes c rest all e =
     let spelled = front_spells bytes c rest all e in
-    let p = parts c.sender.0 (
-    u64_bytes c.fee ∷ u64_bytes c.first_valid ∷ u64_bytes c.last_valid ∷ string_bytes c.note ∷ c.lease ∷ c.rekey_to.0 ∷ u64_bytes c.application ∷ u8_bytes (completion_number c.completion)
-    ∷ counted_bytes u8_bytes string_bytes c.arguments ∷ counted_bytes u8_bytes address_bytes c.accounts ∷ counted_bytes u8_bytes u64_bytes c.foreign_applications
-    ∷ string_bytes c.approval ∷ string_bytes c.clear ∷ schema_bytes c.global_schema ∷ schema_bytes c.local_schema ∷ []
-    ) (front_all (λ b. b < 256) (call_bytes c) rest (subst AreBytes (sym spelled.0) all)) in
+    let whole = front_all (λ b. b < 256) (call_bytes c) rest (subst AreBytes (sym spelled.0) all) in
+    let groups = parts (terms_bytes c) (target_bytes c ∷ lists_bytes c ∷ programs_bytes c ∷ []) whole in
+    let terms = parts c.sender.0 (u64_bytes c.fee ∷ u64_bytes c.first_valid ∷ u64_bytes c.last_valid ∷ string_bytes c.note ∷ []) groups.0 in
+    let target = parts c.lease (c.rekey_to.0 ∷ u64_bytes c.application ∷ u8_bytes (completion_number c.completion) ∷ []) groups.1.0 in
+    let lists = parts (counted_bytes u8_bytes string_bytes c.arguments) (counted_bytes u8_bytes address_bytes c.accounts ∷ counted_bytes u8_bytes u64_bytes c.foreign_applications ∷ []) groups.1.1.0 in
+    let programs = parts (string_bytes c.approval) (string_bytes c.clear ∷ schema_bytes c.global_schema ∷ schema_bytes c.local_schema ∷ []) groups.1.1.1.0 in
     record {
       fields = spelled.1;
-      sender = p.0;
-      note = string_part c.note p.1.1.1.1.0;
-      lease = p.1.1.1.1.1.0;
-      rekey_to = p.1.1.1.1.1.1.0;
-      arguments = each (λ s. AreBytes (string_bytes s)) AreBytes c.arguments string_part (counted_parts u8_bytes string_bytes c.arguments p.1.1.1.1.1.1.1.1.1.0);
-      accounts = counted_parts u8_bytes address_bytes c.accounts p.1.1.1.1.1.1.1.1.1.1.0;
-      approval = string_part c.approval p.1.1.1.1.1.1.1.1.1.1.1.1.0;
-      clear = string_part c.clear p.1.1.1.1.1.1.1.1.1.1.1.1.1.0;
+      sender = terms.0;
+      note = string_part c.note terms.1.1.1.1.0;
+      lease = target.0;
+      rekey_to = target.1.0;
+      arguments = each (λ s. AreBytes (string_bytes s)) AreBytes c.arguments string_part (counted_parts u8_bytes string_bytes c.arguments lists.0);
+      accounts = counted_parts u8_bytes address_bytes c.accounts lists.1.0;
+      approval = string_part c.approval programs.0;
+      clear = string_part c.clear programs.1.0;
     }
