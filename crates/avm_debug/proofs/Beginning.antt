@@ -53,7 +53,7 @@ next_by l old asking now p x s asks is =
         is = now_is;
         same_call = ap (λ (q : Progress). q.call) (sym same) ∙ s.same_call;
         same_header = ap (λ (q : Progress). q.header) (sym same) ∙ s.same_header;
-        tests = ap (λ (q : Progress). q.steps) (sym same) ∙ s.tests;
+        holds = ap (λ (q : Progress). q.steps) (sym same) ∙ s.holds;
         agrees = agrees_after p.reads x (at l x) (at l) refl (subst (λ (q : Progress). LookAgrees (value_in q.reads) (at l)) same s.agrees);
       };
       few = asks.few;
@@ -69,7 +69,7 @@ starts_next l old (Some p) asking now b x s begins need is = next_by l old askin
 begun_by : (l : Ledger) (old now : Option Progress) (p : Progress) → StartsOver l old (Some p) → MakesStep p now → HasBegun l old now
 begun_by l old now p s step =
     let same : s.here ≡ p = same_run (sym s.is) in
-    let none : p.steps ≡ None = ap (λ (q : Progress). q.steps) (sym same) ∙ s.tests in
+    let none : p.steps ≡ None = ap (λ (q : Progress). q.steps) (sym same) ∙ s.holds in
     record {
       first = s.first;
       was = s.was;
@@ -77,9 +77,8 @@ begun_by l old now p s step =
       is = step.now;
       same_call = ap (λ (q : Progress). q.call) (sym same) ∙ s.same_call;
       same_header = ap (λ (q : Progress). q.header) (sym same) ∙ s.same_header;
-      counted = ap (λ n. Some (next_step_number n)) none;
       agrees = subst (λ (q : Progress). LookAgrees (value_in q.reads) (at l)) same s.agrees;
-      there = subst (λ n. HasStep p.call p.header p.reads (next_step_number n)) none step.there;
+      holds = (ap (λ n. Some (next_step_number n)) none, subst (λ n. HasStep p.call p.header p.reads (next_step_number n)) none step.there);
     }
 
 pub program_begun : (l : Ledger) (old here now : Option Progress) (b : Begun) → StartsOver l old here → Begins here now b → b ≡ begun.Program → HasBegun l old now
@@ -147,7 +146,7 @@ pub opened : (l : Ledger) (call : CallData) (header : Header) (old now : Option 
 opened l call header old now start b =
     let first : b.first ≡ first_run call header = same_run (sym b.was ∙ start) in
     subst (Opened l call header) (sym b.is)
-    (opened_by l call header b.here (b.same_call ∙ ap (λ (q : Progress). q.call) first) (b.same_header ∙ ap (λ (q : Progress). q.header) first) b.counted b.agrees b.there)
+    (opened_by l call header b.here (b.same_call ∙ ap (λ (q : Progress). q.call) first) (b.same_header ∙ ap (λ (q : Progress). q.header) first) b.holds.0 b.agrees b.holds.1)
 
 -- ---- the run of a call before its tests
 
@@ -162,8 +161,8 @@ starts_at_first l call header run is = record {
   is = is;
   same_call = refl;
   same_header = refl;
-  tests = refl;
   agrees = none_agrees l;
+  holds = refl;
 }
 
 pub nothing_opened : (l : Ledger) (call : CallData) (header : Header) (old : Option Progress) → old ≡ Some (first_run call header) → HasNothing l old → HasNoProgram l call

@@ -176,11 +176,11 @@ comes_by l p d left =
     let s = sight_in p d.steps true d.counted left in
     let o = shows_over l p.call p.header p.reads d.steps s.0 d.agrees s.1 in
     record {
-      goes_on = record { first = p; was = refl; here = p; is = refl; same_call = refl; same_header = refl; same_steps = refl; agrees = d.agrees; before = stands p d.steps d.counted left };
+      goes_on = record { first = p; was = refl; here = p; is = refl; same_call = refl; same_header = refl; agrees = d.agrees; holds = (refl, stands p d.steps d.counted left) };
       refused = subst (λ m. StepsTo m None (Err failure.Memory)) (sym (seen_run l None p d.steps d.counted)) (before_instruction l p.call p.header d.steps s.0 o s.2, refl);
       made = λ now f t.
           let first : t.first ≡ p = same_run (sym t.was) in
-          let leads : LeadsBy p t.here f = subst (λ q. LeadsBy q t.here f) first t.leads in
+          let leads : LeadsBy p t.here f = subst (λ q. LeadsBy q t.here f) first t.holds in
           let one = led l p t.here d.steps s.0 f d.counted o s.2 (t.same_call ∙ ap (λ (q : Progress). q.call) first) (t.same_header ∙ ap (λ (q : Progress). q.header) first) t.agrees leads in (
             subst (λ m. IsKeptDebug l f (Some m)) (sym t.is) one.kept,
             subst (λ m. StepsTo (seen l None (Some (Some p))) (seen l f (Some m)) (Ok tt)) (sym t.is) one.steps,

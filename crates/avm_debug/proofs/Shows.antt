@@ -154,5 +154,5 @@ writes_there call header reads steps n items counted writes = subst (λ m. Write
 pub prepared_begun : (l : Ledger) (items : ItemMap) (old now : Option Progress) → HasBegun l old now → ShowsWrites now items → IsPreparedFor l items (Some now)
 prepared_begun l items old now b writes =
     let p = b.here in
-    let w = writes_there p.call p.header p.reads p.steps 0 items b.counted (subst (λ m. ShowsWrites m items) b.is writes) in
+    let w = writes_there p.call p.header p.reads p.steps 0 items b.holds.0 (subst (λ m. ShowsWrites m items) b.is writes) in
     subst (λ m. IsPreparedFor l items (Some m)) (sym b.is) (prepared_first l p.call p.header w.0 items (shows_over l p.call p.header p.reads 0 w.0 b.agrees w.1) w.2)

@@ -1,9 +1,6 @@
 -- The start of a run's program over a ledger.
 use Rattle.std.specs.Prelude.{◌≡◌, Bool, true, false, Option, Some, None}
 use Rattle.avm_ledger.specs.Ledgers.{Ledger}
-use Rattle.avm_items.specs.Items.{value_in}
-use Rattle.avm_items.specs.LedgerItems.{at}
-use Rattle.avm_items.specs.Locality.{LookAgrees}
 use Rattle.avm_call.specs.declared.outcome.Outcome.{Outcome}
 use Rattle.avm_run.specs.Advances.{AsksFor, MakesStep}
 use Rattle.avm_run.specs.Progress.{HasNoStep, HasStep}
@@ -11,6 +8,7 @@ use Rattle.avm_run.specs.RunState.{Progress}
 use Rattle.avm_debug.specs.declared.opening.Begun.{Begun}
 use Rattle.avm_debug.specs.declared.opening.Begun.TheVariants as begun
 use Rattle.avm_debug.specs.Opening.{HasNoProgram}
+use Rattle.avm_debug.specs.Stepping.{ComesOver}
 
 -- a run whose program has not begun
 abbrev pub IsAtTests : Option Progress → Type 0
@@ -23,28 +21,13 @@ Begins (Some p) after (begun.Need x) = AsksFor p p.steps after x
 Begins (Some p) after begun.Nothing = (o : Outcome) × HasNoStep p.call p.header p.reads 0 o
 Begins None after _ = ⊥
 
--- A run has come from another by items of the ledger alone, and its program has not begun.
-pub record StartsOver (l : Ledger) (old now : Option Progress) : Type 0 where
-  pub first : Progress
-  pub was : old ≡ Some first
-  pub here : Progress
-  pub is : now ≡ Some here
-  pub same_call : here.call ≡ first.call
-  pub same_header : here.header ≡ first.header
-  pub tests : here.steps ≡ None
-  pub agrees : LookAgrees (value_in here.reads) (at l)
+-- its program has not begun
+abbrev pub StartsOver : Ledger → Option Progress → Option Progress → Type 0
+StartsOver l old now = ComesOver l old now (λ first here. here.steps ≡ None)
 
--- the run of the call stands before the first instruction of its program
-pub record HasBegun (l : Ledger) (old now : Option Progress) : Type 0 where
-  pub first : Progress
-  pub was : old ≡ Some first
-  pub here : Progress
-  pub is : now ≡ Some here
-  pub same_call : here.call ≡ first.call
-  pub same_header : here.header ≡ first.header
-  pub counted : here.steps ≡ Some 0
-  pub agrees : LookAgrees (value_in here.reads) (at l)
-  pub there : HasStep here.call here.header here.reads 0
+-- it stands before the first instruction of its program
+abbrev pub HasBegun : Ledger → Option Progress → Option Progress → Type 0
+HasBegun l old now = ComesOver l old now (λ first here. (here.steps ≡ Some 0) × HasStep here.call here.header here.reads 0)
 
 pub record HasNothing (l : Ledger) (old : Option Progress) : Type 0 where
   pub first : Progress

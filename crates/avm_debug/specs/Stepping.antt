@@ -72,32 +72,28 @@ supplied l x (Some p) = Some (record p { reads = with_item p.reads x (at l x); a
 
 -- ---- a whole step
 
--- A run has come from another by items of the ledger alone, and stands before an instruction as that one.
-pub record GoesOnOver (l : Ledger) (old now : Option Progress) : Type 0 where
+-- A run of a call has come from another by items of the ledger alone, and this holds of the two.
+pub record ComesOver (l : Ledger) (old now : Option Progress) (Holds : Progress → Progress → Type 0) : Type 0 where
   pub first : Progress
   pub was : old ≡ Some first
   pub here : Progress
   pub is : now ≡ Some here
   pub same_call : here.call ≡ first.call
   pub same_header : here.header ≡ first.header
-  pub same_steps : here.steps ≡ first.steps
   pub agrees : LookAgrees (value_in here.reads) (at l)
-  pub before : StandsBefore here
+  pub holds : Holds first here
+
+-- it stands before an instruction as the first
+abbrev pub GoesOnOver : Ledger → Option Progress → Option Progress → Type 0
+GoesOnOver l old now = ComesOver l old now (λ first here. (here.steps ≡ first.steps) × StandsBefore here)
 
 abbrev pub LeadsBy : Progress → Progress → Option Fault → Type 0
 LeadsBy first here None = (here.steps ≡ Some (next_step_number first.steps)) × HasStep here.call here.header here.reads (next_step_number first.steps)
 LeadsBy first here (Some f) = (here.steps ≡ first.steps) × ((place : ℕ) × EndsPath here.call here.header here.reads here.steps (ended.Faulted f place))
 
--- It has made the step, or the step has faulted there.
-pub record LeadsTo (l : Ledger) (old now : Option Progress) (fault : Option Fault) : Type 0 where
-  pub first : Progress
-  pub was : old ≡ Some first
-  pub here : Progress
-  pub is : now ≡ Some here
-  pub same_call : here.call ≡ first.call
-  pub same_header : here.header ≡ first.header
-  pub agrees : LookAgrees (value_in here.reads) (at l)
-  pub leads : LeadsBy first here fault
+-- it has made the step, or the step has faulted there
+abbrev pub LeadsTo : Ledger → Option Progress → Option Progress → Option Fault → Type 0
+LeadsTo l old now fault = ComesOver l old now (λ first here. LeadsBy first here fault)
 
 abbrev pub reads_in : Option Progress → ItemMap
 reads_in None = []
