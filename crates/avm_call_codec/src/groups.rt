@@ -1,9 +1,6 @@
 //! The fields of a call in four groups, as they stand one after another in its bytes.
 
-ghost use Rattle.std.specs.Prelude.{◌≡◌};
-ghost use Rattle.avm_call_codec.specs.CallReader.{call_of_groups};
-
-use avm_items::{Addresses, CallData, Completion};
+use avm_items::{Addresses, Completion};
 use avm_states::Schema;
 use teal_value::{Address, ByteString, ByteStrings, Uints};
 
@@ -41,34 +38,4 @@ pub(crate) struct Programs {
     pub clear: ByteString,
     pub global_schema: Schema,
     pub local_schema: Schema,
-}
-
-/// The call of these fields.
-pub(crate) fn call_of_groups(
-    terms: Terms,
-    target: Target,
-    lists: Lists,
-    programs: Programs,
-) -> CallData
-    ensures { result ≡ call_of_groups terms target lists programs }
-{
-    let lease = target.lease;
-    CallData {
-        sender: terms.sender,
-        fee: terms.fee,
-        first_valid: terms.first_valid,
-        last_valid: terms.last_valid,
-        note: terms.note,
-        lease,
-        rekey_to: target.rekey_to,
-        application: target.application,
-        completion: target.completion,
-        arguments: lists.arguments,
-        accounts: lists.accounts,
-        foreign_applications: lists.foreign_applications,
-        approval: programs.approval,
-        clear: programs.clear,
-        global_schema: programs.global_schema,
-        local_schema: programs.local_schema,
-    }
 }

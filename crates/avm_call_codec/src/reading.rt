@@ -8,7 +8,7 @@ ghost use Rattle.avm_call_codec.specs.declared.call_data_fault.CallDataFault.The
 ghost use Rattle.avm_call_codec.specs.CallReader.{call_at, call_front, completion_at, lists_at, programs_at, target_at, terms_at};
 
 use crate::call_data_fault::{CallDataError, CallDataFault};
-use crate::groups::{Lists, Programs, Target, Terms, call_of_groups};
+use crate::groups::{Lists, Programs, Target, Terms};
 use avm_items::{Addresses, CallData, Completion};
 use avm_ledger::Fields;
 use std::alloc::Global;
@@ -36,7 +36,26 @@ pub(crate) fn front_of(
     let (target, rest) = target_of(rest)?;
     let (lists, rest) = lists_of(alloc, rest)?;
     let (programs, rest) = programs_of(alloc, rest)?;
-    Ok((call_of_groups(terms, target, lists, programs), rest))
+    let lease = target.lease;
+    let call = CallData {
+        sender: terms.sender,
+        fee: terms.fee,
+        first_valid: terms.first_valid,
+        last_valid: terms.last_valid,
+        note: terms.note,
+        lease,
+        rekey_to: target.rekey_to,
+        application: target.application,
+        completion: target.completion,
+        arguments: lists.arguments,
+        accounts: lists.accounts,
+        foreign_applications: lists.foreign_applications,
+        approval: programs.approval,
+        clear: programs.clear,
+        global_schema: programs.global_schema,
+        local_schema: programs.local_schema,
+    };
+    Ok((call, rest))
 }
 
 fn terms_of(alloc: Global, fields: Fields<'_>) -> Result<(Terms, Fields<'_>), CallDataError>
