@@ -1,2 +1,2 @@
-mod Scratch
 mod Tops
+mod Zeros

@@ -1,17 +1,20 @@
 //! The stack, the scratch space, the constants in force and the place of one run.
 
-ghost use Rattle.std.specs.Prelude.{◌≡◌, ◌+◌, ◌<◌, ◌≤◌, ◌∷◌, [], length, drop, reverse, replicate, take, slice_get, slice_set, IfOk, MatchOption, MatchResult, Ok, Err, Some, None};
+ghost use Rattle.std.specs.Prelude.{◌≡◌, ◌+◌, ◌<◌, ◌≤◌, ◌∷◌, [], length, drop, reverse, replicate, take, slice_get, slice_set, IfErr, IfOk, MatchOption, MatchResult, Ok, Err, Some, None};
 ghost use Rattle.std.specs.Option.{option_copied};
 ghost use Rattle.teal_value.specs.declared.fault.Fault.TheVariants.{StackFull};
 ghost use Rattle.teal_value.specs.declared.value.Value.TheVariants.{Uint, Bytes};
-ghost use Rattle.avm_cpu.specs.Machine.{filled, machine_at, with_stack, most_values};
+ghost use Rattle.teal_value.specs.Answer.{Leaves};
+ghost use Rattle.avm_cpu.specs.Copies.{with_copies, with_copy, with_loaded};
+ghost use Rattle.avm_cpu.specs.Machine.{machine_at, with_stack, most_values};
 ghost use Rattle.avm_cpu.specs.Operands.{one_uint, one_bytes, one_value, two_uints, two_bytes, two_values, uint_and_bytes, bytes_and_uint, bytes_and_value, value_and_uint, bytes_and_two_uints, value_and_two_uints, two_values_and_uint, two_uints_and_bytes, uint_bytes_and_value, value_below};
 
 use crate::constants::ByteConstants;
+use crate::values::{below_last, put, put_uint, put_zeros, swap_last, take_out, zeros};
 use arrayvec::ArrayVec;
 use std::alloc::{AllocError, Global};
 use std::marker::Model;
-use teal_value::{ByteString, Fault, Value, write_over};
+use teal_value::{ByteString, Failure, Fault, Value, write_over};
 
 /// The most values that stand on the stack (AVM specification, "The Stack").
 const MAX_VALUES: usize = 1000;
@@ -25,103 +28,32 @@ pub const MAX_BYTES: usize = 4096;
 /// The machine of one run.
 ///
 /// A program's instruction reads its operands by `&self`, computes and tests, and then changes the machine: so a fault
-/// leaves it as it was. The stack and the scratch space lie in boxes: a machine is moved by a few words, and is made once
-/// for many runs, by [`Cpu::reset`]. The memory for constants stays with it from run to run.
+/// leaves it as it was. The stack and the scratch space lie in boxes, and are written over in place: a machine is made once
+/// for many runs, by [`Cpu::reset`], and holds the memory of byte strings until they are written over. The memory for
+/// constants stays with it from run to run.
 #[derive(Drop)]
 pub struct Cpu {
+    /// The first of these are on the stack, so many as `depth` says, the top last; the others are of no account.
     stack: Box<ArrayVec<Value, MAX_VALUES>>,
-    /// The values of the scratch space up to the last that was written; the others are 0.
+    depth: usize,
+    /// All values of the scratch space; those from `used` on are 0.
     scratch: Box<ArrayVec<Value, PLACES>>,
-    /// The value of a place that was not written, to be lent.
-    zero: Value,
+    used: usize,
     uint_constants: Vec<u64>,
     byte_constants: ByteConstants,
     place: u16,
 }
 
 impl Model for Cpu {
-    ghost use Rattle.std.specs.Prelude.{◌≡◌, ◌≤◌, length, reverse};
+    ghost use Rattle.std.specs.Prelude.{◌≡◌, ◌-◌, ◌≤◌, length, drop, replicate, reverse, take};
     ghost use Rattle.teal_value.specs.declared.value.Value.TheVariants.{Uint};
-    ghost use Rattle.avm_cpu.specs.Machine.{Machine, filled};
+    ghost use Rattle.avm_cpu.specs.Machine.{Machine};
 
     ghost Value = { Machine };
 
-    ghost view = { λ c. record { stack = reverse c.stack.value.items; scratch = filled c.scratch.value.items; uint_constants = c.uint_constants.items; byte_constants = c.byte_constants; place = c.place } };
+    ghost view = { λ c. record { stack = reverse (take c.depth c.stack.value.items); scratch = c.scratch.value.items; uint_constants = c.uint_constants.items; byte_constants = c.byte_constants; place = c.place } };
 
-    ghost invariant = { λ c. (length c.scratch.value.items ≤ 256) × (c.zero ≡ Uint 0) };
-}
-
-/// The value so many below the last.
-fn nth_from_last(values: &[Value], depth: usize) -> Option<&Value>
-    ensures { option_copied result ≡ slice_get (reverse values.now) depth }
-{
-    if depth < values.len() {
-        Some(&values[values.len() - 1 - depth])
-    } else {
-        None
-    }
-}
-
-/// A stack without values. It is made out of line, since no caller is to have room for one among its own variables.
-#[inline(never)]
-fn empty_stack(alloc: Global) -> Result<Box<ArrayVec<Value, MAX_VALUES>>, AllocError>
-    ensures { IfOk result (λ stack. stack.value.items ≡ []) }
-{
-    Ok(Box::new(alloc, ArrayVec::new())?)
-}
-
-/// A scratch space without a value that was written, made out of line as the stack is.
-#[inline(never)]
-fn empty_scratch(alloc: Global) -> Result<Box<ArrayVec<Value, PLACES>>, AllocError>
-    ensures { IfOk result (λ scratch. scratch.value.items ≡ []) }
-{
-    Ok(Box::new(alloc, ArrayVec::new())?)
-}
-
-/// Writes the zeros of a scratch space out, up to a place and with it.
-fn fill(scratch: &mut ArrayVec<Value, PLACES>, place: usize)
-    requires place { place < 256 }
-    requires fits { length scratch.old.items ≤ 256 }
-    ensures same { filled scratch.new.items ≡ filled scratch.old.items }
-    ensures there { place < length scratch.new.items }
-    ensures fits { length scratch.new.items ≤ 256 }
-{
-    while scratch.len() <= place {
-        scratch.push(Value::Uint(0));
-    }
-}
-
-/// Writes a value to an index of a scratch space.
-#[tactic(auto, using(crate::proofs::Scratch::written_over))]
-fn write(scratch: &mut ArrayVec<Value, PLACES>, index: u8, value: Value)
-    requires fits { length scratch.old.items ≤ 256 }
-    ensures written { filled scratch.new.items ≡ slice_set (filled scratch.old.items) index value }
-    ensures fits { length scratch.new.items ≤ 256 }
-{
-    let place = usize::from(index);
-    fill(scratch, place);
-    scratch.as_mut_slice()[place] = value;
-}
-
-/// Puts a value in the place of the last ones, so many, of which there is at least one.
-fn put_over(values: &mut ArrayVec<Value, MAX_VALUES>, count: usize, value: Value)
-    requires some { 0 < count }
-    requires there { count ≤ length values.old.items }
-    ensures put { reverse values.new.items ≡ value ∷ drop count (reverse values.old.items) }
-    ensures len { length values.new.items + count ≡ length values.old.items + 1 }
-{
-    let kept = values.len() - count;
-    values.as_mut_slice()[kept] = value;
-    values.truncate(kept + 1);
-}
-
-/// Exchanges the last two values.
-fn swap_last(values: &mut ArrayVec<Value, MAX_VALUES>)
-    requires { 2 ≤ length values.old.items }
-    ensures { IfOk (two_values (reverse values.old.items)) (λ p. reverse values.new.items ≡ p.0 ∷ p.1 ∷ drop 2 (reverse values.old.items)) }
-{
-    let last = values.len() - 1;
-    values.as_mut_slice().swap(last - 1, last);
+    ghost invariant = { λ c. (length c.stack.value.items ≡ 1000) × (c.depth ≤ 1000) × (length c.scratch.value.items ≡ 256) × (c.used ≤ 256) × (drop c.used c.scratch.value.items ≡ replicate (256 - c.used) (Uint 0)) };
 }
 
 impl Cpu {
@@ -130,12 +62,13 @@ impl Cpu {
     pub fn new(alloc: Global, place: u16) -> Result<Cpu, AllocError>
         ensures { IfOk result (λ cpu. cpu ≡ machine_at place) }
     {
-        let stack = empty_stack(alloc)?;
-        let scratch = empty_scratch(alloc)?;
+        let stack = zeros(alloc)?;
+        let scratch = zeros(alloc)?;
         Ok(Cpu {
             stack,
+            depth: 0,
             scratch,
-            zero: Value::Uint(0),
+            used: 0,
             uint_constants: Vec::new(alloc),
             byte_constants: ByteConstants::new(alloc),
             place,
@@ -143,12 +76,13 @@ impl Cpu {
     }
 
     /// Becomes the machine before a program's first instruction, which stands at the place. It takes no memory, costs no
-    /// more than what stands on the stack and in the scratch space, and keeps the memory for constants.
+    /// more than the scratch space that was used, and keeps the memory for constants.
     pub fn reset(&mut self, place: u16)
         ensures { self.new ≡ machine_at place }
     {
-        self.stack.clear();
-        self.scratch.clear();
+        self.depth = 0;
+        put_zeros(&mut self.scratch, self.used);
+        self.used = 0;
         self.uint_constants.clear();
         self.byte_constants.clear();
         self.place = place;
@@ -158,21 +92,23 @@ impl Cpu {
     pub fn values(&self) -> &[Value]
         ensures { result.now ≡ reverse self.now.stack }
     {
-        self.stack.as_slice()
+        &self.stack.as_slice()[..self.depth]
     }
 
     /// How many values the stack holds.
+    #[inline]
     pub fn depth(&self) -> usize
         ensures depth { result ≡ length self.now.stack }
         ensures fits { result ≤ most_values }
     {
-        self.stack.len()
+        self.depth
     }
 
+    #[inline]
     fn value_at(&self, depth: usize) -> Option<&Value>
         ensures { option_copied result ≡ slice_get self.now.stack depth }
     {
-        nth_from_last(self.stack.as_slice(), depth)
+        below_last(self.stack.as_slice(), self.depth, depth)
     }
 
     /// The value on top.
@@ -183,6 +119,7 @@ impl Cpu {
     }
 
     /// The value so many below the top.
+    #[inline]
     pub fn value_below(&self, depth: u8) -> Result<&Value, Fault>
         ensures { MatchResult result (λ a. value_below depth self.now.stack ≡ Ok a.now) (λ f. value_below depth self.now.stack ≡ Err f) }
     {
@@ -190,6 +127,7 @@ impl Cpu {
     }
 
     /// The number on top.
+    #[inline]
     pub fn one_uint(&self) -> Result<u64, Fault>
         ensures { result ≡ one_uint self.now.stack }
     {
@@ -212,6 +150,7 @@ impl Cpu {
     }
 
     /// The value on top.
+    #[inline]
     pub fn one_value(&self) -> Result<&Value, Fault>
         ensures { MatchResult result (λ a. one_value self.now.stack ≡ Ok a.now) (λ f. one_value self.now.stack ≡ Err f) }
     {
@@ -222,6 +161,7 @@ impl Cpu {
     }
 
     /// The two numbers on top, the deeper one first.
+    #[inline]
     pub fn two_uints(&self) -> Result<(u64, u64), Fault>
         ensures { result ≡ two_uints self.now.stack }
     {
@@ -244,6 +184,7 @@ impl Cpu {
     }
 
     /// The two values on top, the deeper one first.
+    #[inline]
     pub fn two_values(&self) -> Result<(&Value, &Value), Fault>
         ensures { MatchResult result (λ p. two_values self.now.stack ≡ Ok (p.0.now, p.1.now)) (λ f. two_values self.now.stack ≡ Err f) }
     {
@@ -361,6 +302,7 @@ impl Cpu {
     }
 
     /// Removes the number on top.
+    #[inline]
     pub fn pop_uint(&mut self) -> Result<u64, Fault>
         ensures { MatchResult result
             (λ n. (one_uint self.old.stack ≡ Ok n) × (self.new ≡ with_stack self.old (drop 1 self.old.stack)))
@@ -389,19 +331,51 @@ impl Cpu {
         ensures stack { self.old.stack ≡ result ∷ drop 1 self.old.stack }
         ensures rest { self.new ≡ with_stack self.old (drop 1 self.old.stack) }
     {
-        match self.stack.pop() {
-            Some(value) => value,
-            None => unreachable!(),
-        }
+        self.depth -= 1;
+        take_out(&mut self.stack, self.depth)
     }
 
     /// Drops the values on top, so many.
+    #[inline]
     pub fn drop_top(&mut self, count: usize)
         requires { count ≤ length self.old.stack }
         ensures { self.new ≡ with_stack self.old (drop count self.old.stack) }
     {
-        let depth = self.stack.len();
-        self.stack.truncate(depth - count);
+        self.depth -= count;
+    }
+
+    /// Puts a value in the place of those on top, so many, where that leaves no more than the stack has room for.
+    fn put_over(&mut self, count: usize, value: Value)
+        requires there { count ≤ length self.old.stack }
+        requires room { length self.old.stack < most_values + count }
+        ensures { self.new ≡ with_stack self.old (value ∷ drop count self.old.stack) }
+    {
+        let place = self.depth - count;
+        put(&mut self.stack, place, value);
+        self.depth = place + 1;
+    }
+
+    /// Puts a number in the place of those on top, as [`Cpu::put_over`] does.
+    #[inline]
+    fn put_uint_over(&mut self, count: usize, number: u64)
+        requires there { count ≤ length self.old.stack }
+        requires room { length self.old.stack < most_values + count }
+        ensures { self.new ≡ with_stack self.old (Uint number ∷ drop count self.old.stack) }
+    {
+        let place = self.depth - count;
+        put_uint(&mut self.stack, place, number);
+        self.depth = place + 1;
+    }
+
+    /// Puts a number on top. The write comes last, so that the rare one over a byte string leaves nothing to be done behind it.
+    #[inline]
+    fn put_uint_on_top(&mut self, number: u64)
+        requires { length self.old.stack < most_values }
+        ensures { self.new ≡ with_stack self.old (Uint number ∷ self.old.stack) }
+    {
+        let place = self.depth;
+        self.depth = place + 1;
+        put_uint(&mut self.stack, place, number);
     }
 
     /// Puts a value on top, where there is room.
@@ -410,10 +384,24 @@ impl Cpu {
             (λ _. (length self.old.stack < most_values) × (self.new ≡ with_stack self.old (value ∷ self.old.stack)))
             (λ f. (most_values ≤ length self.old.stack) × (f ≡ StackFull) × (self.new ≡ self.old)) }
     {
-        if self.stack.is_full() {
+        if self.depth() == MAX_VALUES {
             return Err(Fault::StackFull);
         }
-        self.stack.push(value);
+        self.put_over(0, value);
+        Ok(())
+    }
+
+    /// Puts a number on top, where there is room.
+    #[inline]
+    pub fn push_uint(&mut self, number: u64) -> Result<(), Fault>
+        ensures { MatchResult result
+            (λ _. (length self.old.stack < most_values) × (self.new ≡ with_stack self.old (Uint number ∷ self.old.stack)))
+            (λ f. (most_values ≤ length self.old.stack) × (f ≡ StackFull) × (self.new ≡ self.old)) }
+    {
+        if self.depth() == MAX_VALUES {
+            return Err(Fault::StackFull);
+        }
+        self.put_uint_on_top(number);
         Ok(())
     }
 
@@ -426,9 +414,59 @@ impl Cpu {
         if self.depth() + 2 > MAX_VALUES {
             return Err(Fault::StackFull);
         }
-        self.stack.push(below);
-        self.stack.push(top);
+        self.put_over(0, below);
+        self.put_over(0, top);
         Ok(())
+    }
+
+    /// Puts two numbers on top, where there is room for both; the second becomes the top.
+    #[inline]
+    pub fn push_uints(&mut self, below: u64, top: u64) -> Result<(), Fault>
+        ensures { MatchResult result
+            (λ _. (length self.old.stack + 2 ≤ most_values) × (self.new ≡ with_stack self.old (Uint top ∷ Uint below ∷ self.old.stack)))
+            (λ f. (most_values < length self.old.stack + 2) × (f ≡ StackFull) × (self.new ≡ self.old)) }
+    {
+        if self.depth() + 2 > MAX_VALUES {
+            return Err(Fault::StackFull);
+        }
+        self.put_uint_on_top(below);
+        self.put_uint_on_top(top);
+        Ok(())
+    }
+
+    /// Puts a copy of the value so many below the top on top, where there is room. Out of line: numbers, which most values
+    /// are, are better pushed by [`Cpu::push_uint`].
+    #[cold]
+    #[inline(never)]
+    pub fn push_copy(&mut self, depth: u8) -> Result<(), Failure<Fault>>
+        ensures copied { Leaves result self.new (with_copy depth self.old) }
+        ensures unchanged { IfErr result (λ _. self.new ≡ self.old) }
+    {
+        match self.value_below(depth) {
+            Ok(value) => {
+                let copy = value.clone()?;
+                self.push(copy).map_err(Failure::Fault)
+            }
+            Err(fault) => Err(Failure::Fault(fault)),
+        }
+    }
+
+    /// Puts copies of the two values on top on top of them, in their order, where there is room for both. Out of line, as
+    /// [`Cpu::push_copy`] is.
+    #[cold]
+    #[inline(never)]
+    pub fn push_copies(&mut self) -> Result<(), Failure<Fault>>
+        ensures copied { Leaves result self.new (with_copies self.old) }
+        ensures unchanged { IfErr result (λ _. self.new ≡ self.old) }
+    {
+        match self.two_values() {
+            Ok((below, top)) => {
+                let below_copy = below.clone()?;
+                let top_copy = top.clone()?;
+                self.push_pair(below_copy, top_copy).map_err(Failure::Fault)
+            }
+            Err(fault) => Err(Failure::Fault(fault)),
+        }
     }
 
     /// Puts a value in the place of those on top, so many, of which there is at least one.
@@ -437,7 +475,19 @@ impl Cpu {
         requires there { count ≤ length self.old.stack }
         ensures { self.new ≡ with_stack self.old (value ∷ drop count self.old.stack) }
     {
-        put_over(&mut self.stack, count, value);
+        let _depth = self.depth();
+        self.put_over(count, value);
+    }
+
+    /// Puts a number in the place of those on top, so many, of which there is at least one.
+    #[inline]
+    pub fn set_uint(&mut self, count: usize, number: u64)
+        requires some { 0 < count }
+        requires there { count ≤ length self.old.stack }
+        ensures { self.new ≡ with_stack self.old (Uint number ∷ drop count self.old.stack) }
+    {
+        let _depth = self.depth();
+        self.put_uint_over(count, number);
     }
 
     /// Puts two values in the place of those on top, so many, of which there are at least two; the second becomes the
@@ -448,8 +498,21 @@ impl Cpu {
         ensures { self.new ≡ with_stack self.old (top ∷ below ∷ drop count self.old.stack) }
     {
         let _depth = self.depth();
-        put_over(&mut self.stack, count, below);
-        self.stack.push(top);
+        self.put_over(count, below);
+        self.put_over(0, top);
+    }
+
+    /// Puts two numbers in the place of the values on top, so many, of which there are at least two; the second becomes
+    /// the top.
+    #[inline]
+    pub fn set_uints(&mut self, count: usize, below: u64, top: u64)
+        requires some { 2 ≤ count }
+        requires there { count ≤ length self.old.stack }
+        ensures { self.new ≡ with_stack self.old (Uint top ∷ Uint below ∷ drop count self.old.stack) }
+    {
+        let _depth = self.depth();
+        self.put_uint_over(count, below);
+        self.put_uint_on_top(top);
     }
 
     /// Drops the value below the top.
@@ -462,38 +525,84 @@ impl Cpu {
     }
 
     /// Exchanges the two values on top.
+    #[inline]
     pub fn swap(&mut self)
         requires { 2 ≤ length self.old.stack }
         ensures { IfOk (two_values self.old.stack) (λ p. self.new ≡ with_stack self.old (p.0 ∷ p.1 ∷ drop 2 self.old.stack)) }
     {
-        swap_last(&mut self.stack);
+        swap_last(&mut self.stack, self.depth);
     }
 
     /// Leaves one value alone on the stack.
     pub fn set_only(&mut self, value: Value)
         ensures { self.new ≡ with_stack self.old (value ∷ []) }
     {
-        self.stack.clear();
-        self.stack.push(value);
+        put(&mut self.stack, 0, value);
+        self.depth = 1;
     }
 
     /// The value at an index of the scratch space.
+    #[inline]
     pub fn scratch(&self, index: u8) -> &Value
         ensures { slice_get self.now.scratch index ≡ Some result.now }
     {
-        match self.scratch.as_slice().get(usize::from(index)) {
-            Some(value) => value,
-            None => &self.zero,
-        }
+        &self.scratch.as_slice()[usize::from(index)]
+    }
+
+    /// Puts a copy of the value at an index of the scratch space on top, where there is room. Out of line, as
+    /// [`Cpu::push_copy`] is.
+    #[cold]
+    #[inline(never)]
+    pub fn load(&mut self, index: u8) -> Result<(), Failure<Fault>>
+        ensures copied { Leaves result self.new (with_loaded index self.old) }
+        ensures unchanged { IfErr result (λ _. self.new ≡ self.old) }
+    {
+        let copy = self.scratch(index).clone()?;
+        self.push(copy).map_err(Failure::Fault)
     }
 
     /// Moves the value on top to an index of the scratch space.
+    #[inline]
     pub fn store(&mut self, index: u8)
         requires { 0 < length self.old.stack }
         ensures { IfOk (one_value self.old.stack) (λ v. self.new ≡ record self.old { stack = drop 1 self.old.stack; scratch = slice_set self.old.scratch index v }) }
     {
+        match self.one_uint() {
+            Ok(number) => {
+                self.drop_top(1);
+                self.write_uint(index, number);
+            }
+            Err(_) => self.store_bytes(index),
+        }
+    }
+
+    #[cold]
+    #[inline(never)]
+    fn store_bytes(&mut self, index: u8)
+        requires { 0 < length self.old.stack }
+        ensures { IfOk (one_value self.old.stack) (λ v. self.new ≡ record self.old { stack = drop 1 self.old.stack; scratch = slice_set self.old.scratch index v }) }
+    {
         let value = self.take_top();
-        write(&mut self.scratch, index, value);
+        self.write(index, value);
+    }
+
+    /// Writes a value to an index of the scratch space.
+    fn write(&mut self, index: u8, value: Value)
+        ensures { self.new ≡ record self.old { scratch = slice_set self.old.scratch index value } }
+    {
+        let place = usize::from(index);
+        put(&mut self.scratch, place, value);
+        self.used = self.used.max(place + 1);
+    }
+
+    /// Writes a number to an index of the scratch space.
+    #[inline]
+    fn write_uint(&mut self, index: u8, number: u64)
+        ensures { self.new ≡ record self.old { scratch = slice_set self.old.scratch index (Uint number) } }
+    {
+        let place = usize::from(index);
+        self.used = self.used.max(place + 1);
+        put_uint(&mut self.scratch, place, number);
     }
 
     /// The uint constants in force.
@@ -504,6 +613,7 @@ impl Cpu {
     }
 
     /// The uint constant of that number in force, if there is one.
+    #[inline]
     pub fn uint_constant(&self, index: u8) -> Option<u64>
         ensures { result ≡ slice_get self.now.uint_constants index }
     {
@@ -551,6 +661,7 @@ impl Cpu {
     }
 
     /// The place of the instruction that runs.
+    #[inline]
     pub fn place(&self) -> u16
         ensures { result ≡ self.now.place }
     {
@@ -558,6 +669,7 @@ impl Cpu {
     }
 
     /// Goes on to another place.
+    #[inline]
     pub fn set_place(&mut self, place: u16)
         ensures { self.new ≡ record self.old { place = place } }
     {

@@ -5,6 +5,7 @@
 mod constants;
 mod cpu;
 mod flow;
+mod values;
 
 pub use cpu::{Cpu, MAX_BYTES};
 pub use flow::Flow;

@@ -1,13 +1,14 @@
 use Rattle.std.proofs.Common.{◌≤◌, arith, length, ap}
-use Rattle.std.proofs.lemmas.List.{length-reverse}
 use Rattle.avm_cpu.specs.Machine.{Machine}
-use Rattle.avm_cpu.proofs.Tops.{drop_reverse}
+use Rattle.avm_cpu.proofs.Tops.{drop_tops, many}
 use Rattle.avm_cpu.proofs.cpu.Cpu.drop_top.Goals as goal
 
 pub returns : goal.returns
 returns c =
     let xs = c.self.inside.stack.value.items in
+    let n = c.self.inside.depth in
+    let fits : n ≤ length xs = omega arith in
     let depth = ap (λ (m : Machine). length m.stack) c.self.view_is in
-    let within : c.args.count ≤ length xs = omega (arith, length-reverse xs) in
-    let rest = drop_reverse c.args.count xs within in
+    let within : c.args.count ≤ n = omega (arith, many n xs fits) in
+    let rest = drop_tops c.args.count n xs within fits in
     rw (← c.self.view_is) cc
