@@ -21,7 +21,7 @@ use Rattle.teal_source.specs.Statements.{has_label}
 use Rattle.teal_asm.specs.Meaning.{Meant, Straight, Branch, branch, commands_in, label_entry, labels_from, gathered_blocks, optional_instruction, instructions, all_instructions}
 use Rattle.teal_asm.specs.Program.{size, total_size}
 use Rattle.teal_asm.specs.Thinned.{AreSameOrLong, Thins, command_count, branch_fault, branch_label, own_fault}
-use Rattle.teal_asm.proofs.Bodying.{command_count-push, label_there, labels-push}
+use Rattle.teal_asm.proofs.Bodies.{command_count-push, label_there, labels-push}
 
 -- ---- where labels stand
 

@@ -1,6 +1,6 @@
 pub mod Emitting
 pub mod Gathering
-pub mod Bodying
+pub mod Bodies
 pub mod LineByLine
 pub mod Assembled
 pub mod Pragma

@@ -14,7 +14,7 @@ use Rattle.teal_source.specs.declared.fault.AsmFault.{AsmFault}
 use Rattle.teal_source.specs.Operands.{Word}
 use Rattle.teal_source.specs.Statements.{has_label}
 use Rattle.teal_asm.specs.Thinned.{own_fault, branch_fault, branch_label, front_fault, jumps_to, leads_back, IsNeedless}
-use Rattle.teal_asm.proofs.Bodying.{list_any-push, or_assoc, or_false}
+use Rattle.teal_asm.proofs.Bodies.{list_any-push, or_assoc, or_false}
 
 -- ---- what labels decide
 

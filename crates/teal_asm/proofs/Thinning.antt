@@ -11,7 +11,7 @@ use Rattle.teal_source.specs.Operands.{Word}
 use Rattle.teal_source.specs.Commands.{command}
 use Rattle.teal_source.specs.Statements.{Words, behind, has_label, gathered_uint, gathered_string, gathered_uints, gathered_strings, distinct, with_new, is_uint_block, is_byte_block, label_name, labelled, optional_command, statement}
 use Rattle.teal_asm.specs.Thinned.{IsNeedless, Thins, branch_fault, command_count}
-use Rattle.teal_asm.proofs.Bodying.{uints-push, strings-push, list_any-push, command_count-push}
+use Rattle.teal_asm.proofs.Bodies.{uints-push, strings-push, list_any-push, command_count-push}
 use Rattle.teal_asm.proofs.Needless.{no_label}
 
 -- ---- what is kept

@@ -3,7 +3,7 @@ use Rattle.std.specs.Str.{bytes_eq}
 use Rattle.teal_source.specs.Statements.{distinct, gathered_uint, gathered_string, gathered_uints, gathered_strings, is_uint_block, is_byte_block}
 use Rattle.teal_asm.specs.Thinned.{command_count}
 use Rattle.teal_asm.specs.Meaning.{labels_from, label_entry}
-use Rattle.teal_asm.proofs.Bodying.{uints-push, strings-push, list_any-push, labels-push, command_count-push, command_count-le, is_mixed, is_too_many, is_behind, few, body_is, is_fresh}
+use Rattle.teal_asm.proofs.Bodies.{uints-push, strings-push, list_any-push, labels-push, command_count-push, command_count-le, is_mixed, is_too_many, is_behind, few, body_is, is_fresh}
 use Rattle.teal_asm.proofs.Needless.{back_more, targets_more}
 use Rattle.teal_asm.proofs.Thinning.{no_new_block, nothing_new, thins_dropped, thins_itself}
 use Rattle.teal_asm.proofs.body.Body.add.Goals as goal

@@ -2,7 +2,7 @@ use Rattle.std.proofs.Common.{ap, ◌∙◌}
 use Rattle.std.specs.Prelude.{is_some}
 use Rattle.std.specs.Map.{lookup}
 use Rattle.std.specs.Str.{bytes_eq}
-use Rattle.teal_asm.proofs.Bodying.{label_there}
+use Rattle.teal_asm.proofs.Bodies.{label_there}
 use Rattle.teal_asm.proofs.body.Body.has_label.Goals as goal
 
 pub returns : goal.returns

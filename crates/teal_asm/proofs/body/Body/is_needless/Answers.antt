@@ -1,5 +1,5 @@
 use Rattle.std.proofs.Common.{sym, ◌∙◌, arith}
-use Rattle.teal_asm.proofs.Bodying.{no_value}
+use Rattle.teal_asm.proofs.Bodies.{no_value}
 use Rattle.teal_asm.proofs.Needless.{behind_one_back, behind_one_that_waits, no_branch}
 use Rattle.teal_asm.proofs.body.Body.is_needless.Goals as goal
 

@@ -3,7 +3,7 @@ use Rattle.std.specs.Map.{lookup}
 use Rattle.std.specs.Prelude.{is_some}
 use Rattle.std.specs.Str.{bytes_eq}
 use Rattle.teal_asm.specs.Meaning.{labels_from}
-use Rattle.teal_asm.proofs.Bodying.{body_is}
+use Rattle.teal_asm.proofs.Bodies.{body_is}
 use Rattle.teal_asm.proofs.body.Body.new.Goals as goal
 
 pub returns-clause-body : goal.returns-clause-body
