@@ -26,8 +26,6 @@ use Rattle.avm_arith.specs.declared.joined.Joined.{Joined}
 use Rattle.avm_arith.specs.declared.joined.Joined.TheVariants as joined
 use Rattle.avm_arith.specs.declared.bits.Bits.{Bits}
 use Rattle.avm_arith.specs.declared.bits.Bits.TheVariants as bits
-use Rattle.avm_arith.specs.declared.arith_op.ArithOp.{ArithOp}
-use Rattle.avm_arith.specs.declared.arith_op.ArithOp.TheVariants as arith
 
 abbrev pub binary_opcode : Binary → Opcode
 binary_opcode binary.Add = op.Add
@@ -114,13 +112,3 @@ bits_opcode bits.Getbit = op.Getbit
 bits_opcode bits.Setbit = op.Setbit
 bits_opcode bits.Getbyte = op.Getbyte
 bits_opcode bits.Setbyte = op.Setbyte
-
-abbrev pub arith_opcode : ArithOp → Opcode
-arith_opcode (arith.Binary row) = binary_opcode row
-arith_opcode (arith.Comparison row) = comparison_opcode row
-arith_opcode (arith.Equality row) = equality_opcode row
-arith_opcode (arith.Wide row) = wide_opcode row
-arith_opcode (arith.Unary row) = unary_opcode row
-arith_opcode (arith.OfBytes row) = of_bytes_opcode row
-arith_opcode (arith.Joined row) = joined_opcode row
-arith_opcode (arith.Bits row) = bits_opcode row

@@ -9,7 +9,7 @@ use avm_ops::{Executed, Op};
 use std::alloc::Global;
 use teal_code::Instr;
 use teal_table::Opcode;
-use teal_value::{Fault, Value};
+use teal_value::Fault;
 
 /// An instruction that takes two numbers and gives one.
 #[derive(Clone, Copy, Debug, PartialEq, Eq)]
@@ -86,7 +86,7 @@ impl Op for Binary {
     fn exec(&self, _alloc: Global, _instr: &Instr, cpu: &mut Cpu, _env: &mut Env) -> Executed {
         let (a, b) = cpu.two_uints()?;
         let value = self.value(a, b)?;
-        cpu.replace(2, Value::Uint(value));
+        cpu.set_uint(2, value);
         Ok(Flow::Next)
     }
 }

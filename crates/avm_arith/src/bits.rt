@@ -150,7 +150,7 @@ impl Op for Bits {
                     return Err(Stop::Fault(Fault::Range));
                 }
                 let bit = bit_of_value(value, place);
-                cpu.replace(2, Value::Uint(bit));
+                cpu.set_uint(2, bit);
             }
             Bits::Setbit => {
                 let (value, place, bit) = cpu.value_and_two_uints()?;
@@ -166,7 +166,7 @@ impl Op for Bits {
                     return Err(Stop::Fault(Fault::Range));
                 }
                 let byte = bytes[place as usize];
-                cpu.replace(2, Value::Uint(u64::from(byte)));
+                cpu.set_uint(2, u64::from(byte));
             }
             Bits::Setbyte => {
                 let (bytes, place, byte) = cpu.bytes_and_two_uints()?;

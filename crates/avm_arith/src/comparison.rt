@@ -1,6 +1,7 @@
 //! Instructions that compare two numbers, or two values of one type.
 
 ghost use Rattle.std.specs.Prelude.{◌≡◌, IfSome, Some};
+ghost use Rattle.teal_value.specs.declared.value.Value.TheVariants.{Uint};
 ghost use Rattle.avm_ops.specs.Frame.{flag};
 ghost use Rattle.avm_ops.specs.Numbers.{are_equal};
 ghost use Rattle.avm_arith.specs.Families.{comparison_opcode, comparison_holds, equality_opcode, equality_holds};
@@ -14,14 +15,10 @@ use teal_table::Opcode;
 use teal_value::{Fault, Value};
 
 /// 1 for true, 0 for false.
-pub(crate) fn flag(holds: bool) -> Value
-    ensures { result ≡ flag holds }
+pub(crate) fn flag(holds: bool) -> u64
+    ensures { Uint result ≡ flag holds }
 {
-    if holds {
-        Value::Uint(1)
-    } else {
-        Value::Uint(0)
-    }
+    if holds { 1 } else { 0 }
 }
 
 /// An instruction that compares two numbers, or takes them as truth values, and gives 1 or 0.
@@ -91,7 +88,7 @@ impl Op for Comparison {
     fn exec(&self, _alloc: Global, _instr: &Instr, cpu: &mut Cpu, _env: &mut Env) -> Executed {
         let (a, b) = cpu.two_uints()?;
         let holds = self.holds(a, b);
-        cpu.replace(2, flag(holds));
+        cpu.set_uint(2, flag(holds));
         Ok(Flow::Next)
     }
 }
@@ -158,7 +155,7 @@ impl Op for Equality {
     fn exec(&self, _alloc: Global, _instr: &Instr, cpu: &mut Cpu, _env: &mut Env) -> Executed {
         let (a, b) = cpu.two_values()?;
         let same = are_equal(a, b)?;
-        cpu.replace(2, flag(self.holds(same)));
+        cpu.set_uint(2, flag(self.holds(same)));
         Ok(Flow::Next)
     }
 }

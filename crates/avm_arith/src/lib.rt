@@ -1,10 +1,9 @@
 //! The instructions on numbers and byte strings, as objects: one type a family of opcodes, each with `of`, which gives the
-//! family's object of an opcode, and `ArithOp` over all families, so that a set is filled by a loop over the codes.
+//! family's object of an opcode, so that a set is filled by a loop over the codes.
 //!
 //! What an instruction does stands in `avm_ops`, `specs/Numbers.antt` and `specs/ByteStrings.antt`.
 #![tactic(auto)]
 
-mod arith_op;
 mod binary;
 mod bits;
 mod comparison;
@@ -13,7 +12,6 @@ mod of_bytes;
 mod unary;
 mod wide;
 
-pub use arith_op::ArithOp;
 pub use binary::Binary;
 pub use bits::Bits;
 pub use comparison::{Comparison, Equality};

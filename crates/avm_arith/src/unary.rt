@@ -50,7 +50,7 @@ impl Unary {
         ensures { IfOk result (λ value. value ≡ unary_value self a) }
     {
         match self {
-            Unary::Not => Ok(flag(a == 0)),
+            Unary::Not => Ok(Value::Uint(flag(a == 0))),
             Unary::BitNot => Ok(Value::Uint(!a)),
             Unary::Itob => Ok(Value::Bytes(ByteString::from_slice(alloc, &a.to_be_bytes())?)),
         }

@@ -9,7 +9,6 @@ use avm_ops::{Executed, Op};
 use std::alloc::Global;
 use teal_code::Instr;
 use teal_table::Opcode;
-use teal_value::Value;
 
 /// An instruction that takes two numbers and gives a number of 128 bits: its high word, and its low word on top.
 #[derive(Clone, Copy, Debug, PartialEq, Eq)]
@@ -73,7 +72,7 @@ impl Op for Wide {
     fn exec(&self, _alloc: Global, _instr: &Instr, cpu: &mut Cpu, _env: &mut Env) -> Executed {
         let (a, b) = cpu.two_uints()?;
         let (high, low) = words(self.value(a, b));
-        cpu.replace_pair(2, Value::Uint(high), Value::Uint(low));
+        cpu.set_uints(2, high, low);
         Ok(Flow::Next)
     }
 }

@@ -7,3 +7,4 @@ pub mod BlockBack
 pub mod OutcomeSpelled
 pub mod BlockSpelled
 pub mod BlockRead
+pub mod FirstBeyond

@@ -43,5 +43,5 @@ impl BlockFault {
     }
 }
 
-/// A [`BlockFault`], or want of memory.
+/// A [`BlockFault`], or that memory ran out.
 pub type BlockError = Failure<BlockFault>;

@@ -32,7 +32,7 @@ pub fn encode(alloc: Global, block: &Block) -> Result<Vec<u8>, AllocError>
     Ok(bytes)
 }
 
-/// Appends all of a block up to the last digest. At want of memory a part may have been appended.
+/// Appends all of a block up to the last digest. Where memory runs out a part may have been appended.
 fn put_body(bytes: &mut Vec<u8>, block: &Block) -> Result<(), AllocError>
     ensures { OnOk result (bytes.new.items ≡ bytes.old.items ++ body_bytes block.now) }
 {

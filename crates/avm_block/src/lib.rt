@@ -16,7 +16,7 @@ pub mod outcome_codec;
 mod places;
 pub mod reading_laws;
 
-pub use accepted_calls::accepts;
+pub use accepted_calls::{accepts, first_beyond};
 pub use block::{Block, MAX_ENTRIES};
 pub use block_fault::{BlockError, BlockFault};
 pub use decoding::decode;

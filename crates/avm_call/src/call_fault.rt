@@ -54,5 +54,5 @@ impl CallFault {
     }
 }
 
-/// A [`CallFault`], or want of memory.
+/// A [`CallFault`], or that memory ran out.
 pub type CallError = Failure<CallFault>;

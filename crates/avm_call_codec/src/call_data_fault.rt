@@ -31,5 +31,5 @@ impl CallDataFault {
     }
 }
 
-/// A [`CallDataFault`], or want of memory.
+/// A [`CallDataFault`], or that memory ran out.
 pub type CallDataError = Failure<CallDataFault>;

@@ -86,7 +86,7 @@ impl Op for Intc {
     fn exec(&self, _alloc: Global, instr: &Instr, cpu: &mut Cpu, _env: &mut Env) -> Executed {
         let index = self.index(&instr.immediates);
         let number = cpu.uint_constant(index).ok_or(Fault::NoConstant)?;
-        cpu.push(Value::Uint(number))?;
+        cpu.push_uint(number)?;
         Ok(Flow::Next)
     }
 }

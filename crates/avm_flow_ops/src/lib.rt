@@ -1,6 +1,5 @@
 //! The instructions on the stack, the constants, the scratch space, and where a run goes on, as objects: one type a family
-//! of opcodes, each with `of`, which gives the family's object of an opcode, and `FlowOp` over all families, so that a set
-//! is filled by a loop over the codes.
+//! of opcodes, each with `of`, which gives the family's object of an opcode, so that a set is filled by a loop over the codes.
 //!
 //! What an instruction does stands in `avm_ops`, `specs/Stack.antt`.
 #![tactic(auto)]
@@ -8,7 +7,6 @@
 mod block;
 mod branch;
 mod constants;
-mod flow_op;
 mod literal;
 mod scratch;
 mod stack;
@@ -17,7 +15,6 @@ mod stops;
 pub use block::Block;
 pub use branch::Branch;
 pub use constants::{Bytec, Intc};
-pub use flow_op::FlowOp;
 pub use literal::Literal;
 pub use scratch::Scratch;
 pub use stack::Stack;

@@ -56,7 +56,7 @@ impl Op for Literal {
                 let copy = ByteString::from_slice(alloc, bytes_of(&instr.immediates))?;
                 cpu.push(Value::Bytes(copy))?;
             }
-            Literal::Pushint => cpu.push(Value::Uint(uint_of(&instr.immediates)))?,
+            Literal::Pushint => cpu.push_uint(uint_of(&instr.immediates))?,
         }
         Ok(Flow::Next)
     }

@@ -10,6 +10,7 @@ use avm_ops::{Executed, Op};
 use std::alloc::Global;
 use teal_code::Instr;
 use teal_table::Opcode;
+use teal_value::Value;
 
 /// An instruction on the scratch space.
 #[derive(Clone, Copy, Debug, PartialEq, Eq)]
@@ -54,10 +55,13 @@ impl Op for Scratch {
     fn exec(&self, _alloc: Global, instr: &Instr, cpu: &mut Cpu, _env: &mut Env) -> Executed {
         let index = index_of(&instr.immediates);
         match self {
-            Scratch::Load => {
-                let copy = cpu.scratch(index).clone()?;
-                cpu.push(copy)?;
-            }
+            Scratch::Load => match cpu.scratch(index) {
+                Value::Uint(number) => {
+                    let number = *number;
+                    cpu.push_uint(number)?;
+                }
+                Value::Bytes(_) => cpu.load(index)?,
+            },
             Scratch::Store => {
                 let _value = cpu.one_value()?;
                 cpu.store(index);

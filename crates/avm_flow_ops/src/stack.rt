@@ -10,6 +10,7 @@ use avm_ops::{Executed, Op};
 use std::alloc::Global;
 use teal_code::Instr;
 use teal_table::Opcode;
+use teal_value::Value;
 
 /// An instruction that moves the values of the stack.
 #[derive(Clone, Copy, Debug, PartialEq, Eq)]
@@ -73,19 +74,29 @@ impl Op for Stack {
                 let _value = cpu.one_value()?;
                 cpu.drop_top(1);
             }
-            Stack::Dup => {
-                let copy = cpu.one_value()?.clone()?;
-                cpu.push(copy)?;
-            }
-            Stack::Dup2 => {
-                let (below, top) = cpu.two_values()?;
-                let below_copy = below.clone()?;
-                let top_copy = top.clone()?;
-                cpu.push_pair(below_copy, top_copy)?;
-            }
+            Stack::Dup => match cpu.one_value()? {
+                Value::Uint(number) => {
+                    let number = *number;
+                    cpu.push_uint(number)?;
+                }
+                Value::Bytes(_) => cpu.push_copy(0)?,
+            },
+            Stack::Dup2 => match cpu.two_values()? {
+                (Value::Uint(below), Value::Uint(top)) => {
+                    let (below, top) = (*below, *top);
+                    cpu.push_uints(below, top)?;
+                }
+                _ => cpu.push_copies()?,
+            },
             Stack::Dig => {
-                let copy = cpu.value_below(index_of(&instr.immediates))?.clone()?;
-                cpu.push(copy)?;
+                let depth = index_of(&instr.immediates);
+                match cpu.value_below(depth)? {
+                    Value::Uint(number) => {
+                        let number = *number;
+                        cpu.push_uint(number)?;
+                    }
+                    Value::Bytes(_) => cpu.push_copy(depth)?,
+                }
             }
             Stack::Swap => {
                 let _values = cpu.two_values()?;

@@ -17,7 +17,7 @@ use Rattle.avm_call.specs.Calls.{Target, admitted, prepared, execution, call_res
 use Rattle.avm_call.specs.Replay.{changes_on, ledger_after}
 use Rattle.avm_laws.specs.Calls.{written_after}
 use Rattle.avm_ops.proofs.RowFacts.{OnOk}
-use Rattle.avm_ops.proofs.Along.{Along, along-any, along-result, along-asked}
+use Rattle.avm_ops.proofs.Questions.{Along, along-any, along-result, along-asked}
 use Rattle.avm_ops.proofs.WrittenItems.{IsThere}
 use Rattle.avm_laws.proofs.Following.{Follows}
 use Rattle.avm_laws.proofs.FollowedRuns.{Stands, run_stands}

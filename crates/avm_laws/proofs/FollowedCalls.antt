@@ -40,7 +40,7 @@ use Rattle.avm_call.specs.Runs.{Position, start, program_result}
 use Rattle.avm_call.specs.Calls.{CallResult, Target, created, new_target, called_target, target, sender_item, is_opted_in, opt_in_test, admitted, new_application, opting_in, prepared, execution, deleted, updated, cleared, ending, runs, runs_on, goes_on, call_result, completed_by}
 use Rattle.avm_laws.proofs.Given.{item_same}
 use Rattle.avm_ops.proofs.ActParts as part
-use Rattle.avm_ops.proofs.Along.{Along, along-then}
+use Rattle.avm_ops.proofs.Questions.{Along, along-then}
 use Rattle.avm_ops.proofs.WrittenItems.{IsThere}
 use Rattle.avm_laws.proofs.Following.{Has, Follows, same_counts, value_with, has_put, counts_put, follows_local, follows_next, follows_create, follows_row}
 use Rattle.avm_laws.proofs.FollowedRuns.{Over, StepsKeep, result_stands, row_stands}

@@ -23,7 +23,7 @@ use Rattle.avm_call.specs.declared.outcome.Ended.{Ended}
 use Rattle.avm_call.specs.Runs.{Execution, Position, instruction_at, context_at, place_after, position_after, known_itself, result_at_end, stepped, executed, step, start, run_from, whole_path, ended_at, program_result}
 use Rattle.avm_call.proofs.Paths.{goes_on}
 use Rattle.avm_ops.proofs.RowFacts.{OnOk}
-use Rattle.avm_ops.proofs.Along.{Along, along-both, along-each, along-then, along-remaining}
+use Rattle.avm_ops.proofs.Questions.{Along, along-both, along-each, along-then, along-remaining}
 use Rattle.avm_ops.proofs.WrittenItems.{Writes, Nothing, SameKind, Counted, Deleted, LocalPut, LocalDeleted, IsThere, effect_writes}
 use Rattle.avm_laws.proofs.Following.{Follows, follows_local, follows_same_kind, follows_key}
 

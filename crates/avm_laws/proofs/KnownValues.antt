@@ -15,7 +15,7 @@ use Rattle.avm_items.specs.Asks.{result_over}
 use Rattle.avm_call.specs.Runs.{path}
 use Rattle.avm_call.specs.Calls.{Target, admitted, prepared, execution}
 use Rattle.avm_laws.specs.KnownValues.{IsOfRun, KnowsRow, MayBeLookedAt}
-use Rattle.avm_ops.proofs.Along.{along-asked}
+use Rattle.avm_ops.proofs.Questions.{along-asked}
 use Rattle.avm_ops.proofs.WrittenItems.{IsThere}
 use Rattle.avm_laws.proofs.Following.{Follows}
 use Rattle.avm_laws.proofs.FollowedRuns.{Stands, known_has, row_stands}

@@ -21,7 +21,7 @@ use Rattle.avm_items.specs.Items.{ItemMap}
 use Rattle.avm_call.specs.Replay.{ledger_after, replayed}
 use Rattle.avm_laws.specs.Orderly.{EveryCallKeepsOrder, IsLaterLedger, ReplaysKeepOrder}
 use Rattle.avm_ops.proofs.RowFacts.{OnOk}
-use Rattle.avm_ops.proofs.Along.{along-any}
+use Rattle.avm_ops.proofs.Questions.{along-any}
 use Rattle.avm_ops.proofs.WrittenItems.{Writes, Nothing, SameKind, Counted, Deleted, LocalPut, LocalDeleted}
 use Rattle.avm_laws.proofs.FollowedRuns.{led, row_stands}
 use Rattle.avm_laws.proofs.FollowedCalls.{IsKept}

@@ -1,4 +1,4 @@
--- What putting many items into a ledger gives. The statements of the laws.
+-- What putting many items into a ledger gives. The statement of the law.
 use Rattle.std.specs.Prelude.{◌≡◌, false, List, [], ◌∷◌}
 use Rattle.std.specs.Ordering.{is_eq}
 use Rattle.std.specs.List.{AllByRecursion}
@@ -13,15 +13,3 @@ use Rattle.avm_items.specs.PutLaws.{MayPutAll}
 -- The changes between two ledgers, put into the first, give the second.
 abbrev pub PutsChanges : Type 0
 PutsChanges = (before after : Ledger) (changes : ItemMap) → IsInOrder before → IsInOrder after → IsInItemOrder changes → AreChanges before after changes → put before changes ≡ after
-
--- each item at most once, in any order
-abbrev pub AreDistinct : List (Item × ItemValue) → Type 0
-AreDistinct [] = Unit {0}
-AreDistinct (e ∷ es) = AllByRecursion (λ y. is_eq (item_cmp e.0 y) ≡ false) (keys_of es) × AreDistinct es
-
--- The order in which items are put doesn't matter, as long as each may be put where its turn comes: a key only in an
--- application that stands.
-abbrev pub OrderDoesNotMatter : Type 0
-OrderDoesNotMatter =
-    (l : Ledger) (items others : List (Item × ItemValue)) → IsInOrder l → AreDistinct items → AreDistinct others → ((x : Item) → value_in items x ≡ value_in others x) → MayPutAll l items → MayPutAll l others
-    → put l items ≡ put l others

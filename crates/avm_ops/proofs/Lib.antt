@@ -2,7 +2,8 @@ pub mod TakenOperands
 pub mod ActParts
 pub mod RowFacts
 pub mod Sets
-pub mod Along
+pub mod Questions
 pub mod WrittenItems
 pub mod OperandValues
 pub mod RowValues
+pub mod WithBit

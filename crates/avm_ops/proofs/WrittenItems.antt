@@ -39,7 +39,7 @@ use Rattle.avm_ops.specs.Effect.{effect}
 use Rattle.avm_items.specs.Counting.{AsksAtMost, Any}
 use Rattle.avm_ops.proofs.ActParts as part
 use Rattle.avm_ops.proofs.RowFacts.{OnOk, FactsOf, questions, writes_items, row_facts, at_most-each}
-use Rattle.avm_ops.proofs.Along.{Along, along-each}
+use Rattle.avm_ops.proofs.Questions.{Along, along-each}
 
 -- ---- what may be written
 

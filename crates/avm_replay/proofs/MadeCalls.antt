@@ -1,19 +1,16 @@
 -- Calls made one after another, as entries.
-use Rattle.std.proofs.Common.{◌≡◌, ◌∙◌, ap, sym, subst, refl, ℕ, ◌+◌, ◌<◌, ◌≤◌, true, false, List, [], ◌∷◌, ◌++◌, length, map, take, drop, All, None, Some, slice_index_or, arith}
-use Rattle.std.proofs.lemmas.List.{drop_all, drop_more, length-take-le, map-append, take_more}
+use Rattle.std.proofs.Common.{◌≡◌, ◌∙◌, ap, sym, subst, refl, ℕ, ◌+◌, ◌<◌, ◌≤◌, List, [], ◌∷◌, ◌++◌, length, map, take, All, slice_index_or, arith}
+use Rattle.std.proofs.lemmas.List.{length-take-le, map-append, take_more}
 use Rattle.std.proofs.lemmas.List.Elements.{All-cons, All-head, All-nil, All-push, All-tail}
 use Rattle.std.proofs.Math.Seq.{take-length}
 use Rattle.avm_ledger.specs.declared.header.Header.{Header}
-use Rattle.avm_ledger.specs.declared.header.Profile.{Profile}
 use Rattle.avm_ledger.specs.Ledgers.{Ledger}
 use Rattle.avm_items.specs.declared.call_data.CallData.{CallData}
-use Rattle.avm_call.specs.CallRules.{needed_profile}
 use Rattle.avm_call.specs.Places.{HasPlace}
 use Rattle.avm_call.specs.Replay.{ledger_after, outcome_on}
 use Rattle.avm_block.specs.declared.entry.Entry.{Entry}
-use Rattle.avm_block.specs.AcceptedCalls.{fits_in}
 use Rattle.avm_block.specs.Blocks.{RisesAbove, calls_in}
-use Rattle.avm_replay.specs.Plain.{AreMade, first_beyond, timestamps_from}
+use Rattle.avm_replay.specs.Plain.{AreMade, timestamps_from}
 use Rattle.avm_replay.proofs.Entries.{heads, outcomes-append, replayed-append, tails}
 
 timestamps-append : (first : ℕ) (cs : List CallData) (c : CallData) → timestamps_from first (cs ++ c ∷ []) ≡ timestamps_from first cs ++ (first + length cs) ∷ []
@@ -57,28 +54,6 @@ rising (c ∷ cs) before (x ∷ xs) e =
     let here : x.timestamp ≡ before + 1 = heads e in
     let rest : map (λ (y : Entry). y.timestamp) xs ≡ timestamps_from (before + 1 + 1) cs = tails e in
     (omega (arith, here), rising cs x.timestamp xs (rest ∙ ap (λ n. timestamps_from (n + 1) cs) (sym here)))
-
--- ---- the first call that needs a newer profile
-
-pub beyond_here : (p : Profile) (number i : ℕ) (cs : List CallData) (c : CallData) → i < length cs → c ≡ slice_index_or cs i c → fits_in (needed_profile c) p ≡ false
-    → first_beyond p number (drop i cs) ≡ Some number
-beyond_here p number i cs c lt is beyond =
-    let more : drop i cs ≡ c ∷ drop (i + 1) cs = drop_more cs i c lt ∙ ap (λ x. x ∷ drop (i + 1) cs) (sym is) in
-    ap (first_beyond p number) more ∙ rw beyond refl
-
-pub within_here : (p : Profile) (number i : ℕ) (cs : List CallData) (c : CallData) → i < length cs → c ≡ slice_index_or cs i c → fits_in (needed_profile c) p ≡ true
-    → first_beyond p number (drop i cs) ≡ first_beyond p (number + 1) (drop (i + 1) cs)
-within_here p number i cs c lt is within =
-    let more : drop i cs ≡ c ∷ drop (i + 1) cs = drop_more cs i c lt ∙ ap (λ x. x ∷ drop (i + 1) cs) (sym is) in
-    ap (first_beyond p number) more ∙ rw within refl
-
-pub none_beyond : (p : Profile) (number i : ℕ) (cs : List CallData) → length cs ≤ i → first_beyond p number (drop i cs) ≡ None
-none_beyond p number i cs le = let none : drop i cs ≡ [] = drop_all i cs le in rw none refl
-
-pub all_taken : {A : Type 0} (P : A → Type 0) (xs : List A) (i : ℕ) → length xs ≤ i → i ≤ length xs → All P (take i xs) → All P xs
-all_taken P xs i from to all =
-    let whole : take i xs ≡ xs = let e : i ≡ length xs = omega (arith, from, to) in ap (λ n. take n xs) e ∙ take-length xs in
-    subst (All P) whole all
 
 -- what holds of the calls holds of their entries
 pub of_calls : (P : CallData → Type 0) (es : List Entry) → All P (calls_in es) → All (λ (e : Entry). P e.call) es

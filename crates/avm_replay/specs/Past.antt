@@ -18,7 +18,7 @@ entries_until timestamp = filter (λ (e : Entry). nat_le e.timestamp timestamp)
 abbrev pub ledger_until : Ledger → Block → ℕ → Ledger
 ledger_until l b timestamp = replayed l b.header (calls_in (entries_until timestamp b.entries))
 
--- It is refused for another ledger before the block, or for want of memory.
+-- It is refused for another ledger before the block, or because memory ran out.
 abbrev pub IsRefused : Ledger → Block → Failure StateFault → Type 0
 IsRefused l b (failure.Fault fault.WrongBase) = b.base ≢ ledger_digest l
 IsRefused l b failure.Memory = Unit {0}

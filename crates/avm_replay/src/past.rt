@@ -36,7 +36,7 @@ impl StateFault {
     }
 }
 
-/// A [`StateFault`], or want of memory.
+/// A [`StateFault`], or that memory ran out.
 pub type StateError = Failure<StateFault>;
 
 /// The ledger after the calls of a block with timestamps up to this one.

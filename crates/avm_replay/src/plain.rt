@@ -1,14 +1,13 @@
 //! Blocks of calls made one after another, on one thread.
 
-ghost use Rattle.std.specs.Prelude.{◌≡◌, ◌≤◌, ◌+◌, true, All, IfErr, IfOk, IfSome, None, length, vec_len};
+ghost use Rattle.std.specs.Prelude.{◌≡◌, ◌≤◌, ◌+◌, IfErr, IfOk, IfSome, None, length, vec_len};
 ghost use Rattle.avm_ops.specs.Objects.{IsFull};
-ghost use Rattle.avm_block.specs.AcceptedCalls.{is_accepted};
 ghost use Rattle.avm_replay.specs.FaultNames.{plain_block_fault_name};
-ghost use Rattle.avm_replay.specs.Plain.{AreMade, IsPlainFaultOf, IsPlainBlock, first_beyond, plain_fault};
+ghost use Rattle.avm_replay.specs.Plain.{AreMade, IsPlainFaultOf, IsPlainBlock, plain_fault};
 
-use avm_block::{Block, Entry, MAX_ENTRIES, accepts, outcome_has_place};
+use avm_block::{Block, Entry, MAX_ENTRIES, first_beyond, outcome_has_place};
 use avm_call::Call;
-use avm_ledger::{Header, Ledger, Profile};
+use avm_ledger::{Header, Ledger};
 use avm_ops::{BoxedOp, Op, OpSet};
 use avm_run::call_on;
 use std::alloc::{AllocError, Global};
@@ -37,7 +36,7 @@ impl PlainBlockFault {
     }
 }
 
-/// A [`PlainBlockFault`], or want of memory.
+/// A [`PlainBlockFault`], or that memory ran out.
 pub type PlainBlockError = Failure<PlainBlockFault>;
 
 /// The block of these calls over a ledger, in this order, by the timestamps 1, 2, 3 and so on.
@@ -64,22 +63,6 @@ pub fn plain_block(
     let entries = entries_of(alloc, &mut after, header, &calls, ops)?;
     let digest = after.digest(alloc)?;
     Ok(Block::new(base, *header, entries, digest))
-}
-
-/// The number, counted from 1, of the first call that a block of the profile may not have, since it needs a newer one.
-pub fn first_beyond(profile: Profile, calls: &[Call]) -> Option<u32>
-    requires few { length calls.now ≤ MAX_ENTRIES }
-    ensures beyond { result ≡ first_beyond profile 1 calls.now }
-    ensures accepted { result ≡ None → All (λ call. is_accepted profile call ≡ true) calls.now }
-{
-    let mut number = 0;
-    for call in calls {
-        number += 1;
-        if !accepts(profile, call) {
-            return Some(number);
-        }
-    }
-    None
 }
 
 /// Makes calls on a ledger, one after another, and gives them as entries.

@@ -2,12 +2,12 @@ mod Follow
 mod Placings
 mod Blocks
 mod Stepping
-mod Halting
+mod AdmissionTests
 mod Beginnings
 mod Standings
 mod Supplying
 mod Outcomes
-mod Alive
+mod LiveRuns
 mod Leading
 mod Answering
 mod Showing

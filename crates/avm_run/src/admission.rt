@@ -18,7 +18,7 @@ use std::alloc::{AllocError, Global};
 
 /// Why the tests before a program give nothing.
 #[derive(Drop)]
-pub(crate) enum Halt {
+pub(crate) enum AdmissionStop {
     /// The call is refused.
     Refused(Why),
     /// They ask for an item that was not supplied.
@@ -27,13 +27,13 @@ pub(crate) enum Halt {
     Memory,
 }
 
-impl From<AllocError> for Halt {
-    ghost use Rattle.avm_run.specs.declared.admission.Halt.TheVariants as halt;
+impl From<AllocError> for AdmissionStop {
+    ghost use Rattle.avm_run.specs.declared.admission.AdmissionStop.TheVariants as admission_stop;
 
-    ghost from_gives = { λ _ h. h ≡ halt.Memory };
+    ghost from_gives = { λ _ h. h ≡ admission_stop.Memory };
 
-    fn from(_error: AllocError) -> Halt {
-        Halt::Memory
+    fn from(_error: AllocError) -> AdmissionStop {
+        AdmissionStop::Memory
     }
 }
 
@@ -55,25 +55,25 @@ pub(crate) fn first_item(call: &Call) -> Item
 }
 
 /// The id of the next application.
-fn next_id(items: &ItemMap) -> Result<u64, Halt>
+fn next_id(items: &ItemMap) -> Result<u64, AdmissionStop>
     ensures { Tests result (answer_from (value_in items.now) (reads next_id_in item.NextApp)) }
 {
     match items.get(&Item::NextApp) {
         Some(ItemValue::NextApp(id)) => Ok(*id),
         Some(_) => Ok(0),
-        None => Err(Halt::Need(Item::NextApp)),
+        None => Err(AdmissionStop::Need(Item::NextApp)),
     }
 }
 
 /// An application without its state, where it stands. Its programs are shared.
-fn application(items: &ItemMap, id: u64) -> Result<Option<Application>, Halt>
+fn application(items: &ItemMap, id: u64) -> Result<Option<Application>, AdmissionStop>
     ensures { Tests result (answer_from (value_in items.now) (reads application_in (item.App id))) }
 {
     let app = Item::App(id);
     match items.get(&app) {
         Some(ItemValue::App(row)) => Ok(Some(row.clone()?)),
         Some(_) => Ok(None),
-        None => Err(Halt::Need(app)),
+        None => Err(AdmissionStop::Need(app)),
     }
 }
 
@@ -84,39 +84,39 @@ fn sender_item(call: &CallData, id: u64) -> Item
     Item::Local(call.sender, id)
 }
 
-fn is_opted_in(call: &CallData, items: &ItemMap, id: u64) -> Result<bool, Halt>
+fn is_opted_in(call: &CallData, items: &ItemMap, id: u64) -> Result<bool, AdmissionStop>
     ensures { Tests result (answer_from (value_in items.now) (is_opted_in call.now id)) }
 {
     let local = sender_item(call, id);
     match items.get(&local) {
         Some(ItemValue::Local(_)) => Ok(true),
         Some(_) => Ok(false),
-        None => Err(Halt::Need(local)),
+        None => Err(AdmissionStop::Need(local)),
     }
 }
 
 /// The application that a creation makes.
-fn new_target(call: &Call, items: &ItemMap) -> Result<Admitted, Halt>
+fn new_target(call: &Call, items: &ItemMap) -> Result<Admitted, AdmissionStop>
     requires { creates call.now ≡ true }
     ensures tests { IsAdmitted result (answer_from (value_in items.now) (new_target call.now)) }
     ensures room { IfOk result (λ t. t.id < 2 ^ 64 - 1) }
 {
     let id = next_id(items)?;
     if id == u64::MAX {
-        return Err(Halt::Refused(Why::IdsEnd));
+        return Err(AdmissionStop::Refused(Why::IdsEnd));
     }
     let row = call.created()?;
     Ok(Admitted { id, row: Some(row) })
 }
 
 /// The application of any other call.
-fn called_target(call: &Call, items: &ItemMap) -> Result<Admitted, Halt>
+fn called_target(call: &Call, items: &ItemMap) -> Result<Admitted, AdmissionStop>
     ensures { IsAdmitted result (answer_from (value_in items.now) (called_target call.now)) }
 {
     let fields = call.fields();
     let row = application(items, fields.application)?;
     if row.is_none() && fields.completion != Completion::ClearState {
-        return Err(Halt::Refused(Why::NoApp));
+        return Err(AdmissionStop::Refused(Why::NoApp));
     }
     Ok(Admitted {
         id: fields.application,
@@ -125,18 +125,18 @@ fn called_target(call: &Call, items: &ItemMap) -> Result<Admitted, Halt>
 }
 
 /// Whether the sender may opt in, close out or clear.
-fn test_opt_in(call: &CallData, items: &ItemMap, id: u64) -> Result<(), Halt>
+fn test_opt_in(call: &CallData, items: &ItemMap, id: u64) -> Result<(), AdmissionStop>
     ensures { Tests result (answer_from (value_in items.now) (opt_in_test call.now id)) }
 {
     match call.completion {
         Completion::OptIn => {
             if is_opted_in(call, items, id)? {
-                return Err(Halt::Refused(Why::AlreadyIn));
+                return Err(AdmissionStop::Refused(Why::AlreadyIn));
             }
         }
         Completion::CloseOut | Completion::ClearState => {
             if !is_opted_in(call, items, id)? {
-                return Err(Halt::Refused(Why::NotIn));
+                return Err(AdmissionStop::Refused(Why::NotIn));
             }
         }
         _ => {}
@@ -145,7 +145,7 @@ fn test_opt_in(call: &CallData, items: &ItemMap, id: u64) -> Result<(), Halt>
 }
 
 /// The application of a call.
-fn target_of(call: &Call, items: &ItemMap) -> Result<Admitted, Halt>
+fn target_of(call: &Call, items: &ItemMap) -> Result<Admitted, AdmissionStop>
     ensures tests { IsAdmitted result (answer_from (value_in items.now) (target call.now)) }
     ensures room { IfOk result (λ t. HasRoom call.now t.id) }
 {
@@ -157,7 +157,7 @@ fn target_of(call: &Call, items: &ItemMap) -> Result<Admitted, Halt>
 }
 
 /// The tests before a call's program.
-pub(crate) fn admit(call: &Call, items: &ItemMap) -> Result<Admitted, Halt>
+pub(crate) fn admit(call: &Call, items: &ItemMap) -> Result<Admitted, AdmissionStop>
     ensures tests { IsAdmitted result (answer_from (value_in items.now) (admitted call.now)) }
     ensures room { IfOk result (λ t. HasRoom call.now t.id) }
 {

@@ -16,7 +16,7 @@ ghost use Rattle.avm_run.specs.RunState.{is_asked};
 ghost use Rattle.avm_run.specs.Showing.{Shows};
 
 use crate::finished::Finished;
-use crate::phase::{Closed, Phase, Ran, Went, run_on, step_on};
+use crate::phase::{EndedRun, PathOutcome, Phase, RunOutcome, run_on, step_on};
 use crate::shown::Shown;
 use avm_call::{Call, Ended};
 use avm_cpu::Cpu;
@@ -130,13 +130,13 @@ fn asking(call: Call, header: Header, phase: Phase, item: &Item) -> State
 }
 
 /// The finished call: what it writes without what has the value of before.
-fn finished(call: Call, header: Header, closed: Closed) -> Finished
+fn finished(call: Call, header: Header, closed: EndedRun) -> Finished
     requires result { answer_from (value_in closed.reads) (call_result call header) ≡ Ok (closed.outcome, closed.writes) }
     requires asked { AreAskedFor closed.reads call header }
     ensures same { (result.call ≡ call) × (result.header ≡ header) × (result.reads ≡ closed.reads) }
     ensures outcome { result.outcome ≡ closed.outcome }
 {
-    let Closed {
+    let EndedRun {
         reads,
         writes,
         outcome,
@@ -265,11 +265,13 @@ impl CallRun {
                     asked: _asked,
                 } = live;
                 match run_on(alloc, ops, &call, &header, phase, &mut self.spare) {
-                    Ok(Ran::Need(phase, item)) => {
+                    Ok(RunOutcome::Need(phase, item)) => {
                         self.state = asking(call, header, phase, &item);
                         Ok(Advance::Need(item))
                     }
-                    Ok(Ran::Done(closed)) => Ok(Advance::Done(finished(call, header, closed))),
+                    Ok(RunOutcome::Done(closed)) => Ok(Advance::Done(finished(
+                        call, header, closed,
+                    ))),
                     Err(AllocError) => Err(RunFault::Memory),
                 }
             }
@@ -294,20 +296,20 @@ impl CallRun {
                     asked: _asked,
                 } = live;
                 match step_on(alloc, ops, &call, &header, phase, &mut self.spare) {
-                    Ok(Went::On(phase)) => {
+                    Ok(PathOutcome::On(phase)) => {
                         self.state = going(call, header, phase);
                         Ok(Step::Moved)
                     }
-                    Ok(Went::Ends(phase, ended)) => {
+                    Ok(PathOutcome::Ends(phase, ended)) => {
                         self.state = going(call, header, phase);
                         Ok(Step::Ended(ended))
                     }
-                    Ok(Went::Stops(ran)) => match ran {
-                        Ran::Need(phase, item) => {
+                    Ok(PathOutcome::Stops(ran)) => match ran {
+                        RunOutcome::Need(phase, item) => {
                             self.state = asking(call, header, phase, &item);
                             Ok(Step::Need(item))
                         }
-                        Ran::Done(closed) => Ok(Step::Done(finished(call, header, closed))),
+                        RunOutcome::Done(closed) => Ok(Step::Done(finished(call, header, closed))),
                     },
                     Err(AllocError) => Err(RunFault::Memory),
                 }

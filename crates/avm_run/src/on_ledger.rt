@@ -8,12 +8,12 @@ ghost use Rattle.avm_call.specs.Calls.{call_result};
 ghost use Rattle.avm_call.specs.Replay.{ledger_after, outcome_on};
 
 use crate::admission::first_item;
-use crate::phase::{Closed, Phase, Ran, run_on};
+use crate::phase::{EndedRun, Phase, RunOutcome, run_on};
 use avm_call::{Call, Outcome};
 use avm_cpu::Cpu;
 use avm_items::{ItemMap, item_of, put_items};
 use avm_laws::call_laws::changes_are_handed_on;
-use avm_laws::rule_laws::every_call_keeps_order;
+use avm_laws::order_laws::every_call_keeps_order;
 use avm_ledger::{Header, Ledger};
 use avm_ops::{BoxedOp, Op, OpSet};
 use std::alloc::{AllocError, Global};
@@ -70,7 +70,7 @@ fn run_over(
     header: &Header,
     ops: &OpSet,
     spare: &mut Option<Cpu>,
-) -> Result<Closed, AllocError>
+) -> Result<EndedRun, AllocError>
     requires full { IsFull ⟦<BoxedOp as Op>⟧.opcode ops.now }
     ensures { IfOk result (λ closed. (closed.outcome, closed.writes) ≡ result_over (at ledger.now) (call_result call.now header.now)) }
 {
@@ -81,11 +81,11 @@ fn run_over(
     let mut phase = Phase::Tests(ItemMap::new(alloc)).supplied(first, value)?;
     loop {
         match run_on(alloc, ops, call, header, phase, spare)? {
-            Ran::Need(asking, item) => {
+            RunOutcome::Need(asking, item) => {
                 let value = item_of(ledger, &item)?;
                 phase = asking.supplied(item, value)?;
             }
-            Ran::Done(closed) => return Ok(closed),
+            RunOutcome::Done(closed) => return Ok(closed),
         }
     }
 }

@@ -8,9 +8,9 @@ ghost use Rattle.avm_ops.specs.Objects.{IsFull};
 ghost use Rattle.avm_run.specs.Progress.{ClosesAs, EndsRun, Follows, GoesTo, IsSupplied, RunsTo, TestsTo, reads_of, steps_of};
 ghost use Rattle.avm_run.specs.Standing.{BeginsRun};
 
-use crate::admission::{Admitted, Halt, admit};
+use crate::admission::{AdmissionStop, Admitted, admit};
 use crate::ending::{cleared, end_call};
-use crate::running::{Running, Stopped, begin, make_steps};
+use crate::running::{Running, StepsOutcome, begin, make_steps};
 use avm_call::{Call, Cause, Ended, Outcome};
 use avm_cpu::Cpu;
 use avm_items::{Item, ItemMap, ItemValue};
@@ -30,7 +30,7 @@ pub(crate) enum Phase {
 
 /// How a run has ended.
 #[derive(Drop)]
-pub(crate) struct Closed {
+pub(crate) struct EndedRun {
     pub reads: ItemMap,
     /// All that it writes, also what has the value of before.
     pub writes: ItemMap,
@@ -39,26 +39,26 @@ pub(crate) struct Closed {
 
 /// What running on leads to.
 #[derive(Drop)]
-pub(crate) enum Ran {
+pub(crate) enum RunOutcome {
     Need(Phase, Item),
-    Done(Closed),
+    Done(EndedRun),
 }
 
 /// What the tests before a program lead to.
 #[derive(Drop)]
-pub(crate) enum Tested {
+pub(crate) enum AdmissionOutcome {
     /// The program of the call, before its first instruction.
     Begins(Box<Running>),
-    Stops(Ran),
+    Stops(RunOutcome),
 }
 
 /// What one step of the program's path leads to.
 #[derive(Drop)]
-pub(crate) enum Went {
+pub(crate) enum PathOutcome {
     On(Phase),
     /// The program has ended where it stands.
     Ends(Phase, Ended),
-    Stops(Ran),
+    Stops(RunOutcome),
 }
 
 impl Phase {
@@ -113,15 +113,17 @@ pub(crate) fn run_on(
     header: &Header,
     phase: Phase,
     spare: &mut Option<Cpu>,
-) -> Result<Ran, AllocError>
+) -> Result<RunOutcome, AllocError>
     requires full { IsFull ⟦<BoxedOp as Op>⟧.opcode ops.now }
     requires follows { Follows call.now header.now phase }
     ensures { IfOk result (λ ran. RunsTo call.now header.now (reads_of phase) ran) }
 {
     match phase {
         Phase::Tests(items) => match run_tests(alloc, call, header, items, spare)? {
-            Tested::Begins(running) => run_program(alloc, ops, call, header, running, spare),
-            Tested::Stops(ran) => Ok(ran),
+            AdmissionOutcome::Begins(running) => run_program(
+                alloc, ops, call, header, running, spare,
+            ),
+            AdmissionOutcome::Stops(ran) => Ok(ran),
         },
         Phase::Runs(running) => run_program(alloc, ops, call, header, running, spare),
     }
@@ -136,15 +138,15 @@ pub(crate) fn step_on(
     header: &Header,
     phase: Phase,
     spare: &mut Option<Cpu>,
-) -> Result<Went, AllocError>
+) -> Result<PathOutcome, AllocError>
     requires full { IsFull ⟦<BoxedOp as Op>⟧.opcode ops.now }
     requires follows { Follows call.now header.now phase }
     ensures { IfOk result (λ went. GoesTo call.now header.now (reads_of phase) (steps_of phase) went) }
 {
     match phase {
         Phase::Tests(items) => match run_tests(alloc, call, header, items, spare)? {
-            Tested::Begins(running) => Ok(Went::On(Phase::Runs(running))),
-            Tested::Stops(ran) => Ok(Went::Stops(ran)),
+            AdmissionOutcome::Begins(running) => Ok(PathOutcome::On(Phase::Runs(running))),
+            AdmissionOutcome::Stops(ran) => Ok(PathOutcome::Stops(ran)),
         },
         Phase::Runs(running) => step_program(alloc, ops, call, header, running),
     }
@@ -157,29 +159,34 @@ fn run_tests(
     header: &Header,
     items: ItemMap,
     spare: &mut Option<Cpu>,
-) -> Result<Tested, AllocError>
+) -> Result<AdmissionOutcome, AllocError>
     ensures { IfOk result (λ tested. TestsTo call.now header.now items tested) }
 {
     match admit(call, &items) {
         Ok(Admitted { id, row: Some(row) }) => {
             let running = begin(alloc, call, header, items, id, row, spare)?;
-            Ok(Tested::Begins(running))
+            Ok(AdmissionOutcome::Begins(running))
         }
         Ok(Admitted { id, row: None }) => {
             let end = cleared(alloc, call, id, Cause::Gone)?;
-            Ok(Tested::Stops(Ran::Done(Closed {
+            Ok(AdmissionOutcome::Stops(RunOutcome::Done(EndedRun {
                 reads: items,
                 writes: end.writes,
                 outcome: end.outcome,
             })))
         }
-        Err(Halt::Refused(why)) => Ok(Tested::Stops(Ran::Done(Closed {
-            reads: items,
-            writes: ItemMap::new(alloc),
-            outcome: Outcome::Refused(why),
-        }))),
-        Err(Halt::Need(item)) => Ok(Tested::Stops(Ran::Need(Phase::Tests(items), item))),
-        Err(Halt::Memory) => Err(AllocError),
+        Err(AdmissionStop::Refused(why)) => Ok(AdmissionOutcome::Stops(RunOutcome::Done(
+            EndedRun {
+                reads: items,
+                writes: ItemMap::new(alloc),
+                outcome: Outcome::Refused(why),
+            },
+        ))),
+        Err(AdmissionStop::Need(item)) => Ok(AdmissionOutcome::Stops(RunOutcome::Need(
+            Phase::Tests(items),
+            item,
+        ))),
+        Err(AdmissionStop::Memory) => Err(AllocError),
     }
 }
 
@@ -190,19 +197,19 @@ fn step_program(
     call: &Call,
     header: &Header,
     running: Box<Running>,
-) -> Result<Went, AllocError>
+) -> Result<PathOutcome, AllocError>
     requires full { IsFull ⟦<BoxedOp as Op>⟧.opcode ops.now }
     requires begun { BeginsRun call.now header.now running.value.env.reads running.value }
     ensures { IfOk result (λ went. GoesTo call.now header.now running.value.env.reads (Some running.value.steps) went) }
 {
     let mut running = running;
     match make_steps(alloc, ops, &mut running, 1)? {
-        Stopped::Made => Ok(Went::On(Phase::Runs(running))),
-        Stopped::Need(item) => Ok(Went::Stops(Ran::Need(
+        StepsOutcome::Made => Ok(PathOutcome::On(Phase::Runs(running))),
+        StepsOutcome::Need(item) => Ok(PathOutcome::Stops(RunOutcome::Need(
             Phase::Runs(running),
             Box::into_inner(item),
         ))),
-        Stopped::Ended(ended) => Ok(Went::Ends(Phase::Runs(running), ended)),
+        StepsOutcome::Ended(ended) => Ok(PathOutcome::Ends(Phase::Runs(running), ended)),
     }
 }
 
@@ -214,7 +221,7 @@ fn run_program(
     header: &Header,
     running: Box<Running>,
     spare: &mut Option<Cpu>,
-) -> Result<Ran, AllocError>
+) -> Result<RunOutcome, AllocError>
     requires full { IsFull ⟦<BoxedOp as Op>⟧.opcode ops.now }
     requires begun { BeginsRun call.now header.now running.value.env.reads running.value }
     ensures { IfOk result (λ ran. RunsTo call.now header.now running.value.env.reads ran) }
@@ -222,9 +229,12 @@ fn run_program(
     let mut running = running;
     match make_steps(alloc, ops, &mut running, u16::MAX) {
         // No path has so many.
-        Ok(Stopped::Made) => unreachable!(),
-        Ok(Stopped::Need(item)) => Ok(Ran::Need(Phase::Runs(running), Box::into_inner(item))),
-        Ok(Stopped::Ended(ended)) => Ok(Ran::Done(close(
+        Ok(StepsOutcome::Made) => unreachable!(),
+        Ok(StepsOutcome::Need(item)) => Ok(RunOutcome::Need(
+            Phase::Runs(running),
+            Box::into_inner(item),
+        )),
+        Ok(StepsOutcome::Ended(ended)) => Ok(RunOutcome::Done(close(
             alloc, call, header, running, ended, spare,
         )?)),
         Err(AllocError) => {
@@ -260,7 +270,7 @@ fn close(
     running: Box<Running>,
     ended: Ended,
     spare: &mut Option<Cpu>,
-) -> Result<Closed, AllocError>
+) -> Result<EndedRun, AllocError>
     requires ends { ClosesAs call.now header.now running.value ended }
     ensures ends { IfOk result (λ closed. EndsRun call.now header.now running.value.env.reads closed) }
     ensures outcome { IfOk result (λ closed. closed.outcome ≡ outcome_of call.now.completion ended) }
@@ -270,7 +280,7 @@ fn close(
     let id = env.current();
     let (reads, writes) = env.into_items();
     let end = end_call(alloc, call, id, row, writes, ended)?;
-    Ok(Closed {
+    Ok(EndedRun {
         reads,
         writes: end.writes,
         outcome: end.outcome,

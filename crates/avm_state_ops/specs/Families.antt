@@ -7,8 +7,6 @@ use Rattle.avm_state_ops.specs.declared.reads.StateRead.{StateRead}
 use Rattle.avm_state_ops.specs.declared.reads.StateRead.TheVariants as read
 use Rattle.avm_state_ops.specs.declared.writes.StateWrite.{StateWrite}
 use Rattle.avm_state_ops.specs.declared.writes.StateWrite.TheVariants as write
-use Rattle.avm_state_ops.specs.declared.state_op.StateOp.{StateOp}
-use Rattle.avm_state_ops.specs.declared.state_op.StateOp.TheVariants as state
 
 abbrev pub txn_opcode : Txn → Opcode
 txn_opcode txn.Scalar = op.Txn
@@ -30,9 +28,3 @@ write_opcode write.LocalPut = op.AppLocalPut
 write_opcode write.GlobalPut = op.AppGlobalPut
 write_opcode write.LocalDelete = op.AppLocalDel
 write_opcode write.GlobalDelete = op.AppGlobalDel
-
-abbrev pub state_opcode : StateOp → Opcode
-state_opcode (state.Txn row) = txn_opcode row
-state_opcode (state.Global row) = op.Global
-state_opcode (state.Read row) = read_opcode row
-state_opcode (state.Write row) = write_opcode row

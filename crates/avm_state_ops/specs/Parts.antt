@@ -1,6 +1,7 @@
 -- What a part of an instruction answers: a value, a fault, or an item that isn't known.
 use Rattle.std.specs.Prelude.{◌≡◌, ◌||◌, ℕ, List, Option, Some, None, Result, Ok, Err}
 use Rattle.teal_value.specs.declared.value.Value.{Value}
+use Rattle.teal_value.specs.declared.value.Value.TheVariants.{Uint}
 use Rattle.teal_value.specs.declared.fault.Fault.{Fault}
 use Rattle.teal_value.specs.declared.fault.Fault.TheVariants as fault
 use Rattle.avm_items.specs.Asks.{Answer, answer_from}
@@ -29,7 +30,7 @@ Answers view (Err (stop.Fault f)) answer = answer ≡ Ok (Err f)
 Answers view (Err (stop.Need x)) answer = answer ≡ Err x.value
 Answers view (Err stop.Memory) answer = Unit {0}
 
--- It stops for this item, which isn't known, or for want of memory.
+-- It stops for this item, which isn't known, or because memory ran out.
 abbrev pub StopsFor : Option ItemValue → Item → Stop → Type 0
 StopsFor value x (stop.Need y) = (value ≡ None) × (y.value ≡ x)
 StopsFor value x (stop.Fault f) = ⊥
@@ -48,3 +49,8 @@ after_delete c key (Some counts) = leaves c 1 (counts_written c counts (key_writ
 -- the last test of a put into a local state
 abbrev pub schema_test : Entries → List ℕ → Value → Schema → Result (Unit {0}) Fault
 schema_test state key v limit = must (keeps_kind (value_of_key state key) (Some v) || is_within (counts_in (with_entry state key v)) limit) fault.Schema
+
+-- the number that is given, if it is one
+abbrev pub number_in : Result Value Fault → Option ℕ
+number_in (Ok (Uint n)) = Some n
+number_in _ = None

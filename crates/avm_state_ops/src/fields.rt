@@ -7,6 +7,7 @@ ghost use Rattle.teal_value.specs.declared.fault.Fault.TheVariants.{NoAccount};
 ghost use Rattle.avm_items.specs.CallFields.{account};
 ghost use Rattle.avm_ops.specs.Fields.{array_field, scalar_field, txn_array_value, txn_value, zero_address_bytes};
 ghost use Rattle.avm_ops.specs.Frame.{there};
+ghost use Rattle.avm_state_ops.specs.Parts.{number_in};
 
 use avm_items::CallData;
 use std::alloc::{AllocError, Global};
@@ -36,31 +37,41 @@ pub(crate) fn account(call: &CallData, index: u64) -> Result<Address, Fault>
     }
 }
 
+/// The number that a field is, if it is one.
+fn txn_number(call: &CallData, field: TxnField) -> Option<u64>
+    ensures { result ≡ number_in (txn_value call.now field) }
+{
+    match field {
+        TxnField::Fee => Some(call.fee),
+        TxnField::FirstValid => Some(call.first_valid),
+        TxnField::LastValid => Some(call.last_valid),
+        TxnField::Amount | TxnField::GroupIndex => Some(0),
+        TxnField::TypeEnum => Some(6),
+        TxnField::ApplicationId => Some(call.application),
+        TxnField::OnCompletion => Some(u64::from(call.completion.number())),
+        TxnField::NumAppArgs => Some(call.arguments.as_slice().len() as u64),
+        TxnField::NumAccounts => Some(call.accounts.as_slice().len() as u64),
+        _ => None,
+    }
+}
+
 /// The value of a field that is no array.
 fn txn_value(alloc: Global, call: &CallData, field: TxnField) -> Result<Value, Failure<Fault>>
     ensures { Gives (λ v. v) result (txn_value call.now field) }
 {
+    if let Some(number) = txn_number(call, field) {
+        return Ok(Value::Uint(number));
+    }
     match field {
         TxnField::Sender => Ok(bytes_value(alloc, &call.sender.0)?),
-        TxnField::Fee => Ok(Value::Uint(call.fee)),
-        TxnField::FirstValid => Ok(Value::Uint(call.first_valid)),
-        TxnField::LastValid => Ok(Value::Uint(call.last_valid)),
         TxnField::Note => Ok(bytes_value(alloc, call.note.as_slice())?),
         TxnField::Lease => Ok(bytes_value(alloc, &call.lease)?),
         TxnField::Receiver | TxnField::CloseRemainderTo => Ok(bytes_value(alloc, &ZERO_ADDRESS)?),
-        TxnField::Amount | TxnField::GroupIndex => Ok(Value::Uint(0)),
         TxnField::Type => Ok(bytes_value(alloc, b"appl")?),
-        TxnField::TypeEnum => Ok(Value::Uint(6)),
-        TxnField::ApplicationId => Ok(Value::Uint(call.application)),
-        TxnField::OnCompletion => Ok(Value::Uint(u64::from(call.completion.number()))),
-        TxnField::NumAppArgs => Ok(Value::Uint(call.arguments.as_slice().len() as u64)),
-        TxnField::NumAccounts => Ok(Value::Uint(call.accounts.as_slice().len() as u64)),
         TxnField::ApprovalProgram => Ok(bytes_value(alloc, call.approval.as_slice())?),
         TxnField::ClearStateProgram => Ok(bytes_value(alloc, call.clear.as_slice())?),
         TxnField::RekeyTo => Ok(bytes_value(alloc, &call.rekey_to.0)?),
-        TxnField::FirstValidTime | TxnField::ApplicationArgs | TxnField::Accounts => {
-            Err(Failure::Fault(Fault::BadField))
-        }
+        _ => Err(Failure::Fault(Fault::BadField)),
     }
 }
 
@@ -83,6 +94,16 @@ fn txn_array_value(
             Err(fault) => Err(Failure::Fault(fault)),
         },
         _ => Err(Failure::Fault(Fault::BadField)),
+    }
+}
+
+/// The number that the field of a number is, if it is one.
+pub(crate) fn scalar_number(call: &CallData, number: u8) -> Option<u64>
+    ensures { result ≡ number_in (scalar_field call.now number) }
+{
+    match txn_field(number) {
+        Some(field) => txn_number(call, field),
+        None => None,
     }
 }
 

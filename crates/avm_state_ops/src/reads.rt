@@ -3,6 +3,7 @@
 ghost use Rattle.std.specs.Prelude.{◌≡◌, ◌==◌, if◌then◌else◌, IfOk, IfSome, Some};
 ghost use Rattle.std.specs.Option.{option_copied};
 ghost use Rattle.teal_value.specs.declared.fault.Fault.TheVariants.{NoForeign};
+ghost use Rattle.teal_value.specs.declared.value.Value.TheVariants.{Uint};
 ghost use Rattle.avm_ops.specs.Frame.{flag};
 ghost use Rattle.avm_ops.specs.Objects.{Does, IfStopped};
 ghost use Rattle.avm_ops.specs.States.{foreign_of, global_get, global_get_ex, local_get, local_get_ex, opted_in, or_zero};
@@ -64,14 +65,10 @@ impl StateRead {
 }
 
 /// 1 for true, 0 for false.
-fn flag(holds: bool) -> Value
-    ensures { result ≡ flag holds }
+fn flag(holds: bool) -> u64
+    ensures { Uint result ≡ flag holds }
 {
-    if holds {
-        Value::Uint(1)
-    } else {
-        Value::Uint(0)
-    }
+    if holds { 1 } else { 0 }
 }
 
 /// A copy of a value; the uint64 0 where there is none.
@@ -116,7 +113,7 @@ fn opted_in(alloc: Global, cpu: &mut Cpu, env: &Env) -> Executed
     let (index, id) = cpu.two_uints()?;
     let who = account(env.call(), index)?;
     let is_in = local_state(alloc, env, who, application_named(env, id))?.is_some();
-    cpu.replace(2, flag(is_in));
+    cpu.set_uint(2, flag(is_in));
     Ok(Flow::Next)
 }
 
@@ -146,7 +143,7 @@ fn local_get_ex(alloc: Global, cpu: &mut Cpu, env: &Env) -> Executed
     let value = state.value_of(key);
     let is_there = flag(value.is_some());
     let copy = or_zero(value)?;
-    cpu.replace_pair(3, copy, is_there);
+    cpu.replace_pair(3, copy, Value::Uint(is_there));
     Ok(Flow::Next)
 }
 
@@ -172,7 +169,7 @@ fn global_get_ex(alloc: Global, cpu: &mut Cpu, env: &Env) -> Executed
     let value = global_entry(alloc, env, id, key)?;
     let is_there = flag(value.is_some());
     let copy = or_zero(value)?;
-    cpu.replace_pair(2, copy, is_there);
+    cpu.replace_pair(2, copy, Value::Uint(is_there));
     Ok(Flow::Next)
 }
 

@@ -5,7 +5,7 @@ ghost use Rattle.teal_value.specs.Answer.{Gives};
 ghost use Rattle.avm_ops.specs.Fields.{is_in_group};
 ghost use Rattle.avm_state_ops.specs.Families.{txn_opcode};
 
-use crate::fields::{array_field, scalar_field};
+use crate::fields::{array_field, scalar_field, scalar_number};
 use avm_cpu::{Cpu, Flow};
 use avm_items::Env;
 use avm_ops::immediates::{field_of, group_index_of, index_of};
@@ -84,7 +84,10 @@ impl Op for Txn {
         let immediates = &instr.immediates;
         let field = field_of(immediates);
         match self {
-            Txn::Scalar => cpu.push(scalar_field(alloc, env.call(), field)?)?,
+            Txn::Scalar => match scalar_number(env.call(), field) {
+                Some(number) => cpu.push_uint(number)?,
+                None => cpu.push(scalar_field(alloc, env.call(), field)?)?,
+            },
             Txn::Element => cpu.push(array_field(alloc, env.call(), field, index_of(immediates))?)?,
             Txn::GroupScalar => {
                 test_group(u64::from(group_index_of(immediates)))?;

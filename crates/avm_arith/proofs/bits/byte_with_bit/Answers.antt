@@ -1,6 +1,6 @@
 use Rattle.std.proofs.Common.{◌<◌, ◌^◌, sym, ap, subst, arith, ◌∙◌}
 use Rattle.avm_ops.specs.ByteStrings.{with_bit}
-use Rattle.avm_arith.proofs.WithBit.{with_bit_fits}
+use Rattle.avm_ops.proofs.WithBit.{with_bit_fits}
 use Rattle.avm_arith.proofs.bits.byte_with_bit.Goals as goal
 
 pub overflow_cast-result : goal.overflow_cast-result

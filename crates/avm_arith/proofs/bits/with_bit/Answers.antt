@@ -1,5 +1,5 @@
 use Rattle.std.proofs.Common.{◌<◌, ◌+◌, ◌-◌, ◌*◌, ◌/◌, ◌%◌, ◌^◌, sym, subst, arith}
-use Rattle.avm_arith.proofs.WithBit.{with_bit_fits}
+use Rattle.avm_ops.proofs.WithBit.{with_bit_fits}
 use Rattle.avm_arith.proofs.bits.with_bit.Goals as goal
 
 pub overflow_add-result : goal.overflow_add-result

@@ -4,7 +4,7 @@ use Rattle.avm_items.specs.Asks.{answer_from}
 use Rattle.avm_items.specs.Acts.{done, ◌>>=◌}
 use Rattle.avm_call.specs.Calls.{Target, opt_in_test, target}
 use Rattle.avm_run.specs.Tests.{Halts}
-use Rattle.avm_run.proofs.Halting.{halts, halts_behind}
+use Rattle.avm_run.proofs.AdmissionTests.{halts, halts_behind}
 use Rattle.avm_run.proofs.admission.admit.Goals as goal
 
 pub returns-in-Err-clause-tests : goal.returns-in-Err-clause-tests

@@ -7,7 +7,7 @@ use Rattle.avm_items.proofs.Questions.{result_on_ledger}
 use Rattle.avm_call.specs.Calls.{call_result}
 use Rattle.avm_run.specs.declared.phase.Phase.TheVariants as phase
 use Rattle.avm_run.specs.Progress.{reads_of}
-use Rattle.avm_run.proofs.Alive.{asks_alive, asks_over_reads, starts_alive, supplied}
+use Rattle.avm_run.proofs.LiveRuns.{asks_alive, asks_over_reads, starts_alive, supplied}
 use Rattle.avm_items.proofs.OneMore.{agrees_after}
 use Rattle.avm_run.proofs.Supplying.{few_left, longer_by_one}
 use Rattle.avm_run.proofs.on_ledger.run_over.Goals as goal

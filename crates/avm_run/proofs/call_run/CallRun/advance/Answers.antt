@@ -3,7 +3,7 @@ use Rattle.avm_run.specs.declared.call_run.Advance.TheVariants.{Need}
 use Rattle.avm_run.specs.Advances.{Advances}
 use Rattle.avm_run.specs.Progress.{reads_of, steps_of}
 use Rattle.avm_run.specs.RunState.{IsKeptRun, IsSoundState, Progress, progress, progress_of}
-use Rattle.avm_run.proofs.Alive.{asks_kept, asked_by_end, ends_over_reads}
+use Rattle.avm_run.proofs.LiveRuns.{asks_kept, asked_by_end, ends_over_reads}
 use Rattle.avm_run.proofs.Answering.{asks_for}
 use Rattle.avm_run.proofs.call_run.CallRun.advance.Goals as goal
 

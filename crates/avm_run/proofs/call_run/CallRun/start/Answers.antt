@@ -1,6 +1,6 @@
 use Rattle.std.proofs.Common.{sym, subst}
 use Rattle.avm_run.specs.RunState.{IsSoundState}
-use Rattle.avm_run.proofs.Alive.{starts_alive}
+use Rattle.avm_run.proofs.LiveRuns.{starts_alive}
 use Rattle.avm_run.proofs.call_run.CallRun.start.Goals as goal
 
 pub invariant_of-result : goal.invariant_of-result

@@ -1,0 +1,4 @@
+pub mod Rules
+pub mod Bounds
+pub mod Spellings
+pub mod PutOrder

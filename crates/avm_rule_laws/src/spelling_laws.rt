@@ -1,0 +1,20 @@
+//! That no spelling begins another of its kind.
+
+ghost use Rattle.avm_rule_laws.specs.Spellings.{HeadersApart, OutcomesApart, SchemasApart, StatesApart, ValuesApart};
+
+/// No spelling of an outcome begins another.
+pub fn outcomes_apart()
+    ensures { OutcomesApart }
+{}
+
+/// No spelling of a header begins another, of the same profile.
+pub fn headers_apart()
+    ensures { HeadersApart }
+{}
+
+/// No spelling of a value, a state or a schema begins another.
+pub fn states_apart()
+    ensures values { ValuesApart }
+    ensures states { StatesApart }
+    ensures schemas { SchemasApart }
+{}
