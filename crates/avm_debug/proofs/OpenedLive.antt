@@ -5,10 +5,10 @@ use Rattle.avm_ledger.specs.declared.header.Header.{Header}
 use Rattle.avm_ledger.specs.Ledgers.{Ledger}
 use Rattle.avm_items.specs.declared.call_data.CallData.{CallData}
 use Rattle.mv_core.specs.Stores.{Store}
-use Rattle.avm_debug.specs.declared.faults.OpenFault.{OpenFault}
-use Rattle.avm_debug.specs.Debugging.{Debugged}
+use Rattle.avm_stepper.specs.declared.faults.OpenFault.{OpenFault}
+use Rattle.avm_stepper.specs.Debugging.{Debugged}
 use Rattle.avm_debug.specs.LiveOpening.{IsOpenedLive, ledger_of_store, met_live}
-use Rattle.avm_debug.specs.Opening.{HasProgram}
+use Rattle.avm_stepper.specs.Opening.{HasProgram}
 
 abbrev first_of : Ledger → CallData → Header → Option Debugged
 first_of l call header = Some (record { ledger = l; call = call; header = header; steps = 0; fault = None })

@@ -1,13 +1,5 @@
-pub mod Debugging
-pub mod DebugRuns
-pub mod DebugSteps
-pub mod Stepping
-pub mod Opening
-pub mod Starting
-pub mod Changes
-pub mod Scratch
-pub mod Shown
-pub mod Laws
 pub mod LiveOpening
 pub mod Sources
+pub mod Debuggers
+pub mod Laws
 pub mod FaultNames

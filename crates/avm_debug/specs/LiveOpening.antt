@@ -8,10 +8,10 @@ use Rattle.mv_history.specs.History.{entries_below}
 use Rattle.mv_calls.specs.CallHistory.{CallEntry, call_of}
 use Rattle.mv_calls.specs.SerialCalls.{ledger_of}
 use Rattle.mv_core.specs.Stores.{Store}
-use Rattle.avm_debug.specs.declared.faults.OpenFault.{OpenFault}
-use Rattle.avm_debug.specs.declared.faults.OpenFault.TheVariants as fault
-use Rattle.avm_debug.specs.Debugging.{Debugged}
-use Rattle.avm_debug.specs.Opening.{HasNoProgram, HasProgram}
+use Rattle.avm_stepper.specs.declared.faults.OpenFault.{OpenFault}
+use Rattle.avm_stepper.specs.declared.faults.OpenFault.TheVariants as fault
+use Rattle.avm_stepper.specs.Debugging.{Debugged}
+use Rattle.avm_stepper.specs.Opening.{HasNoProgram, HasProgram}
 
 -- the ledger after the committed calls with timestamps up to this one
 abbrev pub ledger_of_store : Store → ℕ → Ledger

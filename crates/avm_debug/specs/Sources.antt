@@ -4,12 +4,12 @@ use Rattle.teal_value.specs.declared.failure.Failure.{Failure}
 use Rattle.avm_ledger.specs.Ledgers.{Ledger}
 use Rattle.avm_ledger.specs.Spellings.{ledger_digest}
 use Rattle.avm_replay.specs.Past.{ledger_until}
-use Rattle.avm_debug.specs.declared.faults.OpenFault.{OpenFault}
+use Rattle.avm_stepper.specs.declared.faults.OpenFault.{OpenFault}
 use Rattle.avm_debug.specs.declared.source.Source.{Source}
 use Rattle.avm_debug.specs.declared.source.Source.TheVariants as source
-use Rattle.avm_debug.specs.Debugging.{Debugged}
+use Rattle.avm_stepper.specs.Debugging.{Debugged}
 use Rattle.avm_debug.specs.LiveOpening.{IsLiveRefusal, IsOpenedLive, ledger_of_store}
-use Rattle.avm_debug.specs.Opening.{IsDebugRefusal, IsOpened}
+use Rattle.avm_stepper.specs.Opening.{IsDebugRefusal, IsOpened}
 
 -- the ledger after the calls with timestamps up to this one
 abbrev pub past_ledger : Source → ℕ → Ledger

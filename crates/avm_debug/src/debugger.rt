@@ -4,29 +4,38 @@ ghost use Rattle.std.specs.Prelude.{◌≡◌, ◌↔◌, IfErr, IfOk, IsErrOf};
 ghost use Rattle.teal_value.specs.declared.failure.Failure.TheVariants.{Fault};
 ghost use Rattle.avm_ops.specs.Objects.{IsFull};
 ghost use Rattle.avm_debug.specs.declared.faults.PastFault.TheVariants.{Pruned, WrongBase};
-ghost use Rattle.avm_debug.specs.DebugSteps.{StepsTo};
-ghost use Rattle.avm_debug.specs.Shown.{IsShown};
+ghost use Rattle.avm_stepper.specs.DebugSteps.{StepsTo};
+ghost use Rattle.avm_stepper.specs.Shown.{IsShown};
 ghost use Rattle.avm_debug.specs.Sources.{HasWrongBase, IsOpenedFrom, IsPrunedSource, IsRefusedFrom, past_ledger};
 
-use crate::faults::{OpenError, PastError, StepError};
+use crate::faults::PastError;
+use crate::live::open_live;
 use crate::source::{Source, state_of};
-use crate::stepper::Stepper;
-use crate::view::{View, ViewError};
 use avm_ledger::Ledger;
 use avm_ops::{BoxedOp, Op, OpSet};
+use avm_stepper::{OpenError, StepError, Stepper, View, ViewError};
 use std::alloc::Global;
+use std::marker::Model;
 
-/// A call that is stepped through, and the block or store that it is of.
+/// A call that is stepped through, and the block or store that it is of. Contracts see both (`specs/Debuggers.antt`).
 #[derive(Drop)]
 pub struct Debugger<'a> {
-    pub source: Source<'a>,
-    pub stepper: Stepper,
+    source: Source<'a>,
+    stepper: Stepper,
+}
+
+impl<'a> Model for Debugger<'a> {
+    ghost use Rattle.avm_debug.specs.Debuggers.{SourcedCall};
+
+    ghost Value = { SourcedCall };
+
+    ghost view = { λ d. record { source = d.source; stepper = d.stepper } };
 }
 
 impl<'a> Debugger<'a> {
     /// The call of an entry, before the first instruction of its program, over the ledger that it met.
     ///
-    /// Entries are numbered from 1, by rising timestamp. How they say that their calls ended is not compared. What a store
+    /// Entries are numbered from 1, in ascending order of timestamp. How they say that their calls ended is not compared. What a store
     /// commits later does not show.
     pub fn open(
         alloc: Global,
@@ -41,12 +50,26 @@ impl<'a> Debugger<'a> {
     {
         let opened = match source {
             Source::Block(base, block) => Stepper::open_block(alloc, base, block, entry, ops),
-            Source::Live(store) => Stepper::open_live(alloc, store, entry, ops),
+            Source::Live(store) => open_live(alloc, store, entry, ops),
         };
         match opened {
             Ok(stepper) => Ok(Debugger { source, stepper }),
             Err(refused) => Err(refused),
         }
+    }
+
+    /// What the call is opened of.
+    pub fn source(&self) -> Source<'a>
+        ensures { result ≡ self.now.source }
+    {
+        self.source
+    }
+
+    /// The call that is stepped through.
+    pub fn stepper(&self) -> &Stepper
+        ensures { result.now ≡ self.now.stepper }
+    {
+        &self.stepper
     }
 
     /// Makes a step, as [`Stepper::step`] does.

@@ -2,17 +2,43 @@
 
 ghost use Rattle.std.specs.Prelude.{◌≡◌, ◌<◌, ◌-◌, IfErr, IfOk};
 ghost use Rattle.std.specs.Option.{option_map};
-ghost use Rattle.avm_debug.specs.LiveOpening.{IsBelowLow, ledger_of_store, met_live};
+ghost use Rattle.avm_ops.specs.Objects.{IsFull};
+ghost use Rattle.avm_debug.specs.LiveOpening.{IsBelowLow, IsLiveRefusal, IsOpenedLive, ledger_of_store, met_live};
 
-use crate::faults::{OpenError, OpenFault};
 use avm_call::Call;
 use avm_ledger::Ledger;
+use avm_ops::{BoxedOp, Op, OpSet};
+use avm_stepper::{OpenError, OpenFault, Stepper};
 use mv_core::Store;
 use std::alloc::Global;
 use teal_value::Failure;
 
+/// The call of a committed entry, before the first instruction of its program, over the store's ledger before the
+/// entry's timestamp. What the store commits later does not show.
+///
+/// Entries are numbered from 1, in ascending order of timestamp. The low watermark leaves no ledger before an entry at or
+/// below it.
+pub(crate) fn open_live(
+    alloc: Global,
+    store: &Store,
+    entry: usize,
+    ops: &OpSet,
+) -> Result<Stepper, OpenError>
+    requires full { IsFull ⟦<BoxedOp as Op>⟧.opcode ops.now }
+    ensures opened { IfOk result (λ stepper. IsOpenedLive store.now entry stepper) }
+    ensures refused { IfErr result (IsLiveRefusal store.now entry) }
+{
+    match live_call(store, entry) {
+        None => Err(Failure::Fault(OpenFault::NoEntry)),
+        Some((timestamp, call)) => match live_ledger_before(alloc, store, timestamp) {
+            Ok(ledger) => Stepper::open(alloc, ledger, call, store.header(), ops),
+            Err(refused) => Err(refused),
+        },
+    }
+}
+
 /// The timestamp and the call of a committed entry, counted from 1.
-pub(crate) fn live_call(store: &Store, number: usize) -> Option<(u64, &Call)>
+fn live_call(store: &Store, number: usize) -> Option<(u64, &Call)>
     ensures { option_map (λ met. (met.0, met.1.now)) result ≡ met_live store.now number }
 {
     if number == 0 {
@@ -24,11 +50,7 @@ pub(crate) fn live_call(store: &Store, number: usize) -> Option<(u64, &Call)>
 }
 
 /// The ledger of a store before a timestamp.
-pub(crate) fn live_ledger_before(
-    alloc: Global,
-    store: &Store,
-    timestamp: u64,
-) -> Result<Ledger, OpenError>
+fn live_ledger_before(alloc: Global, store: &Store, timestamp: u64) -> Result<Ledger, OpenError>
     ensures ledger { IfOk result (λ ledger. ledger ≡ ledger_of_store store.now (timestamp - 1)) }
     ensures kept { IfOk result (λ _. store.now.world.low < timestamp) }
     ensures refused { IfErr result (IsBelowLow store.now timestamp) }

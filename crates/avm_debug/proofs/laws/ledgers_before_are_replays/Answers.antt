@@ -1,5 +1,0 @@
-use Rattle.avm_debug.proofs.EntriesBefore.{ledgers_before_are_replays}
-use Rattle.avm_debug.proofs.laws.ledgers_before_are_replays.Goals as goal
-
-pub returns : goal.returns
-returns c = ledgers_before_are_replays

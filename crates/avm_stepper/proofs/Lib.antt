@@ -1,0 +1,15 @@
+pub mod PathSteps
+pub mod OnlyFaults
+pub mod Supplied
+pub mod KnownItself
+pub mod ScratchSpace
+pub mod PathsAlike
+pub mod PreparedItems
+pub mod ViewsThere
+pub mod Moving
+pub mod Beginning
+pub mod OpenedEntries
+pub mod Copies
+pub mod Places
+pub mod Shows
+pub mod EntriesBefore

@@ -1,0 +1,11 @@
+pub mod Debugging
+pub mod DebugRuns
+pub mod DebugSteps
+pub mod Stepping
+pub mod Opening
+pub mod Starting
+pub mod Changes
+pub mod Scratch
+pub mod Shown
+pub mod Laws
+pub mod FaultNames
