@@ -9,11 +9,11 @@ use Rattle.avm_items.specs.LedgerItems.{at}
 use Rattle.mv_history.specs.World.{attempt_at}
 use Rattle.mv_history.proofs.SameWorlds.{same_world-itself, same_world-trans}
 use Rattle.mv_calls.specs.CallHistory.{same_item}
-use Rattle.mv_running.specs.declared.Event.{Event}
-use Rattle.mv_running.specs.Laws.{IsSameRunning}
-use Rattle.mv_running.specs.Running.{RunInput, Running, first_running, running_after, running_from, worker_at}
-use Rattle.mv_running.proofs.Runs.{every_run_leads_on, every_worker_is_live}
-use Rattle.mv_running.proofs.SameRuns.{every_same_run_goes_on}
+use Rattle.mv_core.specs.declared.running.Event.{Event}
+use Rattle.mv_core.specs.RunningLaws.{IsSameRunning}
+use Rattle.mv_core.specs.Running.{RunInput, Running, first_running, running_after, running_from, worker_at}
+use Rattle.mv_core.proofs.Runs.{every_run_leads_on, every_worker_is_live}
+use Rattle.mv_core.proofs.SameRuns.{every_same_run_goes_on}
 use Rattle.mv_core.specs.declared.world.Worker.{Worker}
 use Rattle.mv_core.specs.declared.world.Worker.TheVariants as worker
 use Rattle.mv_core.specs.Calls.{first_store}

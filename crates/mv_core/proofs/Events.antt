@@ -37,8 +37,8 @@ use Rattle.mv_shards.specs.Helds.{ArePruned, Places, shard_for}
 use Rattle.mv_shards.specs.Writing.{versions_for, versions_or_none}
 use Rattle.mv_parts.specs.Journals.{IsShardOver}
 use Rattle.mv_parts.proofs.Opens.{index_within}
-use Rattle.mv_running.specs.Running.{place_among}
-use Rattle.mv_running.proofs.Workers.{with_item-new}
+use Rattle.mv_core.specs.Running.{place_among}
+use Rattle.mv_core.proofs.Workers.{with_item-new}
 use Rattle.mv_core.specs.Places.{HasLiveNumber, live_in}
 use Rattle.mv_core.specs.Stores.{CallSlots, IsFirstRead, IsKeptStore, IsPrune, IsReadAgain, marks_in, store_shown}
 use Rattle.mv_core.proofs.Attempts.{all_in, attempt_here, count_in, live_begun, live_ended, live_read, places_begun, places_ended, places_read}

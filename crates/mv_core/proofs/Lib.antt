@@ -11,3 +11,6 @@ pub mod CommitCalls
 pub mod WorkerSteps
 pub mod EventRuns
 pub mod Sealings
+pub mod Workers
+pub mod Runs
+pub mod SameRuns

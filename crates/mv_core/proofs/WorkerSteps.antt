@@ -19,10 +19,10 @@ use Rattle.mv_history.specs.World.{after_abandon, after_begin, after_commit, aft
 use Rattle.mv_history.proofs.SameWorlds.{same_world-itself, same_world-sym}
 use Rattle.mv_calls.specs.CallHistory.{CallAttempt, CallEntry, CallWorld, call_of, same_item}
 use Rattle.mv_calls.specs.Laws.{entry_of}
-use Rattle.mv_running.specs.declared.Event.{Event}
-use Rattle.mv_running.specs.declared.Event.TheVariants as event
-use Rattle.mv_running.specs.Laws.{IsSameRunning}
-use Rattle.mv_running.specs.Running.{RunInput, Running, answer_of, by_worker, commit_by, entry_by, may_begin, place_among, read_by, running_after, with_worker, worker_at, writes_in_time}
+use Rattle.mv_core.specs.declared.running.Event.{Event}
+use Rattle.mv_core.specs.declared.running.Event.TheVariants as event
+use Rattle.mv_core.specs.RunningLaws.{IsSameRunning}
+use Rattle.mv_core.specs.Running.{RunInput, Running, answer_of, by_worker, commit_by, entry_by, may_begin, place_among, read_by, running_after, with_worker, worker_at, writes_in_time}
 use Rattle.mv_core.specs.declared.faults.CommitFault.{CommitFault}
 use Rattle.mv_core.specs.declared.faults.CommitFault.TheVariants as fault
 use Rattle.mv_core.specs.declared.ticket.Ticket.{Ticket}

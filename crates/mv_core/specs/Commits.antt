@@ -58,7 +58,7 @@ IsTestRefusal s n t f fault.Unknown = HasLiveNumber s.world.live n t → ⊥
 IsTestRefusal s n t f fault.Stranger = HasLiveNumber s.world.live n t × (IsOwn s n t f → ⊥)
 IsTestRefusal s n t f (fault.Late x version mark) = IsOwn s n t f × (late_write s t f.writes ≡ Some (fault.Late x version mark))
 
--- It is this fault, or want of memory where there is none.
+-- It is this fault, or that memory ran out where there is none.
 abbrev pub IsCommitRefusal : Store → ℕ → ℕ → CallRecord → Failure CommitFault → Type 0
 IsCommitRefusal s n t f failure.Memory = MayCommit s n t f
 IsCommitRefusal s n t f (failure.Fault found) = IsTestRefusal s n t f found

@@ -1,4 +1,6 @@
 pub mod Places
+pub mod Running
+pub mod RunningLaws
 pub mod Marks
 pub mod Stores
 pub mod Laws

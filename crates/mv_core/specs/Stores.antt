@@ -20,7 +20,7 @@ use Rattle.mv_shards.specs.Shards.{Shard}
 use Rattle.mv_shards.specs.Helds.{IsHeldPruned, IsHeldRead, Places}
 use Rattle.mv_shards.specs.Writing.{versions_for}
 use Rattle.mv_parts.specs.Journals.{AreAllOver, AreLiveCalls}
-use Rattle.mv_running.specs.Running.{place_among}
+use Rattle.mv_core.specs.Running.{place_among}
 use Rattle.mv_core.specs.Marks.{marks_among}
 use Rattle.mv_core.specs.Places.{ArePlacesOf, AttemptSlots, live_in}
 

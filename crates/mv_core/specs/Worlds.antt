@@ -13,10 +13,10 @@ use Rattle.mv_history.specs.SameWorlds.{IsSameWorld}
 use Rattle.mv_history.specs.World.{after_abandon, after_begin, after_commit, after_read, attempt_at, fresh_attempt, live_count}
 use Rattle.mv_calls.specs.CallHistory.{CallAttempt, call_of, same_item}
 use Rattle.mv_calls.specs.Laws.{entry_of}
-use Rattle.mv_running.specs.declared.Event.{Event}
-use Rattle.mv_running.specs.declared.Event.TheVariants as event
-use Rattle.mv_running.specs.Laws.{IsSameRunning}
-use Rattle.mv_running.specs.Running.{RunInput, Running, first_running, place_among, running_after, running_from}
+use Rattle.mv_core.specs.declared.running.Event.{Event}
+use Rattle.mv_core.specs.declared.running.Event.TheVariants as event
+use Rattle.mv_core.specs.RunningLaws.{IsSameRunning}
+use Rattle.mv_core.specs.Running.{RunInput, Running, first_running, place_among, running_after, running_from}
 use Rattle.mv_core.specs.declared.ticket.Ticket.{Ticket}
 use Rattle.mv_core.specs.declared.world.Worker.{Worker}
 use Rattle.mv_core.specs.declared.world.Worker.TheVariants as worker

@@ -7,13 +7,13 @@ ghost use Rattle.mv_parts.specs.Opening.{open_fault};
 ghost use Rattle.mv_core.specs.declared.world.Worker.TheVariants.{Idle};
 ghost use Rattle.mv_core.specs.Worlds.{AreLiveIn, AreSound, IsRun, IsRunTo, IsStep, input_of, worker_in};
 
+use crate::running::Event;
 use crate::steps::work;
 use crate::store::Store;
 use crate::world::{Worker, World};
 use avm_call::Call;
 use avm_ledger::{Header, Ledger};
 use avm_ops::{BoxedOp, Op, OpSet};
-use mv_running::Event;
 use std::alloc::{AllocError, Global};
 use std::mem;
 use std::sync::Arc;

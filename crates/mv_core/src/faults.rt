@@ -27,7 +27,7 @@ impl ReadFault {
     }
 }
 
-/// A [`ReadFault`], or want of memory.
+/// A [`ReadFault`], or that memory ran out.
 pub type ReadError = Failure<ReadFault>;
 
 /// Why a finished call does not commit, in the order of the tests.
@@ -56,7 +56,7 @@ impl CommitFault {
     }
 }
 
-/// A [`CommitFault`], or want of memory.
+/// A [`CommitFault`], or that memory ran out.
 pub type CommitError = Failure<CommitFault>;
 
 /// A commit that was refused, with the finished call.
@@ -104,5 +104,5 @@ impl StateFault {
     }
 }
 
-/// A [`StateFault`], or want of memory.
+/// A [`StateFault`], or that memory ran out.
 pub type StateError = Failure<StateFault>;

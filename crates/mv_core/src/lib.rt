@@ -1,7 +1,7 @@
 //! The store: calls on a ledger that run side by side, each in an attempt that begins, reads, and is committed or
 //! abandoned, by multiversion timestamp ordering (Bernstein, Hadzilacos, Goodman, "Concurrency Control and Recovery in
 //! Database Systems", section 5.3). It is a journal with all its shards and the live attempts. What is seen of it, and
-//! what it keeps, is in specs/Stores.antt.
+//! what it keeps, is in specs/Stores.antt. What a list of steps of eight workers comes to is in specs/Running.antt.
 //!
 //! What each event makes of a store is a law; those functions do no work.
 #![tactic(auto)]
@@ -13,6 +13,7 @@ mod event_list;
 mod faults;
 mod opening;
 mod reading;
+mod running;
 mod sealing;
 mod steps;
 mod store;
@@ -24,7 +25,7 @@ pub use faults::{
     AbandonFault, CommitError, CommitFault, ReadError, ReadFault, RefusedCommit, StateError,
     StateFault,
 };
-pub use mv_running::Event;
+pub use running::{Event, every_read_is_used, every_run_is_serial, every_same_run_goes_on};
 pub use sealing::RefusedSeal;
 pub use store::Store;
 pub use ticket::Ticket;

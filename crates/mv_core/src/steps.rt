@@ -5,13 +5,13 @@ ghost use Rattle.avm_ops.specs.Objects.{IsFull};
 ghost use Rattle.mv_core.specs.Worlds.{TicketAsksFor, TicketHasEnded, IsAbandonBy, IsAdvanced, IsBegun, IsBegunBy, IsCommit, IsCommitBy, IsGoing, IsLiveIfAny, IsLiveWith, IsReadByStore, IsReadBy, IsSoundWorker, IsWork, attempt_by, attempt_of, input_of, reads_or_none, worker_in};
 
 use crate::faults::{CommitFault, RefusedCommit};
+use crate::running::Event;
 use crate::store::Store;
 use crate::ticket::Ticket;
 use crate::world::Worker;
 use avm_items::Item;
 use avm_ops::{BoxedOp, Op, OpSet};
 use avm_run::{Advance, CallRun, Finished, RunFault};
-use mv_running::Event;
 use std::alloc::{AllocError, Global};
 use teal_value::Failure;
 

@@ -12,12 +12,14 @@ ghost use Rattle.mv_parts.specs.Commits.{AreCovered, IsCommitRefusal, IsCommitte
 ghost use Rattle.mv_parts.specs.Journals.{AreLiveCalls, IsBeginRefusal, IsIndexedStore, IsLive, begin_fault};
 ghost use Rattle.mv_parts.specs.Opening.{open_fault};
 
+use crate::base::SharedBase;
 use crate::begin_fault::{BeginError, BeginFault};
 use crate::call_state::CallState;
 use crate::commit_fault::{CommitFault, RefusedCommit};
 use crate::commit_tests::{is_own_call, late, moved};
 use crate::committing::{entry_of, insert_entry, write_all};
 use crate::entry::Entry;
+use crate::live::LiveCalls;
 use avm_call::Call;
 use avm_items::ItemMap;
 use avm_ledger::{Header, Ledger};
@@ -25,7 +27,6 @@ use avm_run::Finished;
 use mv_calls::every_consistent_world_of_calls_is_serial;
 use mv_shards::{Attempt, Held};
 use std::alloc::Global;
-use std::collections::BTreeMap;
 use std::marker::Model;
 use std::sync::Arc;
 use teal_value::Failure;
@@ -34,15 +35,14 @@ use teal_value::Failure;
 #[derive(Drop)]
 pub struct Journal {
     pub(crate) alloc: Global,
-    pub(crate) base: Arc<Ledger>,
+    pub(crate) base: SharedBase,
     pub(crate) header: Header,
     pub(crate) calls: Arc<Vec<Call>>,
     pub(crate) clock: u64,
     pub(crate) low: u64,
     pub(crate) entries: Vec<Entry>,
     pub(crate) states: Vec<CallState>,
-    /// The numbers of the live calls, by their timestamps.
-    pub(crate) live: BTreeMap<u64, u32>,
+    pub(crate) live: LiveCalls,
     /// All versions, in shards of the journal's own that are never pruned.
     pub(crate) index: Held,
 }
@@ -53,9 +53,9 @@ impl Model for Journal {
 
     ghost Value = { Journal };
 
-    ghost view = { λ j. journal_of (arc_value j.base) j.header (arc_value j.calls).items j.clock j.low j.entries.items j.live.entries j.index };
+    ghost view = { λ j. journal_of j.base j.header (arc_value j.calls).items j.clock j.low j.entries.items j.live j.index };
 
-    ghost invariant = { λ j. IsKeptJournal (arc_value j.base) j.header (arc_value j.calls).items j.clock j.low j.entries.items j.states.items j.live.entries j.index };
+    ghost invariant = { λ j. IsKeptJournal j.base j.header (arc_value j.calls).items j.clock j.low j.entries.items j.states.items j.live j.index };
 }
 
 impl Journal {
@@ -72,7 +72,7 @@ impl Journal {
         }
         let timestamp = self.clock + 1;
         match self.live.insert(timestamp, number) {
-            Ok(_) => {
+            Ok(()) => {
                 self.states[number as usize - 1] = CallState::Live(timestamp);
                 self.clock = timestamp;
                 Ok(Attempt::new(self.alloc, number, timestamp))
@@ -81,7 +81,7 @@ impl Journal {
         }
     }
 
-    /// Why a call does not begin, want of memory aside.
+    /// Why a call does not begin, other than that memory ran out.
     fn begin_fault(&self, number: u32) -> Option<BeginFault>
         ensures { result ≡ begin_fault self.now number }
     {
@@ -112,9 +112,7 @@ impl Journal {
         if !self.is_live(&attempt) {
             return Err(attempt);
         }
-        // The map is in order, as its reader says.
-        let _count = self.live.len();
-        self.live.remove(&attempt.timestamp());
+        self.live.remove(attempt.timestamp());
         self.states[attempt.number() as usize - 1] = CallState::Idle;
         Ok(())
     }
@@ -123,8 +121,8 @@ impl Journal {
     pub fn is_live(&self, attempt: &Attempt) -> bool
         ensures { IsTrue result ↔ IsLive self.now.world attempt.now }
     {
-        match self.live.get(&attempt.timestamp()) {
-            Some(number) => *number == attempt.number(),
+        match self.live.number_at(attempt.timestamp()) {
+            Some(number) => number == attempt.number(),
             None => false,
         }
     }
@@ -144,18 +142,16 @@ impl Journal {
     fn low_after(&self, timestamp: u64) -> u64
         ensures { result ≡ low_after_prune self.now.world timestamp }
     {
-        // The map is in order, as its reader says.
-        let _count = self.live.len();
         let bound = timestamp.min(self.clock);
-        match self.live.first_key_value() {
-            Some((first, _number)) => self.low.max(bound.min(*first)),
+        match self.live.first() {
+            Some((first, _number)) => self.low.max(bound.min(first)),
             None => self.low.max(bound),
         }
     }
 
     /// A call that has ended joins the committed ones, at its attempt's timestamp, and is written to the shards that are held.
     /// Its reads are checked against the entries, and its writes against the marks of the entries' reads and of the shards'. It
-    /// gives the timestamp. Where it is refused, nothing has changed in either, and what was given is handed back.
+    /// gives the timestamp. Where it is refused, nothing that is seen of either has changed, and what was given is handed back.
     pub fn commit(
         &mut self,
         held: &mut Held,
@@ -168,6 +164,7 @@ impl Journal {
         ensures back { IfErr result (λ refused. (refused.attempt ≡ attempt) × (refused.finished ≡ finished)) }
         ensures unchanged { OnErr result ((self.new ≡ self.old) × (held.new ≡ held.old)) }
     {
+        self.place(held, attempt.reads(), finished.writes());
         if let Some(fault) = self.commit_fault(held, &attempt, &finished) {
             return Err(RefusedCommit {
                 error: Failure::Fault(fault),
@@ -178,7 +175,19 @@ impl Journal {
         self.write(held, attempt, finished)
     }
 
-    /// Why an attempt does not commit, want of memory aside.
+    /// Gives what a commit reads and writes chains of their own, in the journal's versions and in the shards that are held,
+    /// so that neither its tests nor its writes search for an item that is not there. Nothing that is seen changes.
+    fn place(&mut self, held: &mut Held, reads: &ItemMap, writes: &ItemMap)
+        requires { AreCovered held.old reads.now writes.now }
+        ensures { (self.new ≡ self.old) × (held.new ≡ held.old) }
+    {
+        self.index.place(reads);
+        self.index.place(writes);
+        held.place(reads);
+        held.place(writes);
+    }
+
+    /// Why an attempt does not commit, other than that memory ran out.
     fn commit_fault(
         &self,
         held: &Held,
@@ -241,9 +250,9 @@ impl Journal {
         ensures unchanged { OnErr result ((self.new ≡ self.old) × (held.new ≡ held.old)) }
     {
         let timestamp = attempt.timestamp();
-        // What a finished call keeps, and the order of the map, as their readers say.
+        // What a finished call keeps, and the order of the live calls, as their readers say.
         finished.holds();
-        let _count = self.live.len();
+        let _first = self.live.first();
         match write_all(
             &mut self.entries,
             &mut self.index,
@@ -253,7 +262,7 @@ impl Journal {
             &finished,
         ) {
             Ok(()) => {
-                self.live.remove(&timestamp);
+                self.live.remove(timestamp);
                 self.states[attempt.number() as usize - 1] = CallState::Committed;
                 insert_entry(&mut self.entries, entry_of(attempt, finished));
                 Ok(timestamp)
@@ -270,7 +279,7 @@ impl Journal {
     pub fn base(&self) -> &Ledger
         ensures { result.now ≡ self.now.base }
     {
-        &self.base
+        self.base.ledger()
     }
 
     /// The header under which the calls are made.

@@ -7,6 +7,7 @@
 //! specs/Sealing.antt; when a shard agrees with a journal, in specs/Agreeing.antt.
 #![tactic(auto)]
 
+mod base;
 mod begin_fault;
 mod call_state;
 mod commit_fault;
@@ -15,6 +16,7 @@ mod committing;
 mod entry;
 mod journal;
 mod laws;
+mod live;
 mod open_fault;
 mod opening;
 mod past;
@@ -22,12 +24,13 @@ mod same_ledger;
 mod seal_fault;
 mod sealing;
 
+pub use base::SharedBase;
 pub use begin_fault::{BeginError, BeginFault};
 pub use commit_fault::{CommitError, CommitFault, RefusedCommit};
 pub use entry::Entry;
 pub use journal::Journal;
 pub use laws::every_call_keeps_agreement;
 pub use open_fault::{OpenError, OpenFault};
-pub use opening::open_parts;
+pub use opening::{open_on, open_parts};
 pub use seal_fault::{RefusedSeal, SealError, SealFault};
 pub use sealing::Sealed;

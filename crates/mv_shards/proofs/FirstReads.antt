@@ -21,7 +21,7 @@ use Rattle.mv_shards.proofs.OneChain.{some_of}
 
 -- what is seen of a map has the versions of every item
 pub versions_touched : {V : Type 0} (first : Item → V) (low : ℕ) (map : ChainMap V) → AreChains first low map → (y : Item) → versions_in first (touched map) y ≡ versions_of first map y
-versions_touched {V} first low map k y = ap (versions_or (first y)) (found_touched first map k.order y) ∙ by (is_untouched (versions_of first map y)) refl
+versions_touched {V} first low map k y = ap (versions_or (first y)) (found_touched first map k.once y) ∙ by (is_untouched (versions_of first map y)) refl
   where
     by : (u : Bool) → is_untouched (versions_of first map y) ≡ u → versions_or (first y) (if u then None else Some (versions_of first map y)) ≡ versions_of first map y
     by true e = sym (k.based y e)
@@ -31,12 +31,12 @@ versions_touched {V} first low map k y = ap (versions_or (first y)) (found_touch
 pub touched_with : {V : Type 0} (first : Item → V) (low : ℕ) (map new : ChainMap V) (x : Item) (vs : List (Version V)) → AreChains first low map → AreChains first low new → is_untouched vs ≡ false
     → ((y : Item) → versions_of first new y ≡ (if is_eq (item_cmp y x) then vs else versions_of first map y)) → touched new ≡ with_versions (touched map) x vs
 touched_with first low map new x vs k n stale alike =
-    same_map item_total item_same (touched new) (with_versions (touched map) x vs) (sorted_touched new n.order) (sorted-inserted item_total x vs (touched map) (sorted_touched map k.order))
-    (λ y. found_touched first new n.order y ∙ ap touched_or (alike y) ∙ by y (is_eq (item_cmp y x)) ∙ sym (found_inserted y x vs (touched map)))
+    same_map item_total item_same (touched new) (with_versions (touched map) x vs) (sorted_touched new) (sorted-inserted item_total x vs (touched map) (sorted_touched map))
+    (λ y. found_touched first new n.once y ∙ ap touched_or (alike y) ∙ by y (is_eq (item_cmp y x)) ∙ sym (found_inserted y x vs (touched map)))
   where
     by : (y : Item) (b : Bool) → touched_or (if b then vs else versions_of first map y) ≡ cond b (Some vs) (lookup (is_at (item_cmp y)) (touched map))
     by y true = ap (λ u. if u then None else Some vs) stale
-    by y false = sym (found_touched first map k.order y)
+    by y false = sym (found_touched first map k.once y)
 
 abbrev pub seen_as : ℕ → ℕ → Ledger → ChainMap ItemValue → Shard
 seen_as index low base map = record { index = index; low = low; base = base; chains = touched map }
@@ -65,3 +65,7 @@ pub readable_of : {V : Type 0} (first : Item → V) (t : ℕ) (map : ChainMap V)
 readable_of first t map x old there =
     let c = some_of (chain_in map x) there in
     record { chain = c.0; found = c.1; old_enough = subst (λ vs. oldest_timestamp vs ≤ t) (ap (list_or (first x)) c.1) old }
+
+-- an item that was given a chain is readable as it was without one
+pub placed_readable : {V : Type 0} (first : Item → V) (t : ℕ) (map new : ChainMap V) (x : Item) → oldest_timestamp (versions_of first map x) ≤ t → versions_of first new x ≡ versions_of first map x → IsSome (chain_in new x) → IsReadable t new x
+placed_readable first t map new x old same there = readable_of first t new x (subst (λ vs. oldest_timestamp vs ≤ t) (sym same) old) there

@@ -1,69 +1,200 @@
-//! Maps from items to chains, of any values.
+//! The chains of items, each with a number.
 
-ghost use Rattle.std.specs.Prelude.{◌≡◌, ◌≤◌, ◌<◌, IfOk, IsSome, None, OnOk};
-ghost use Rattle.mv_shards.specs.Chains.{TakesVersion, IsGrown, IsInstalled, IsMarked, IsReadable, IsRoomier, HasRoomFor, chain_in};
+ghost use Rattle.std.specs.Prelude.{◌≡◌, ◌≤◌, ◌<◌, [], IfOk, IsSome, None, OnOk, Some};
+ghost use Rattle.std.specs.Option.{option_copied};
+ghost use Rattle.std.specs.Ordering.{is_eq};
+ghost use Rattle.avm_items.specs.Items.{item_cmp};
+ghost use Rattle.mv_chain.specs.Versions.{versions_from};
 
-use avm_items::Item;
+use crate::slot::{SLOT_COUNT, slot_of};
+use avm_items::{Item, ItemValue};
 use mv_chain::Chain;
 use std::alloc::{AllocError, Global};
 use std::collections::BTreeMap;
+use std::marker::Model;
 
-/// Gives an item a chain, which has none. Its versions stay.
-pub fn make_chain<V: Drop>(
-    alloc: Global,
-    chains: &mut BTreeMap<Item, Chain<V>>,
-    item: &Item,
-    first: V,
-) -> Result<(), AllocError>
-    requires none { chain_in chains.old.entries item.now ≡ None }
-    ensures grown { (value_of : _) → value_of item.now ≡ first → IsGrown value_of chains.old.entries chains.new.entries }
-    ensures roomier { OnOk result (IsRoomier chains.old.entries chains.new.entries) }
-    ensures there { OnOk result (IsSome (chain_in chains.new.entries item.now)) }
+/// The chains of some items, in the order in which they were made. A chain's number is its place there, and stays.
+#[derive(Drop)]
+pub(crate) struct Chains {
+    numbers: BTreeMap<Item, usize>,
+    list: Vec<(Item, Chain<ItemValue>)>,
+    /// For each slot the number of the item that was asked for last, so that most items are found without a look into the
+    /// map. Nothing rests on it: whether the chain of the number is the item's is asked each time.
+    recent: Vec<usize>,
+}
+
+impl Model for Chains {
+    ghost use Rattle.avm_items.specs.declared.item_value.ItemValue.{ItemValue};
+    ghost use Rattle.mv_shards.specs.Chains.{AreNumbered, ChainMap};
+
+    ghost Value = { ChainMap ItemValue };
+
+    ghost view = { λ c. c.list.items };
+
+    ghost invariant = { λ c. AreNumbered c.numbers.entries c.list.items };
+}
+
+impl Chains {
+    ghost use Rattle.mv_shards.specs.Chains.{AreChains, IsGrown, IsInstalled, IsMarked, IsReadable, IsRoomier, HasRoomFor, TakesVersion, chain_in, number_in, versions_of};
+
+    /// No chains. It takes no memory.
+    pub(crate) fn new(alloc: Global) -> Chains
+        ensures { result ≡ [] }
+    {
+        Chains {
+            numbers: BTreeMap::new(alloc),
+            list: Vec::new(alloc),
+            recent: Vec::new(alloc),
+        }
+    }
+
+    /// The number of an item's chain.
+    fn find(&self, item: &Item) -> Option<usize>
+        ensures { result ≡ number_in self.now item.now }
+    {
+        let number = noted(&self.recent, item);
+        if number < self.list.len() && is_item(item, &self.list[number].0) {
+            return Some(number);
+        }
+        self.number_of(item)
+    }
+
+    /// The number of an item's chain, which is noted for the next time.
+    pub(crate) fn find_and_note(&mut self, item: &Item) -> Option<usize>
+        ensures number { result ≡ number_in self.old item.now }
+        ensures unchanged { self.new ≡ self.old }
+    {
+        let found = self.find(item);
+        if let Some(number) = found {
+            note(&mut self.recent, item, number);
+        }
+        found
+    }
+
+    /// The number of an item's chain, looked up.
+    fn number_of(&self, item: &Item) -> Option<usize>
+        ensures { result ≡ number_in self.now item.now }
+    {
+        match self.numbers.get(item) {
+            Some(number) => Some(*number),
+            None => None,
+        }
+    }
+
+    /// An item's chain.
+    pub(crate) fn get(&self, item: &Item) -> Option<&Chain<ItemValue>>
+        ensures { option_copied result ≡ chain_in self.now item.now }
+    {
+        match self.find(item) {
+            Some(number) => Some(&self.list[number].1),
+            None => None,
+        }
+    }
+
+    /// Gives an item a chain, which has none. Its versions stay.
+    pub(crate) fn make(
+        &mut self,
+        alloc: Global,
+        item: &Item,
+        first: ItemValue,
+    ) -> Result<(), AllocError>
+        requires none { chain_in self.old item.now ≡ None }
+        ensures grown { (value_of : _) → value_of item.now ≡ first → IsGrown value_of self.old self.new }
+        ensures roomier { OnOk result (IsRoomier self.old self.new) }
+        ensures there { OnOk result (IsSome (chain_in self.new item.now)) }
+    {
+        let chain = Chain::new(alloc, first)?;
+        make_slots(alloc, &mut self.recent)?;
+        self.list.reserve(1)?;
+        let number = self.list.len();
+        self.numbers.insert(item.copied(), number)?;
+        self.list.push_reserved((item.copied(), chain));
+        note(&mut self.recent, item, number);
+        Ok(())
+    }
+
+    /// Makes room in an item's chain for one more version.
+    pub(crate) fn reserve(&mut self, item: &Item) -> Result<(), AllocError>
+        requires there { IsSome (chain_in self.old item.now) }
+        ensures grown { (value_of : _) → IsGrown value_of self.old self.new }
+        ensures roomier { OnOk result (IsRoomier self.old self.new) }
+        ensures room { OnOk result (HasRoomFor self.new item.now) }
+    {
+        match self.find(item) {
+            Some(number) => self.list[number].1.reserve(),
+            None => unreachable!(),
+        }
+    }
+
+    /// Notes that an item's newest version not above a timestamp was read at it.
+    pub(crate) fn mark(&mut self, item: &Item, timestamp: u64)
+        requires readable { IsReadable timestamp self.old item.now }
+        requires positive { 0 < timestamp }
+        ensures { IsMarked timestamp item.now self.old self.new }
+    {
+        match self.find(item) {
+            Some(number) => self.list[number].1.mark(timestamp),
+            None => unreachable!(),
+        }
+    }
+
+    /// Adds a version to an item's chain, which has a place for it.
+    pub(crate) fn install(&mut self, item: &Item, value: ItemValue, timestamp: u64)
+        requires place { TakesVersion timestamp self.old item.now }
+        requires positive { 0 < timestamp }
+        ensures { IsInstalled timestamp item.now value self.old self.new }
+    {
+        match self.find(item) {
+            Some(number) => {
+                let _ = self.list[number].1.install(timestamp, value);
+            }
+            None => unreachable!(),
+        }
+    }
+
+    /// Drops the versions that no read from a timestamp on can find. Most chains have one version, which stays.
+    pub(crate) fn prune(&mut self, timestamp: u64)
+        ensures versions { (first : _) (x : _) → versions_of first self.new x ≡ versions_from timestamp (versions_of first self.old x) }
+        ensures kept { (first : _) (low : _) → low ≤ timestamp → AreChains first low self.old → AreChains first timestamp self.new }
+    {
+        for number in 0..self.list.len() {
+            prune_chain(&mut self.list[number].1, timestamp);
+        }
+    }
+}
+
+/// Drops the versions that no read from a timestamp on can find.
+fn prune_chain(chain: &mut Chain<ItemValue>, timestamp: u64)
+    ensures { chain.new.list ≡ versions_from timestamp chain.old.list }
 {
-    let chain = Chain::new(alloc, first)?;
-    chains.insert(item.copied(), chain)?;
+    if chain.count() > 1 {
+        chain.prune(timestamp);
+    }
+}
+
+/// Makes the slots for numbers, if they aren't there. Nothing is noted in them.
+fn make_slots(alloc: Global, recent: &mut Vec<usize>) -> Result<(), AllocError> {
+    if recent.is_empty() {
+        *recent = vec![in alloc; usize::MAX; SLOT_COUNT]?;
+    }
     Ok(())
 }
 
-/// Makes room in an item's chain for one more version.
-pub fn make_space<V: Drop>(
-    chains: &mut BTreeMap<Item, Chain<V>>,
-    item: &Item,
-) -> Result<(), AllocError>
-    requires there { IsSome (chain_in chains.old.entries item.now) }
-    ensures grown { (value_of : _) → IsGrown value_of chains.old.entries chains.new.entries }
-    ensures roomier { OnOk result (IsRoomier chains.old.entries chains.new.entries) }
-    ensures room { OnOk result (HasRoomFor chains.new.entries item.now) }
-{
-    match chains.get_mut(item) {
-        Some(chain) => chain.reserve(),
-        None => unreachable!(),
+/// The number in an item's slot, or one that no chain has.
+fn noted(recent: &[usize], item: &Item) -> usize {
+    recent.get(slot_of(item)).copied().unwrap_or(usize::MAX)
+}
+
+/// Notes a number in an item's slot, if there are slots.
+fn note(recent: &mut [usize], item: &Item, number: usize) {
+    if let Some(slot) = recent.get_mut(slot_of(item)) {
+        *slot = number;
     }
 }
 
-/// Notes that an item's newest version not above a timestamp was read at it.
-pub fn mark<V: Drop>(chains: &mut BTreeMap<Item, Chain<V>>, item: &Item, timestamp: u64)
-    requires readable { IsReadable timestamp chains.old.entries item.now }
-    requires positive { 0 < timestamp }
-    ensures { IsMarked timestamp item.now chains.old.entries chains.new.entries }
+/// Whether two items are the same.
+fn is_item(item: &Item, other: &Item) -> bool
+    ensures { result ≡ is_eq (item_cmp item.now other.now) }
 {
-    if let Some(chain) = chains.get_mut(item) {
-        chain.mark(timestamp);
-    }
-}
-
-/// Adds a version to an item's chain, which has a place for it.
-pub fn install<V: Drop>(
-    chains: &mut BTreeMap<Item, Chain<V>>,
-    item: &Item,
-    value: V,
-    timestamp: u64,
-)
-    requires place { TakesVersion timestamp chains.old.entries item.now }
-    requires positive { 0 < timestamp }
-    ensures { IsInstalled timestamp item.now value chains.old.entries chains.new.entries }
-{
-    if let Some(chain) = chains.get_mut(item) {
-        let _ = chain.install(timestamp, value);
-    }
+    *item == *other
 }

@@ -1,20 +1,20 @@
 //! Shards that are held together.
 
-ghost use Rattle.std.specs.Prelude.{◌≡◌, ◌==◌, ◌<◌, ◌⊎◌, ◌↔◌, None, Some, IfErr, IfOk, IfNone, IfSome, IsErrOf, IsOk, IsSome, IsTrue, OnErr, OnOk, get_or, length, set, ◌-◌};
+ghost use Rattle.std.specs.Prelude.{◌≡◌, ◌<◌, ◌≤◌, false, ◌⊎◌, ◌↔◌, None, Some, IfErr, IfOk, IfNone, IfSome, IsErrOf, IsOk, IsSome, IsTrue, OnErr, OnOk, get_or, length, set, ◌-◌};
 ghost use Rattle.std.proofs.Common.{replicate};
 ghost use Rattle.teal_value.specs.declared.failure.Failure.TheVariants.{Fault};
 ghost use Rattle.mv_shards.specs.declared.read_fault.ReadFault.TheVariants.{Pruned};
 ghost use Rattle.mv_shards.specs.Indexes.{shard_count};
-ghost use Rattle.mv_shards.specs.Helds.{AreAtPlaces, AreFree, AreFreeFrom, AreHeld, IsHeld, IsHeldPruned, IsHeldRead, IsLastTaken, IsTakenFrom, ArePruned, seen_or_none};
+ghost use Rattle.mv_shards.specs.Helds.{AreAtPlaces, AreFree, AreFreeFrom, AreHeld, IsHeld, IsHeldPruned, IsHeldRead, IsLastTaken, IsPartOrNone, IsTakenFrom, ArePruned, seen_all, seen_or_none};
 ghost use Rattle.avm_items.specs.SameValues.{is_same_value};
-ghost use Rattle.mv_shards.specs.Writing.{AreLow, AreWritten, CanTake, IsFirstForeign, NoneForeign, is_foreign, versions_for};
+ghost use Rattle.mv_shards.specs.Writing.{AreLow, AreWritten, CanTake, IsAbove, IsFirstForeign, IsLeastWith, IsLowAt, NoneForeign, has_timestamp_in, versions_for};
 ghost use Rattle.mv_chain.specs.Versions.{lateness, newest_at};
 
 use crate::attempt::Attempt;
 use crate::index::{SHARD_COUNT, shard_of};
-use crate::part::{has_value, late, prune, read, refuses, version_count};
+use crate::part::{Part, has_value, has_version, late, prune, read, version_count};
 use crate::read_fault::ReadError;
-use crate::room::Parts;
+use crate::room::{Parts, place_all};
 use crate::shard::Shard;
 use crate::writing::write_parts;
 use avm_items::{Item, ItemMap, ItemValue};
@@ -108,6 +108,15 @@ impl Held {
         }
     }
 
+    /// Gives each of these items a chain in its shard, if it has none. What is seen of the shards stays, also where memory
+    /// is refused. What is asked of an item after that mostly finds it at once.
+    pub fn place(&mut self, items: &ItemMap)
+        requires { AreHeld self.old items.now }
+        ensures { self.new ≡ self.old }
+    {
+        let _placed = place_all(&mut self.parts, items);
+    }
+
     /// Whether a write of an item at a timestamp is late: the version that it would follow was read above it. The
     /// evidence is that version and its mark.
     pub fn late(&self, item: &Item, timestamp: u64) -> Option<Late>
@@ -150,12 +159,15 @@ impl Held {
         ensures some { IfSome result (λ index. IsFirstForeign timestamp writes.now index self.now) }
         ensures none { IfNone result (NoneForeign timestamp writes.now self.now) }
     {
-        for place in 0..SHARD_COUNT {
-            if refuses_at(&self.parts, place, writes, timestamp) {
-                return Some(place as u8);
-            }
+        let mut least = first_above(&self.parts, timestamp);
+        for (item, _value) in writes.as_slice() {
+            least = least_with(&self.parts, item, timestamp, least);
         }
-        None
+        if least < SHARD_COUNT {
+            Some(least as u8)
+        } else {
+            None
+        }
     }
 
     /// Raises the low mark of each shard that is held and has no higher one, and drops the versions there that no read from
@@ -197,14 +209,59 @@ impl Held {
     }
 }
 
-/// Whether the part at a place, if there is one, can't take a commit's writes.
-fn refuses_at(parts: &Parts, place: usize, writes: &ItemMap, timestamp: u64) -> bool
-    requires places { AreAtPlaces parts.now }
-    requires within { place < shard_count }
-    ensures { result ≡ is_foreign place timestamp writes.now (seen_or_none (get_or parts.now place None)) }
+/// The place of the first part whose low mark is above a timestamp, or how many places there are.
+fn first_above(parts: &Parts, timestamp: u64) -> usize
+    requires { AreAtPlaces parts.now }
+    ensures few { result ≤ shard_count }
+    ensures low { (i : _) → i < result → IsLowAt timestamp (seen_or_none (get_or parts.now i None)) }
+    ensures above { result < shard_count → IsAbove timestamp (seen_or_none (get_or parts.now result None)) }
 {
-    match &parts[place] {
-        Some(part) => refuses(part, writes, timestamp),
+    for place in 0..SHARD_COUNT {
+        if is_above(&parts[place], timestamp) {
+            return place;
+        }
+    }
+    SHARD_COUNT
+}
+
+/// Whether the low mark of a part, if there is one, is above a timestamp.
+fn is_above(part: &Option<Part>, timestamp: u64) -> bool
+    ensures above { IsTrue result → IsAbove timestamp (seen_or_none part.now) }
+    ensures low { result ≡ false → IsLowAt timestamp (seen_or_none part.now) }
+{
+    match part {
+        Some(part) => timestamp < part.low,
+        None => false,
+    }
+}
+
+/// The place of an item's shard, where it is below another one and the item has a version at a timestamp there; else that
+/// other one.
+fn least_with(parts: &Parts, item: &Item, timestamp: u64, least: usize) -> usize
+    requires places { AreAtPlaces parts.now }
+    requires few { least ≤ shard_count }
+    requires low { (i : _) → i < least → IsLowAt timestamp (seen_or_none (get_or parts.now i None)) }
+    ensures { IsLeastWith timestamp item.now least (seen_all parts.now) result }
+{
+    let place = usize::from(shard_of(item));
+    if least <= place {
+        return least;
+    }
+    if has_version_at(&parts[place], item, timestamp) {
+        place
+    } else {
+        least
+    }
+}
+
+/// Whether an item has a version at a timestamp in a part, if there is one.
+fn has_version_at(part: &Option<Part>, item: &Item, timestamp: u64) -> bool
+    requires kept { IsPartOrNone part.now }
+    requires low { IsLowAt timestamp (seen_or_none part.now) }
+    ensures { result ≡ has_timestamp_in timestamp (seen_or_none part.now) item.now }
+{
+    match part {
+        Some(part) => has_version(part, item, timestamp),
         None => false,
     }
 }
@@ -214,11 +271,11 @@ fn end_of(parts: &Parts) -> usize
     ensures free { AreFreeFrom parts.now result }
     ensures last { 0 < result → IsSome (get_or parts.now (result - 1) None) }
 {
-    let mut end = 0;
-    for place in 0..SHARD_COUNT {
-        if parts[place].is_some() {
-            end = place + 1;
+    for free in 0..SHARD_COUNT {
+        let end = SHARD_COUNT - free;
+        if parts[end - 1].is_some() {
+            return end;
         }
     }
-    end
+    0
 }

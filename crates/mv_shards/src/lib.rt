@@ -14,6 +14,7 @@ mod part;
 mod read_fault;
 mod room;
 mod shard;
+mod slot;
 mod writing;
 
 pub use attempt::Attempt;

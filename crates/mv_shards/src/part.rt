@@ -1,31 +1,25 @@
 //! A part of the items with their versions, as a shard keeps them.
 
-ghost use Rattle.std.specs.Prelude.{◌≡◌, ◌≤◌, ◌<◌, ◌⊎◌, ◌↔◌, ◌==◌, ◌&&◌, length, IfErr, IfOk, IsErrOf, IsSome, None, OnErr, OnOk, Some};
+ghost use Rattle.std.specs.Prelude.{◌≡◌, ◌≤◌, ◌<◌, ◌⊎◌, ◌↔◌, length, IfErr, IfOk, IsErrOf, IsSome, OnErr, OnOk};
 ghost use Rattle.teal_value.specs.declared.failure.Failure.TheVariants.{Fault};
 ghost use Rattle.avm_items.specs.Items.{value_in};
 ghost use Rattle.avm_items.specs.LedgerItems.{at};
 ghost use Rattle.avm_items.specs.SameValues.{is_same_value};
-ghost use Rattle.mv_chain.specs.Versions.{lateness, newest_at, oldest_timestamp, versions_from};
+ghost use Rattle.mv_chain.specs.Versions.{lateness, newest_at, oldest_timestamp};
 ghost use Rattle.mv_shards.specs.declared.read_fault.ReadFault.TheVariants.{Pruned};
 ghost use Rattle.mv_shards.specs.Chains.{AreChains, IsGrown, IsReadable, IsRoomier, chain_in, versions_of};
-ghost use Rattle.mv_shards.specs.Indexes.{shard_of as shard_index};
-ghost use Rattle.mv_shards.specs.Writing.{has_timestamp, is_foreign};
+ghost use Rattle.mv_shards.specs.Writing.{has_timestamp};
 ghost use Rattle.mv_shards.specs.Shards.{IsFirstRead, IsMarkedRead, IsPart, IsPruned, IsPrunedShard, IsReadAgain, shard_shown, versions_held};
 
 use crate::attempt::Attempt;
-use crate::chains::{make_chain, mark};
-use crate::index::shard_of;
+use crate::chains::Chains;
 use crate::read_fault::{ReadError, ReadFault};
-use avm_items::{Item, ItemMap, ItemValue, is_value_in, item_of};
+use avm_items::{Item, ItemValue, is_value_in, item_of};
 use avm_ledger::Ledger;
-use mv_chain::{Chain, Late};
+use mv_chain::Late;
 use std::alloc::{AllocError, Global};
-use std::collections::BTreeMap;
 use std::sync::Arc;
 use teal_value::Failure;
-
-/// The chains of items.
-pub(crate) type Chains = BTreeMap<Item, Chain<ItemValue>>;
 
 /// The versions of a part of the items. What has no chain has the base's version alone.
 #[derive(Drop)]
@@ -44,21 +38,23 @@ pub(crate) fn place(
     base: &Ledger,
     item: &Item,
 ) -> Result<(), AllocError>
-    ensures grown { IsGrown (at base.now) chains.old.entries chains.new.entries }
-    ensures roomier { OnOk result (IsRoomier chains.old.entries chains.new.entries) }
-    ensures there { OnOk result (IsSome (chain_in chains.new.entries item.now)) }
+    ensures grown { IsGrown (at base.now) chains.old chains.new }
+    ensures roomier { OnOk result (IsRoomier chains.old chains.new) }
+    ensures there { OnOk result (IsSome (chain_in chains.new item.now)) }
 {
-    if chains.contains_key(item) {
-        return Ok(());
+    match chains.find_and_note(item) {
+        Some(_number) => Ok(()),
+        None => {
+            let first = item_of(base, item)?;
+            chains.make(alloc, item, first)
+        }
     }
-    let first = item_of(base, item)?;
-    make_chain(alloc, chains, item, first)
 }
 
 /// A copy of the newest value not above a timestamp.
 fn value_at(chains: &Chains, item: &Item, timestamp: u64) -> Result<ItemValue, AllocError>
-    requires { IsReadable timestamp chains.now.entries item.now }
-    ensures { IfOk result (λ value. (first : _) (d : _) → value ≡ (newest_at timestamp (versions_of first chains.now.entries item.now) d).value) }
+    requires { IsReadable timestamp chains.now item.now }
+    ensures { IfOk result (λ value. (first : _) (d : _) → value ≡ (newest_at timestamp (versions_of first chains.now item.now) d).value) }
 {
     match chains.get(item) {
         Some(chain) => chain.read_at(timestamp).clone(),
@@ -74,16 +70,16 @@ fn first_read(
     attempt: &mut Attempt,
     item: Item,
 ) -> Result<ItemValue, AllocError>
-    requires old_enough { oldest_timestamp (versions_of (at base.now) chains.old.entries item) ≤ attempt.old.timestamp }
-    ensures ok { IfOk result (λ value. IsMarkedRead (at base.now) chains.old.entries chains.new.entries attempt.old attempt.new item value) }
-    ensures versions { OnErr result ((x : _) → versions_of (at base.now) chains.new.entries x ≡ versions_of (at base.now) chains.old.entries x) }
+    requires old_enough { oldest_timestamp (versions_of (at base.now) chains.old item) ≤ attempt.old.timestamp }
+    ensures ok { IfOk result (λ value. IsMarkedRead (at base.now) chains.old chains.new attempt.old attempt.new item value) }
+    ensures versions { OnErr result ((x : _) → versions_of (at base.now) chains.new x ≡ versions_of (at base.now) chains.old x) }
     ensures attempt { OnErr result (attempt.new ≡ attempt.old) }
-    ensures kept { (low : _) → AreChains (at base.now) low chains.old.entries → AreChains (at base.now) low chains.new.entries }
+    ensures kept { (low : _) → AreChains (at base.now) low chains.old → AreChains (at base.now) low chains.new }
 {
     place(alloc, chains, base, &item)?;
     let value = value_at(chains, &item, attempt.timestamp)?;
     attempt.reads.insert(item.copied(), value.clone()?)?;
-    mark(chains, &item, attempt.timestamp);
+    chains.mark(&item, attempt.timestamp);
     Ok(value)
 }
 
@@ -157,32 +153,6 @@ pub(crate) fn version_count(part: &Part, item: &Item) -> usize
     }
 }
 
-/// Whether an item is of this part, and has a version with a timestamp.
-fn has_own_version(part: &Part, item: &Item, timestamp: u64) -> bool
-    requires part { IsPart part.now }
-    requires low { part.now.low ≤ timestamp }
-    ensures { result ≡ ((shard_index item.now == part.now.index) && has_timestamp timestamp (versions_held (shard_shown part.now) item.now)) }
-{
-    shard_of(item) == part.index && has_version(part, item, timestamp)
-}
-
-/// Whether a commit at a timestamp can't write here: the low mark is above it, or an item of this part that it writes has a
-/// version there.
-pub(crate) fn refuses(part: &Part, writes: &ItemMap, timestamp: u64) -> bool
-    requires { IsPart part.now }
-    ensures { result ≡ is_foreign part.now.index timestamp writes.now (Some (shard_shown part.now)) }
-{
-    if timestamp < part.low {
-        return true;
-    }
-    for (item, _value) in writes.as_slice() {
-        if has_own_version(part, item, timestamp) {
-            return true;
-        }
-    }
-    false
-}
-
 /// Raises the low mark, unless it is higher, and drops the versions that no read from there on can find.
 pub(crate) fn prune(part: &mut Part, timestamp: u64)
     requires { IsPart part.old }
@@ -191,17 +161,6 @@ pub(crate) fn prune(part: &mut Part, timestamp: u64)
 {
     if part.low <= timestamp {
         part.low = timestamp;
-        prune_chains(&mut part.chains, timestamp);
+        part.chains.prune(timestamp);
     }
-}
-
-/// Drops the versions that no read from a timestamp on can find.
-fn prune_chains(chains: &mut Chains, timestamp: u64)
-    ensures versions { (first : _) (x : _) → versions_of first chains.new.entries x ≡ versions_from timestamp (versions_of first chains.old.entries x) }
-    ensures kept { (first : _) (low : _) → low ≤ timestamp → AreChains first low chains.old.entries → AreChains first timestamp chains.new.entries }
-{
-    chains.retain(|_item, chain| {
-        chain.prune(timestamp);
-        true
-    });
 }

@@ -8,7 +8,6 @@ ghost use Rattle.mv_shards.specs.Chains.{HasRoomFor, chain_in};
 ghost use Rattle.mv_shards.specs.Helds.{IsHeldIn};
 ghost use Rattle.mv_shards.specs.Writing.{AreGrown, AreRoomier, chains_for};
 
-use crate::chains::make_space;
 use crate::index::shard_of;
 use crate::part::{Part, place};
 use avm_items::{Item, ItemMap, ItemValue};
@@ -39,7 +38,7 @@ fn space_item(parts: &mut Parts, item: &Item) -> Result<(), AllocError>
     ensures room { OnOk result (HasRoomFor (chains_for parts.new item.now) item.now) }
 {
     match &mut parts[usize::from(shard_of(item))] {
-        Some(part) => make_space(&mut part.chains, item),
+        Some(part) => part.chains.reserve(item),
         None => unreachable!(),
     }
 }
@@ -55,15 +54,15 @@ fn room_item(parts: &mut Parts, item: &Item) -> Result<(), AllocError>
     space_item(parts, item)
 }
 
-/// Gives each item that was read a chain in its shard.
-fn place_reads(parts: &mut Parts, reads: &ItemMap) -> Result<(), AllocError>
-    requires { AllByRecursion (λ e. IsHeldIn parts.old e.0) reads.now }
+/// Gives each item a chain in its shard, if it has none.
+pub(crate) fn place_all(parts: &mut Parts, items: &ItemMap) -> Result<(), AllocError>
+    requires { AllByRecursion (λ e. IsHeldIn parts.old e.0) items.now }
     ensures grown { AreGrown parts.old parts.new }
     ensures roomier { OnOk result (AreRoomier parts.old parts.new) }
-    ensures there { OnOk result (AllByRecursion (λ e. IsSome (chain_in (chains_for parts.new e.0) e.0)) reads.now) }
-    ensures order { OnOk result (IsInItemOrder reads.now) }
+    ensures there { OnOk result (AllByRecursion (λ e. IsSome (chain_in (chains_for parts.new e.0) e.0)) items.now) }
+    ensures order { OnOk result (IsInItemOrder items.now) }
 {
-    for (item, _value) in reads.as_slice() {
+    for (item, _value) in items.as_slice() {
         place_item(parts, item)?;
     }
     Ok(())
@@ -110,7 +109,7 @@ pub(crate) fn make_room(
     ensures copies { IfOk result (λ copies. copies.items ≡ writes.now) }
     ensures order { OnOk result (IsInItemOrder reads.now × IsInItemOrder writes.now) }
 {
-    place_reads(parts, reads)?;
+    place_all(parts, reads)?;
     room_writes(parts, writes)?;
     copies_of(alloc, writes)
 }

@@ -7,7 +7,6 @@ ghost use Rattle.mv_shards.specs.Chains.{AreChains, versions_of};
 ghost use Rattle.mv_shards.specs.Helds.{IsHeldIn};
 ghost use Rattle.mv_shards.specs.Indexes.{shard_of as shard_index};
 
-use crate::chains::{install, mark};
 use crate::index::shard_of;
 use crate::room::{Parts, make_both};
 use avm_items::{Item, ItemMap, ItemValue};
@@ -20,7 +19,7 @@ fn mark_item(parts: &mut Parts, item: &Item, timestamp: u64)
     ensures { IsMarkedItem timestamp item.now parts.old parts.new }
 {
     match &mut parts[usize::from(shard_of(item))] {
-        Some(part) => mark(&mut part.chains, item, timestamp),
+        Some(part) => part.chains.mark(item, timestamp),
         None => unreachable!(),
     }
 }
@@ -32,7 +31,7 @@ fn install_item(parts: &mut Parts, item: &Item, value: ItemValue, timestamp: u64
     ensures { IsInstalledItem timestamp item.now value parts.old parts.new }
 {
     match &mut parts[usize::from(shard_of(item))] {
-        Some(part) => install(&mut part.chains, item, value, timestamp),
+        Some(part) => part.chains.install(item, value, timestamp),
         None => unreachable!(),
     }
 }

@@ -21,7 +21,7 @@ part_after c = record c.in-Some.part { chains = c.place.new.chains }
 pub returns-clause-grown : goal.returns-clause-grown
 returns-clause-grown c =
     grown_at c.args.parts.now c.from.result c.in-Some.part (part_after c) (here c) refl
-    (subst (λ b. IsGrown (at b) c.in-Some.part.chains.entries c.place.new.chains.entries) c.deref.ensures c.place.ensures.grown)
+    (subst (λ b. IsGrown (at b) c.in-Some.part.chains c.place.new.chains) c.deref.ensures c.place.ensures.grown)
 
 pub returns-clause-roomier : goal.returns-clause-roomier
 returns-clause-roomier c =

@@ -1,3 +1,0 @@
-pub mod Workers
-pub mod Runs
-pub mod SameRuns

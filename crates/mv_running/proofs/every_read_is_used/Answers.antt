@@ -1,5 +1,0 @@
-use Rattle.mv_running.proofs.Runs.{every_read_is_used_lem}
-use Rattle.mv_running.proofs.every_read_is_used.Goals as goal
-
-pub returns : goal.returns
-returns c = every_read_is_used_lem
