@@ -9,7 +9,7 @@ use Rattle.avm_ledger.specs.declared.header.Header.{Header}
 use Rattle.avm_items.specs.declared.call_data.CallData.{CallData}
 use Rattle.avm_ops.specs.Objects.{IsFull, Slots}
 use Rattle.avm_block.specs.Blocks.{most_calls}
-use Rattle.avm_replay.specs.Plain.{first_beyond}
+use Rattle.avm_block.specs.AcceptedCalls.{first_beyond}
 use Rattle.mv_parts.specs.declared.open_fault.OpenFault.TheVariants.{Profile, TooMany}
 use Rattle.mv_parts.specs.Opening.{open_fault}
 use Rattle.avm_pool.specs.declared.pool_fault.PoolFault.{PoolFault}

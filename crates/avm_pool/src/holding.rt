@@ -8,13 +8,14 @@ use crate::waiting::lock_soon;
 use avm_run::Finished;
 use mv_parts::{Journal, RefusedCommit};
 use mv_shards::{Attempt, Held, Shard};
+use std::mem;
 use std::sync::{Mutex, Wait};
 use teal_value::Failure;
 
 /// A shard, or nothing while it is held with others.
 pub(crate) type ShardLock = Mutex<Option<Shard>>;
 
-/// What is done with a journal and the shards held.
+/// What is done with a journal and the shards that are held. It is lent while they are locked, and taken once.
 #[derive(Drop)]
 pub(crate) enum Work {
     Commit(Attempt, Finished),
@@ -33,6 +34,13 @@ pub(crate) enum Worked {
 }
 
 impl Work {
+    /// The work, which is left as one that does little.
+    fn taken(&mut self) -> Work
+        ensures { result ≡ self.old }
+    {
+        mem::replace(self, Work::Prune)
+    }
+
     /// Does it with all shards that are held.
     fn done(self, journal: &mut Journal, held: &mut Held) -> Worked
         ensures { Works self journal.old journal.new result }
@@ -88,12 +96,12 @@ pub(crate) fn work_with<R: Wait>(
     locks: &[ShardLock],
     wanted: &[bool],
     journal: &mut Journal,
-    work: Work,
+    held: &mut Held,
+    mut work: Work,
 ) -> Worked
     ensures { Works work journal.old journal.new result }
 {
-    let mut held = Held::new();
-    work_from(rt, locks, wanted, 0, journal, &mut held, work)
+    work_from(rt, locks, wanted, 0, journal, held, &mut work)
 }
 
 /// Locks those from an index on too, and does the work.
@@ -104,23 +112,23 @@ fn work_from<R: Wait>(
     from: usize,
     journal: &mut Journal,
     held: &mut Held,
-    work: Work,
+    work: &mut Work,
 ) -> Worked
-    ensures { Works work journal.old journal.new result }
+    ensures { Works work.old journal.old journal.new result }
 {
     let Some(index) = next_wanted(wanted, from) else {
-        return work.done(journal, held);
+        return work.taken().done(journal, held);
     };
     let Some(lock) = locks.get(index) else {
-        return work.not_done();
+        return work.taken().not_done();
     };
     let mut guard = lock_soon(rt, lock);
     let Some(shard) = guard.take() else {
-        return work.not_done();
+        return work.taken().not_done();
     };
     if let Err(shard) = held.add(shard) {
         *guard = Some(shard);
-        return work.not_done();
+        return work.taken().not_done();
     }
     let worked = work_from(rt, locks, wanted, index + 1, journal, held, work);
     *guard = held.take();

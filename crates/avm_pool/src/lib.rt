@@ -6,6 +6,7 @@
 //! specs/Proposals.antt says so without a word about them.
 #![tactic(auto)]
 
+mod ends;
 mod gate;
 mod holding;
 mod left;
@@ -20,6 +21,7 @@ mod worker;
 mod workers;
 
 pub use gate::{Gate, GateEvent, OpenGate};
+pub use mv_parts::SharedBase;
 pub use pool_fault::{PoolError, PoolFault};
 pub use proposal::Proposal;
-pub use proposing::propose;
+pub use proposing::{propose, propose_on};

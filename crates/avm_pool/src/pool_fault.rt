@@ -37,5 +37,5 @@ impl PoolFault {
     }
 }
 
-/// A [`PoolFault`], or want of memory.
+/// A [`PoolFault`], or that memory ran out.
 pub type PoolError = Failure<PoolFault>;

@@ -9,6 +9,7 @@ ghost use Rattle.avm_pool.specs.Proposals.{IsProposal};
 ghost use Rattle.avm_pool.specs.Refusals.{IsRefusal, IsWant, MayPropose};
 ghost use Rattle.avm_block.specs.Blocks.{most_calls};
 
+use crate::ends::ThreadEnd;
 use crate::gate::Gate;
 use crate::holding::ShardLock;
 use crate::pool_fault::{PoolError, PoolFault};
@@ -16,12 +17,12 @@ use crate::proposal::Proposal;
 use crate::refusals::pool_fault;
 use crate::rest::{proposal_of, run_rest};
 use crate::running::Shared;
-use crate::workers::{Ran, enlist_all, put_all, run_workers};
+use crate::workers::{enlist_all, put_all, run_workers};
 use avm_call::Call;
 use avm_ledger::{Header, Ledger};
 use avm_ops::{BoxedOp, Op, OpSet};
 use call_numbers::Numbers;
-use mv_parts::{Journal, open_parts};
+use mv_parts::{Journal, SharedBase, open_on};
 use mv_shards::{Held, SHARD_COUNT};
 use std::alloc::{AllocError, Global};
 use std::sync::{Arc, Mutex, Wait};
@@ -32,7 +33,8 @@ use teal_value::Failure;
 /// outside all locks, and reads of items in different shards share none. What the workers leave, the calling thread
 /// runs with its own set.
 ///
-/// The gate is told of each event, and may hold the thread that tells it.
+/// The gate is told of each event, and may hold the thread that tells it. [`propose_on`] serves callers who have the
+/// ledger's digest.
 pub fn propose<G: Gate, R: Threads + Wait + Sync>(
     rt: &R,
     alloc: Global,
@@ -49,15 +51,56 @@ pub fn propose<G: Gate, R: Threads + Wait + Sync>(
 {
     match pool_fault(&worker_ops, own_ops, header, &calls) {
         Some(fault) => Err(Failure::Fault(fault)),
+        None => proposed_over(rt, alloc, base, header, calls, worker_ops, own_ops, gate),
+    }
+}
+
+/// As [`propose`], on a ledger that is shared and has its digest: it is not copied, and not encoded again.
+pub fn propose_on<G: Gate, R: Threads + Wait + Sync>(
+    rt: &R,
+    alloc: Global,
+    base: &SharedBase,
+    header: &Header,
+    calls: Vec<Call>,
+    worker_ops: Vec<OpSet>,
+    own_ops: &OpSet,
+    gate: &G,
+) -> Result<Proposal, PoolError>
+    ensures proposal { IfOk result (IsProposal base.now header.now calls.items) }
+    ensures may { OnOk result (MayPropose ⟦<BoxedOp as Op>⟧.opcode worker_ops.items own_ops.now header.now calls.items) }
+    ensures refused { IfErr result (IsRefusal ⟦<BoxedOp as Op>⟧.opcode worker_ops.items own_ops.now header.now calls.items) }
+{
+    match pool_fault(&worker_ops, own_ops, header, &calls) {
+        Some(fault) => Err(Failure::Fault(fault)),
         None => proposed(rt, alloc, base, header, calls, worker_ops, own_ops, gate),
     }
+}
+
+/// What comes out where no test fails, over a copy of a ledger.
+fn proposed_over<G: Gate, R: Threads + Wait + Sync>(
+    rt: &R,
+    alloc: Global,
+    base: &Ledger,
+    header: &Header,
+    calls: Vec<Call>,
+    worker_ops: Vec<OpSet>,
+    own_ops: &OpSet,
+    gate: &G,
+) -> Result<Proposal, PoolError>
+    requires full { IsFull ⟦<BoxedOp as Op>⟧.opcode own_ops.now }
+    requires opens { open_fault header.now calls.items ≡ None }
+    ensures proposal { IfOk result (IsProposal base.now header.now calls.items) }
+    ensures want { IfErr result IsWant }
+{
+    let base = SharedBase::of(alloc, base.clone()?)?;
+    proposed(rt, alloc, &base, header, calls, worker_ops, own_ops, gate)
 }
 
 /// What comes out where no test fails.
 fn proposed<G: Gate, R: Threads + Wait + Sync>(
     rt: &R,
     alloc: Global,
-    base: &Ledger,
+    base: &SharedBase,
     header: &Header,
     calls: Vec<Call>,
     worker_ops: Vec<OpSet>,
@@ -84,9 +127,9 @@ fn proposed<G: Gate, R: Threads + Wait + Sync>(
         gate,
     };
     match run_workers(rt, &journal, &shared, workers)? {
-        Ran::Over => finish(rt, &shared, journal.into_inner(), base, &calls, own_ops),
-        Ran::NotStarted => Err(Failure::Fault(PoolFault::Spawn)),
-        Ran::ClockEnd => Err(Failure::Fault(PoolFault::ClockEnd)),
+        ThreadEnd::Over => finish(rt, &shared, journal.into_inner(), base, &calls, own_ops),
+        ThreadEnd::NotStarted => Err(Failure::Fault(PoolFault::Spawn)),
+        ThreadEnd::ClockEnd => Err(Failure::Fault(PoolFault::ClockEnd)),
     }
 }
 
@@ -95,7 +138,7 @@ fn finish<G: Gate, R: Wait>(
     rt: &R,
     shared: &Shared<G>,
     journal: Journal,
-    base: &Ledger,
+    base: &SharedBase,
     calls: &Arc<Vec<Call>>,
     own_ops: &OpSet,
 ) -> Result<Proposal, PoolError>
@@ -104,7 +147,7 @@ fn finish<G: Gate, R: Wait>(
     ensures proposal { IfOk result (IsProposal base.now shared.now.header.now (arc_value calls.now).items) }
     ensures want { IfErr result IsWant }
 {
-    if journal.is_of(base, shared.header, calls.as_slice()) {
+    if journal.is_of(base.ledger(), shared.header, calls.as_slice()) {
         return rest(rt, shared, journal, own_ops);
     }
     let (journal, shards) = opened(shared.alloc, base, shared.header, calls)?;
@@ -144,14 +187,14 @@ fn rest<G: Gate, R: Wait>(
 /// A journal of which no call has begun, and its shards behind locks of their own.
 fn opened(
     alloc: Global,
-    base: &Ledger,
+    base: &SharedBase,
     header: &Header,
     calls: &Arc<Vec<Call>>,
 ) -> Result<(Journal, Vec<ShardLock>), AllocError>
     requires opens { open_fault header.now (arc_value calls.now).items ≡ None }
     ensures { IfOk result (λ opened. IsJournalOf opened.0 base.now header.now (arc_value calls.now).items) }
 {
-    match open_parts(alloc, base.clone()?, *header, Arc::try_clone(calls)?) {
+    match open_on(alloc, base.try_clone()?, *header, Arc::try_clone(calls)?) {
         Ok((journal, held)) => {
             let shards = locked(alloc, held)?;
             Ok((journal, shards))

@@ -5,11 +5,10 @@ ghost use Rattle.avm_ops.specs.Objects.{IsFull};
 ghost use Rattle.avm_pool.specs.Refusals.{AreFull, IsFirstMissing, IsPoolTestRefusal, MayPropose};
 
 use crate::pool_fault::PoolFault;
-use avm_block::MAX_ENTRIES;
+use avm_block::{MAX_ENTRIES, first_beyond};
 use avm_call::Call;
 use avm_ledger::Header;
 use avm_ops::{BoxedOp, Op, OpSet};
-use avm_replay::first_beyond;
 
 /// How many workers there are at most.
 const MAX_WORKERS: usize = 8;

@@ -9,14 +9,14 @@ use crate::gate::{Gate, GateEvent};
 use crate::holding::{Work, Worked, work_with};
 use crate::left::left_of;
 use crate::proposal::Proposal;
-use crate::running::{Shared, Stopped};
+use crate::running::Shared;
 use crate::worker::shards_of;
 use avm_call::Call;
 use avm_cpu::Cpu;
 use avm_ops::{BoxedOp, Op, OpSet};
 use avm_run::Finished;
 use mv_parts::{BeginFault, Journal, Sealed};
-use mv_shards::Attempt;
+use mv_shards::{Attempt, Held};
 use std::alloc::{AllocError, Global};
 use std::sync::Wait;
 use teal_value::Failure;
@@ -84,8 +84,7 @@ fn run_attempt<G: Gate, R: Wait>(
     shared.gate.pause(attempt.number(), 0, GateEvent::Begun);
     match shared.run(rt, ops, spare, call, &mut attempt, 0) {
         Ok(finished) => commit(rt, shared, journal, attempt, finished),
-        Err(Stopped::Again) => abandon(journal, attempt),
-        Err(Stopped::Memory) => abandon(journal, attempt),
+        Err(_end) => abandon(journal, attempt),
     }
 }
 
@@ -108,6 +107,7 @@ fn commit<G: Gate, R: Wait>(
         shared.shards,
         &wanted,
         journal,
+        &mut Held::new(),
         Work::Commit(attempt, finished),
     ) {
         Worked::Done => shared.gate.pause(number, 0, GateEvent::Committed),

@@ -4,6 +4,7 @@ ghost use Rattle.std.specs.Prelude.{◌≡◌};
 ghost use Rattle.avm_ops.specs.Objects.{IsFull};
 ghost use Rattle.avm_pool.specs.Running.{IsSameAttempt};
 
+use crate::ends::AttemptEnd;
 use crate::gate::{Gate, GateEvent};
 use crate::holding::ShardLock;
 use crate::waiting::lock_soon;
@@ -17,15 +18,6 @@ use mv_shards::{Attempt, shard_of};
 use std::alloc::Global;
 use std::sync::Wait;
 use teal_value::Failure;
-
-/// Why a run has not come to its end.
-#[derive(Clone, Copy, Debug, PartialEq, Eq)]
-pub(crate) enum Stopped {
-    /// An item could not be read at the attempt's timestamp. Another attempt may read it.
-    Again,
-    /// Memory was refused.
-    Memory,
-}
 
 /// What all attempts share.
 #[derive(Drop)]
@@ -48,7 +40,8 @@ impl<'a, G: Gate> Shared<'a, G> {
     }
 
     /// Runs the call of an attempt to its end, on the spare machine, which it leaves for the next run. `tries` counts
-    /// the attempts of the call, this one too.
+    /// the attempts of the call, this one too. It fails with `Again` where an item could not be read at the attempt's
+    /// timestamp, and with `Left` where memory was refused.
     pub fn run<R: Wait>(
         &self,
         rt: &R,
@@ -57,7 +50,7 @@ impl<'a, G: Gate> Shared<'a, G> {
         call: &Call,
         attempt: &mut Attempt,
         tries: u32,
-    ) -> Result<Finished, Stopped>
+    ) -> Result<Finished, AttemptEnd>
         requires full { IsFull ⟦<BoxedOp as Op>⟧.opcode ops.now }
         ensures { IsSameAttempt attempt.old attempt.new }
     {
@@ -67,7 +60,7 @@ impl<'a, G: Gate> Shared<'a, G> {
                 *spare = run.into_spare();
                 end
             }
-            Err(_) => Err(Stopped::Memory),
+            Err(_) => Err(AttemptEnd::Left),
         }
     }
 
@@ -79,7 +72,7 @@ impl<'a, G: Gate> Shared<'a, G> {
         run: &mut CallRun,
         attempt: &mut Attempt,
         tries: u32,
-    ) -> Result<Finished, Stopped>
+    ) -> Result<Finished, AttemptEnd>
         requires full { IsFull ⟦<BoxedOp as Op>⟧.opcode ops.now }
         ensures { IsSameAttempt attempt.old attempt.new }
     {
@@ -89,12 +82,12 @@ impl<'a, G: Gate> Shared<'a, G> {
                 Ok(Advance::Need(item)) => match self.read(rt, attempt, item.copied(), tries) {
                     Ok(value) => {
                         if run.supply(item, value).is_err() {
-                            return Err(Stopped::Memory);
+                            return Err(AttemptEnd::Left);
                         }
                     }
-                    Err(stopped) => return Err(stopped),
+                    Err(end) => return Err(end),
                 },
-                Err(_) => return Err(Stopped::Memory),
+                Err(_) => return Err(AttemptEnd::Left),
             }
         }
         unreachable!()
@@ -107,7 +100,7 @@ impl<'a, G: Gate> Shared<'a, G> {
         attempt: &mut Attempt,
         item: Item,
         tries: u32,
-    ) -> Result<ItemValue, Stopped>
+    ) -> Result<ItemValue, AttemptEnd>
         ensures { IsSameAttempt attempt.old attempt.new }
     {
         let number = attempt.number();
@@ -126,24 +119,24 @@ impl<'a, G: Gate> Shared<'a, G> {
         item: Item,
         index: u8,
         tries: u32,
-    ) -> Result<ItemValue, Stopped>
+    ) -> Result<ItemValue, AttemptEnd>
         ensures { IsSameAttempt attempt.old attempt.new }
     {
         let Some(lock) = self.shards.get(usize::from(index)) else {
-            return Err(Stopped::Again);
+            return Err(AttemptEnd::Again);
         };
         let mut guard = lock_soon(rt, lock);
         let shard = &mut *guard;
         let Some(shard) = shard else {
-            return Err(Stopped::Again);
+            return Err(AttemptEnd::Again);
         };
         let read = shard.read(attempt, item);
         self.gate
             .pause(attempt.number(), tries, GateEvent::Inside(index));
         match read {
             Ok(value) => Ok(value),
-            Err(Failure::Memory) => Err(Stopped::Memory),
-            Err(Failure::Fault(_pruned)) => Err(Stopped::Again),
+            Err(Failure::Memory) => Err(AttemptEnd::Left),
+            Err(Failure::Fault(_pruned)) => Err(AttemptEnd::Again),
         }
     }
 }

@@ -4,11 +4,15 @@ use std::hint::spin_loop;
 use std::sync::{Mutex, MutexGuard, Wait};
 use std::thread;
 
-/// How often a worker looks whether a lock is free, before it sleeps until it is.
+/// How often a worker looks whether a lock is free with no more than pauses in between, since most are held for less than a
+/// microsecond.
+const FIRST_LOOKS: u32 = 32;
+
+/// How often it looks after that, and lets other threads go first in between, before it sleeps until the lock is free.
 const MAX_LOOKS: u32 = 1024;
 
-/// How many pauses of the processor a turn has, before other threads may go first.
-const PAUSES_A_TURN: u32 = 8;
+/// How many pauses of the processor there are between two looks.
+const PAUSES_A_LOOK: u32 = 8;
 
 /// How many turns a worker waits after the first attempt of a call; after each further one it waits four times as long.
 const FIRST_TURNS: u32 = 16;
@@ -19,11 +23,15 @@ const MAX_GROWTHS: u32 = 3;
 /// Takes a lock. Whoever holds one lets it go within microseconds, and a thread that sleeps is woken much later than
 /// that; so a worker looks for a while first.
 pub(crate) fn lock_soon<'b, T, R: Wait>(rt: &R, mutex: &'b Mutex<T>) -> MutexGuard<'b, T> {
-    for _ in 0..MAX_LOOKS {
+    for look in 0..FIRST_LOOKS + MAX_LOOKS {
         if let Some(guard) = mutex.try_lock() {
             return guard;
         }
-        wait_a_turn();
+        if look < FIRST_LOOKS {
+            pause();
+        } else {
+            wait_a_turn();
+        }
     }
     mutex.lock(rt)
 }
@@ -37,9 +45,14 @@ pub(crate) fn stand_back(tries: u32) {
     }
 }
 
+/// A moment, and then other threads go first.
 fn wait_a_turn() {
-    for _ in 0..PAUSES_A_TURN {
+    pause();
+    thread::yield_now();
+}
+
+fn pause() {
+    for _ in 0..PAUSES_A_LOOK {
         spin_loop();
     }
-    thread::yield_now();
 }

@@ -4,9 +4,10 @@ ghost use Rattle.std.specs.Prelude.{◌≡◌};
 ghost use Rattle.avm_ops.specs.Objects.{IsFull};
 ghost use Rattle.call_numbers.specs.Passes.{IsWith, view};
 
+use crate::ends::{AttemptEnd, ThreadEnd};
 use crate::gate::{Gate, GateEvent};
 use crate::holding::{Work, Worked, work_with};
-use crate::running::{Shared, Stopped};
+use crate::running::Shared;
 use crate::waiting::{lock_soon, stand_back};
 use avm_call::Call;
 use avm_cpu::Cpu;
@@ -14,7 +15,7 @@ use avm_ops::{BoxedOp, Op, OpSet};
 use avm_run::Finished;
 use call_numbers::{NumberPass, Numbers};
 use mv_parts::{BeginFault, Journal};
-use mv_shards::{Attempt, SHARD_COUNT, shard_of};
+use mv_shards::{Attempt, Held, SHARD_COUNT, shard_of};
 use std::sync::{Mutex, Wait};
 use teal_value::Failure;
 
@@ -28,32 +29,6 @@ pub(crate) struct Worker<'a> {
     pass: NumberPass,
     ops: OpSet,
     ghost with: { IsWith numbers.now pass },
-}
-
-/// How a worker ended.
-#[derive(Clone, Copy, Debug, PartialEq, Eq)]
-pub(crate) enum WorkerEnd {
-    /// No number was left.
-    NoNumber,
-    /// The last timestamp was given.
-    ClockEnd,
-}
-
-/// How a call ended for a worker.
-#[derive(Clone, Copy, Debug, PartialEq, Eq)]
-enum CallEnd {
-    Committed,
-    /// It is another's, or memory was refused to it.
-    Left,
-    ClockEnd,
-}
-
-/// How an attempt ended.
-#[derive(Clone, Copy, Debug, PartialEq, Eq)]
-enum Tried {
-    Over(CallEnd),
-    /// A further attempt may end otherwise.
-    Again,
 }
 
 /// A worker of a set of objects.
@@ -76,7 +51,7 @@ impl<'a> Worker<'a> {
         rt: &R,
         journal: &Mutex<Journal>,
         shared: &Shared<G>,
-    ) -> WorkerEnd {
+    ) -> ThreadEnd {
         let Worker {
             numbers,
             mut pass,
@@ -84,30 +59,30 @@ impl<'a> Worker<'a> {
         } = self;
         // The proof of a thread knows nothing of a set of boxes but its type, so the worker asks it anew.
         if ops.missing().is_some() {
-            return WorkerEnd::NoNumber;
+            return ThreadEnd::Over;
         }
         let mut spare = None;
         let mut commits = 0u32;
         for _ in rt.forever() {
             let Some(number) = numbers.draw(rt, &mut pass) else {
-                return WorkerEnd::NoNumber;
+                return ThreadEnd::Over;
             };
             match run_call(rt, journal, shared, &ops, &mut spare, number) {
-                CallEnd::Committed => {
+                AttemptEnd::Committed => {
                     commits = commits.wrapping_add(1);
                     if commits % COMMITS_A_PRUNE == 0 {
                         prune(rt, journal, shared);
                     }
                 }
-                CallEnd::Left => {}
-                CallEnd::ClockEnd => return WorkerEnd::ClockEnd,
+                AttemptEnd::Left | AttemptEnd::Again => {}
+                AttemptEnd::ClockEnd => return ThreadEnd::ClockEnd,
             }
         }
         unreachable!()
     }
 }
 
-/// Runs a call, in as many attempts as it takes.
+/// Runs a call, in as many attempts as it takes: it does not end with `Again`.
 fn run_call<G: Gate, R: Wait>(
     rt: &R,
     journal: &Mutex<Journal>,
@@ -115,20 +90,20 @@ fn run_call<G: Gate, R: Wait>(
     ops: &OpSet,
     spare: &mut Option<Cpu>,
     number: u32,
-) -> CallEnd
+) -> AttemptEnd
     requires full { IsFull ⟦<BoxedOp as Op>⟧.opcode ops.now }
 {
     let Some(call) = shared.call(number) else {
-        return CallEnd::Left;
+        return AttemptEnd::Left;
     };
     let mut tries = 1u32;
     for _ in rt.forever() {
         match run_attempt(rt, journal, shared, ops, spare, call, number, tries) {
-            Tried::Over(end) => return end,
-            Tried::Again => {
+            AttemptEnd::Again => {
                 stand_back(tries);
                 tries = tries.saturating_add(1);
             }
+            end => return end,
         }
     }
     unreachable!()
@@ -144,19 +119,19 @@ fn run_attempt<G: Gate, R: Wait>(
     call: &Call,
     number: u32,
     tries: u32,
-) -> Tried
+) -> AttemptEnd
     requires full { IsFull ⟦<BoxedOp as Op>⟧.opcode ops.now }
 {
     let begun = lock_soon(rt, journal).begin(number);
     let mut attempt = match begun {
         Ok(attempt) => attempt,
-        Err(Failure::Fault(BeginFault::ClockEnd)) => return Tried::Over(CallEnd::ClockEnd),
-        Err(_) => return Tried::Over(CallEnd::Left),
+        Err(Failure::Fault(BeginFault::ClockEnd)) => return AttemptEnd::ClockEnd,
+        Err(_) => return AttemptEnd::Left,
     };
     shared.gate.pause(number, tries, GateEvent::Begun);
     match shared.run(rt, ops, spare, call, &mut attempt, tries) {
         Ok(finished) => commit(rt, journal, shared, attempt, finished, tries),
-        Err(stopped) => abandon(rt, journal, attempt, stopped),
+        Err(end) => abandon(rt, journal, attempt, end),
     }
 }
 
@@ -168,7 +143,7 @@ fn commit<G: Gate, R: Wait>(
     attempt: Attempt,
     finished: Finished,
     tries: u32,
-) -> Tried {
+) -> AttemptEnd {
     let number = attempt.number();
     shared.gate.pause(number, tries, GateEvent::BeforeCommit);
     let wanted = shards_of(&attempt, &finished);
@@ -182,10 +157,10 @@ fn commit<G: Gate, R: Wait>(
     match worked {
         Worked::Done => {
             shared.gate.pause(number, tries, GateEvent::Committed);
-            Tried::Over(CallEnd::Committed)
+            AttemptEnd::Committed
         }
-        Worked::Again(attempt) => abandon(rt, journal, attempt, Stopped::Again),
-        Worked::Memory(attempt) => abandon(rt, journal, attempt, Stopped::Memory),
+        Worked::Again(attempt) => abandon(rt, journal, attempt, AttemptEnd::Again),
+        Worked::Memory(attempt) => abandon(rt, journal, attempt, AttemptEnd::Left),
     }
 }
 
@@ -197,17 +172,20 @@ fn under_locks<G: Gate, R: Wait>(
     wanted: &[bool],
     work: Work,
 ) -> Worked {
+    let mut held = Held::new();
     let mut guard = lock_soon(rt, journal);
-    work_with(rt, shared.shards, wanted, &mut guard, work)
+    work_with(rt, shared.shards, wanted, &mut guard, &mut held, work)
 }
 
 /// Ends an attempt without a commit.
-fn abandon<R: Wait>(rt: &R, journal: &Mutex<Journal>, attempt: Attempt, stopped: Stopped) -> Tried {
+fn abandon<R: Wait>(
+    rt: &R,
+    journal: &Mutex<Journal>,
+    attempt: Attempt,
+    end: AttemptEnd,
+) -> AttemptEnd {
     let _abandoned = lock_soon(rt, journal).abandon(attempt);
-    match stopped {
-        Stopped::Again => Tried::Again,
-        Stopped::Memory => Tried::Over(CallEnd::Left),
-    }
+    end
 }
 
 /// Drops the versions that no attempt can ask for any more.

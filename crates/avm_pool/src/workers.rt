@@ -5,9 +5,10 @@ ghost use Rattle.call_numbers.specs.Passes.{IsWith, view};
 ghost use Rattle.call_numbers.specs.Rule.{hand};
 ghost use Rattle.avm_block.specs.Blocks.{most_calls};
 
+use crate::ends::ThreadEnd;
 use crate::gate::Gate;
 use crate::running::Shared;
-use crate::worker::{Worker, WorkerEnd, enlist};
+use crate::worker::{Worker, enlist};
 use avm_ops::OpSet;
 use call_numbers::{NumberPass, Numbers};
 use mv_parts::Journal;
@@ -15,17 +16,6 @@ use std::alloc::{AllocError, Global};
 use std::sync::{Mutex, Wait};
 use std::thread;
 use std::thread::Threads;
-
-/// How the workers ended.
-#[derive(Clone, Copy, Debug, PartialEq, Eq)]
-pub(crate) enum Ran {
-    /// Each drew numbers until there was none.
-    Over,
-    /// A thread could not be started. Those that were started have ended.
-    NotStarted,
-    /// One of them found that the last timestamp was given.
-    ClockEnd,
-}
 
 /// Puts the numbers 1 to the count.
 pub(crate) fn put_all<R: Wait>(rt: &R, numbers: &Numbers, pass: &mut NumberPass, count: u32)
@@ -63,10 +53,10 @@ pub(crate) fn run_workers<G: Gate, R: Threads + Wait + Sync>(
     journal: &Mutex<Journal>,
     shared: &Shared<G>,
     workers: Vec<Worker>,
-) -> Result<Ran, AllocError> {
+) -> Result<ThreadEnd, AllocError> {
     let mut handles = Vec::with_capacity(shared.alloc, workers.len())?;
     Ok(thread::scope(thread::scope_env(), rt, move |scope| {
-        let mut ran = Ran::Over;
+        let mut end = ThreadEnd::Over;
         for worker in workers {
             match scope.spawn(move || worker.work(rt, journal, shared)) {
                 Ok(handle) => {
@@ -75,16 +65,16 @@ pub(crate) fn run_workers<G: Gate, R: Threads + Wait + Sync>(
                     }
                 }
                 Err(_) => {
-                    ran = Ran::NotStarted;
+                    end = ThreadEnd::NotStarted;
                     break;
                 }
             }
         }
         for handle in handles {
-            if handle.join(rt) == WorkerEnd::ClockEnd && ran == Ran::Over {
-                ran = Ran::ClockEnd;
+            if handle.join(rt) == ThreadEnd::ClockEnd && end == ThreadEnd::Over {
+                end = ThreadEnd::ClockEnd;
             }
         }
-        ran
+        end
     }))
 }
