@@ -1,4 +1,4 @@
-//! The program `avm`: its words, standard input and standard output go to `avm_node`, which runs the command, with sets of
+//! The program `avm`: its words, standard input and standard output go to `avm_node`, which executes the command, with sets of
 //! objects for the opcodes.
 #![tactic(auto)]
 
@@ -7,75 +7,89 @@ ghost use Rattle.std.specs.List.{AllByRecursion};
 ghost use Rattle.avm_node.specs.WorkerSets.{AreSets};
 ghost use Rattle.avm_ops.specs.Objects.{IsFull};
 
-use avm_arith::{Binary, Bits, Comparison, Equality, Joined, OfBytes, Unary, Wide};
-use avm_flow_ops::{Block, Branch, Bytec, Intc, Literal, Scratch, Stack, Stops};
-use avm_node::run;
-use avm_ops::{BoxedOp, Op, OpSet, Ops};
-use avm_state_ops::{GlobalOp, StateRead, StateWrite, Txn};
+use avm_node::{FAILED, answer, run};
+use avm_objects::filled_set;
+use avm_ops::{BoxedOp, Op, OpSet};
+use std::alloc::AllocError;
 use std::env;
 use std::io::{self, ErrorKind};
 use std::process::ExitCode;
 use std::sync::Wait;
 use std::thread::Threads;
-use teal_table::Opcode;
 
-/// The exit status where memory was wanting before there was a command.
-const FAILED: u8 = 3;
-
-/// How many sets there are: one for each of 8 workers, and one for the program's own thread.
+/// How many sets `propose` takes: one for each of 8 workers, and one for the program's own thread.
 const SETS: usize = 9;
-
-/// An object in a box, or the end of the program where memory is wanting.
-macro_rules! boxed {
-    ($alloc:expr, $op:expr) => {
-        match Box::new($alloc, $op) {
-            Ok(op) => op,
-            Err(_) => return ExitCode::from(FAILED),
-        }
-    };
-}
-
-/// The object of an opcode, of the family that has it, or the next turn of the loop where none has. Each family is an object by
-/// itself, and not in a type of all of them, which would be told apart once more at each instruction.
-macro_rules! object_of {
-    ($alloc:expr, $opcode:expr, $($family:ident),+) => {
-        $(if let Some(op) = $family::of($opcode) {
-            boxed!($alloc, op)
-        } else)+ {
-            continue;
-        }
-    };
-}
 
 fn main(rt: HostRuntime) -> ExitCode {
     let alloc = rt.alloc();
+    let own = filled_set!(alloc, ExitCode::from(FAILED));
+    let Ok(words) = words_of(&rt) else {
+        return ExitCode::from(FAILED);
+    };
+    let Ok(texts) = texts_of(&rt, &words) else {
+        return ExitCode::from(FAILED);
+    };
+    if let Some(status) = answered(&rt, texts.as_slice(), &own) {
+        return ExitCode::from(status);
+    }
+    // The words are `propose`, which has a set for each worker.
     let mut sets = Vec::new(alloc);
-    for _ in 0..SETS {
-        let mut ops: OpSet = match Ops::new(alloc) {
-            Ok(ops) => ops,
-            Err(_) => return ExitCode::from(FAILED),
-        };
-        for code in 0..256usize {
-            let Some(opcode) = Opcode::of(code as u8) else {
-                continue;
-            };
-            let op: Box<dyn Op> = object_of!(
-                alloc, opcode, Binary, Bits, Comparison, Equality, Joined, OfBytes, Unary, Wide,
-                Block, Branch, Bytec, Intc, Literal, Scratch, Stack, Stops, GlobalOp, StateRead,
-                StateWrite, Txn
-            );
-            if ops.push(BoxedOp { op }).is_err() {
-                return ExitCode::from(FAILED);
-            }
-        }
+    for _ in 1..SETS {
+        let ops = filled_set!(alloc, ExitCode::from(FAILED));
         if sets.push(ops).is_err() {
             return ExitCode::from(FAILED);
         }
     }
-    if !are_sets(&sets) {
+    if sets.push(own).is_err() {
         return ExitCode::from(FAILED);
     }
-    ExitCode::from(status(&rt, &rt, sets))
+    ExitCode::from(proposed(&rt, &rt, texts.as_slice(), sets))
+}
+
+/// The words that the program was called with. Words that are no text are no command, as no words are.
+fn words_of(rt: &HostRuntime) -> io::Result<Vec<String>> {
+    let alloc = rt.alloc();
+    match env::args(rt) {
+        Ok(args) => Ok(args.skip(1).collect(alloc)?),
+        Err(error) if error.kind() == ErrorKind::InvalidData => Ok(Vec::new(alloc)),
+        Err(error) => Err(error),
+    }
+}
+
+fn texts_of<'a>(rt: &HostRuntime, words: &'a Vec<String>) -> Result<Vec<&'a str>, AllocError> {
+    let mut texts = Vec::new(rt.alloc());
+    for word in words {
+        texts.push(word.as_str())?;
+    }
+    Ok(texts)
+}
+
+/// The exit status of a command that starts no thread, or none where the words are `propose`.
+fn answered(rt: &HostRuntime, words: &[&str], own: &OpSet) -> Option<u8> {
+    if own.missing().is_some() {
+        return Some(FAILED);
+    }
+    answer(rt.alloc(), words, &mut rt.stdin(), &mut rt.stdout(), own)
+}
+
+/// The exit status of `propose`. The runtime comes twice, since it is known to start threads in `main` alone.
+fn proposed<T: Threads + Wait + Sync>(
+    rt: &HostRuntime,
+    threads: &T,
+    words: &[&str],
+    sets: Vec<OpSet>,
+) -> u8 {
+    if !are_sets(&sets) {
+        return FAILED;
+    }
+    run(
+        threads,
+        rt.alloc(),
+        words,
+        &mut rt.stdin(),
+        &mut rt.stdout(),
+        sets,
+    )
 }
 
 /// Whether there are as many sets as are wanted, each with an object of every opcode.
@@ -92,47 +106,4 @@ fn are_full(sets: &[OpSet]) -> bool
         None => true,
         Some((set, sets)) => set.missing().is_none() && are_full(sets),
     }
-}
-
-/// The exit status of the command that the program was called with. The runtime comes twice, since it is known to start
-/// threads in `main` alone.
-fn status<T: Threads + Wait + Sync>(rt: &HostRuntime, threads: &T, sets: Vec<OpSet>) -> u8
-    requires sets { AreSets ⟦<BoxedOp as Op>⟧.opcode sets.items }
-{
-    let alloc = rt.alloc();
-    let result = match env::args(rt) {
-        Ok(args) => args.skip(1).collect(alloc),
-        // Words that are no text are no command, as no words are.
-        Err(error) if error.kind() == ErrorKind::InvalidData => Ok(Vec::new(alloc)),
-        Err(_) => return FAILED,
-    };
-    match result {
-        Ok(words) => status_for(rt, threads, &words, sets),
-        Err(_) => FAILED,
-    }
-}
-
-fn status_for<T: Threads + Wait + Sync>(
-    rt: &HostRuntime,
-    threads: &T,
-    words: &Vec<String>,
-    sets: Vec<OpSet>,
-) -> u8
-    requires sets { AreSets ⟦<BoxedOp as Op>⟧.opcode sets.items }
-{
-    let alloc = rt.alloc();
-    let mut texts = Vec::new(alloc);
-    for word in words {
-        if texts.push(word.as_str()).is_err() {
-            return FAILED;
-        }
-    }
-    run(
-        threads,
-        alloc,
-        texts.as_slice(),
-        &mut rt.stdin(),
-        &mut rt.stdout(),
-        sets,
-    )
 }

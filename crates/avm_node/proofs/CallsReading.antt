@@ -5,9 +5,9 @@ use Rattle.teal_value.specs.Answer.{◌>>=◌, Fails}
 use Rattle.teal_value.specs.declared.failure.Failure.{Failure}
 use Rattle.teal_value.specs.declared.failure.Failure.TheVariants as failure
 use Rattle.avm_items.specs.declared.call_data.CallData.{CallData}
-use Rattle.avm_node.specs.declared.refusal.Refusal.{Refusal}
-use Rattle.avm_node.specs.CallLines.{checked_call}
-use Rattle.avm_node.specs.DigitLines.{DigitLine, line_bytes, first_bytes}
+use Rattle.avm_input.specs.declared.refusals.Refusal.{Refusal}
+use Rattle.avm_input.specs.CallLines.{checked_call}
+use Rattle.avm_input.specs.DigitLines.{DigitLine, line_bytes, first_bytes}
 use Rattle.avm_node.specs.ProposeInputs.{calls_on_lines, on_call}
 
 -- these calls, and then what the lines read as

@@ -1,6 +1,3 @@
-pub mod Replies
-pub mod DigitLines
 pub mod CallsReading
 pub mod PoolAnswers
-pub mod StepsMade
-pub mod OneFinding
+pub mod NodeAnswers

@@ -1,17 +1,5 @@
-pub mod Replies
-pub mod DigitLines
-pub mod Lines
-pub mod Refusals
-pub mod Programs
-pub mod Outcomes
-pub mod CallLines
-pub mod ViewTexts
-pub mod BlockCommands
-pub mod DebugCommands
-pub mod DebugRuns
 pub mod ProposeInputs
 pub mod ProposeShown
 pub mod ProposeCommands
 pub mod WorkerSets
 pub mod Answers
-pub mod Shown

@@ -10,11 +10,11 @@ use Rattle.avm_pool.specs.declared.pool_fault.PoolFault.TheVariants as fault
 use Rattle.avm_pool.specs.declared.proposal.Proposal.{Proposal}
 use Rattle.avm_pool.specs.FaultNames.{pool_fault_name}
 use Rattle.avm_pool.specs.Proposals.{IsProposal}
-use Rattle.avm_node.specs.declared.refusal.Refusal.{Refusal}
-use Rattle.avm_node.specs.DigitLines.{digit_lines}
+use Rattle.avm_input.specs.declared.refusals.Refusal.{Refusal}
+use Rattle.avm_input.specs.DigitLines.{digit_lines}
 use Rattle.avm_node.specs.ProposeInputs.{ProposeInput, propose_input}
-use Rattle.avm_node.specs.Refusals.{refusal_reply}
-use Rattle.avm_node.specs.Replies.{Reply, succeeded, refused}
+use Rattle.avm_input.specs.Refusals.{refusal_reply}
+use Rattle.avm_input.specs.Replies.{Reply, succeeded, refused}
 
 abbrev pub left_line : ℕ → List ℕ
 left_line number = codes "left " ++ (decimal number ++ codes "\n")

@@ -8,12 +8,12 @@ use Rattle.avm_ledger.specs.Ledgers.{Ledger}
 use Rattle.avm_items.specs.declared.call_data.CallData.{CallData}
 use Rattle.avm_block.specs.declared.block_fault.BlockFault.{BlockFault}
 use Rattle.avm_block.specs.BlockReader.{header_at}
-use Rattle.avm_node.specs.declared.call_line.CallLineFault.{CallLineFault}
-use Rattle.avm_node.specs.declared.refusal.Refusal.{Refusal}
-use Rattle.avm_node.specs.declared.refusal.Refusal.TheVariants as refusal
-use Rattle.avm_node.specs.BlockCommands.{first_ledger, needed_bytes}
-use Rattle.avm_node.specs.CallLines.{checked_call}
-use Rattle.avm_node.specs.DigitLines.{DigitLine, line_bytes}
+use Rattle.avm_input.specs.declared.call_line.CallLineFault.{CallLineFault}
+use Rattle.avm_input.specs.declared.refusals.Refusal.{Refusal}
+use Rattle.avm_input.specs.declared.refusals.Refusal.TheVariants as refusal
+use Rattle.avm_input.specs.BlockLines.{first_ledger, needed_bytes}
+use Rattle.avm_input.specs.CallLines.{checked_call}
+use Rattle.avm_input.specs.DigitLines.{DigitLine, line_bytes}
 
 -- what calls are to be made of, on which ledger and by which header
 pub record ProposeInput : Type 0 where

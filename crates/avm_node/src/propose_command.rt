@@ -6,15 +6,14 @@ ghost use Rattle.avm_ledger.specs.declared.header.Profile.TheVariants.{Three};
 ghost use Rattle.avm_ops.specs.Objects.{IsFull};
 ghost use Rattle.avm_node.specs.ProposeCommands.{IsPoolReply, IsProposeReply, left_line, pool_reply, proposal_reply};
 ghost use Rattle.avm_node.specs.ProposeShown.{input_shown};
-ghost use Rattle.avm_node.specs.Shown.{reply_shown};
+ghost use Rattle.avm_input.specs.Shown.{reply_shown};
 ghost use Rattle.avm_node.specs.WorkerSets.{AreWorkerSets};
 
-use crate::output::{DONE, REFUSED, Reply};
 use crate::propose_input::{ProposeInput, propose_input};
-use crate::refusal::refusal_reply;
 use avm_block::encode;
+use avm_input::{DONE, REFUSED, Reply, refusal_reply};
 use avm_ops::{BoxedOp, Op, OpSet};
-use avm_pool::{OpenGate, PoolFault, Proposal, propose};
+use avm_pool::{OpenGate, PoolFault, Proposal, SharedBase, propose_on};
 use std::alloc::{AllocError, Global};
 use std::sync::Wait;
 use std::thread::Threads;
@@ -55,7 +54,9 @@ fn pool_answer<R: Threads + Wait + Sync>(
         header,
         calls,
     } = read;
-    match propose(rt, alloc, &base, &header, calls, sets, own, &OpenGate) {
+    let (ledger, digest) = base.into_parts();
+    let base = SharedBase::with_digest(alloc, ledger, digest)?;
+    match propose_on(rt, alloc, &base, &header, calls, sets, own, &OpenGate) {
         Ok(proposal) => proposal_reply(alloc, &proposal),
         Err(Failure::Fault(fault)) => pool_reply(alloc, fault),
         Err(Failure::Memory) => Err(AllocError),

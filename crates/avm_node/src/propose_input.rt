@@ -3,25 +3,23 @@
 ghost use Rattle.std.specs.Prelude.{◌≡◌, IfOk};
 ghost use Rattle.teal_value.specs.Answer.{Gives};
 ghost use Rattle.avm_ledger.specs.declared.header.Profile.TheVariants.{Three};
-ghost use Rattle.avm_node.specs.DigitLines.{DigitLine, digit_lines};
+ghost use Rattle.avm_input.specs.DigitLines.{DigitLine, digit_lines};
 ghost use Rattle.avm_node.specs.ProposeInputs.{calls_on_lines, first_header, header_of, on_call, propose_input};
-ghost use Rattle.avm_node.specs.CallLines.{checked_call};
+ghost use Rattle.avm_input.specs.CallLines.{checked_call};
 ghost use Rattle.avm_node.specs.ProposeShown.{input_shown};
 
-use crate::block_commands::{needed_bytes, next_base};
-use crate::call_line::checked_call;
-use crate::digit_lines::DigitLines;
-use crate::refusal::Refusal;
 use avm_block::header_codec::header_of as header_in;
 use avm_call::Call;
-use avm_ledger::{Fields, Header, Ledger, Profile};
+use avm_input::{DigitLines, Refusal, checked_call, needed_bytes, next_base};
+use avm_ledger::{Fields, Header, Profile};
+use avm_replay::Base;
 use std::alloc::Global;
 use teal_value::Failure;
 
 /// What calls are to be made of, on which ledger and by which header.
 #[derive(Drop)]
 pub struct ProposeInput {
-    pub base: Ledger,
+    pub base: Base,
     pub header: Header,
     pub calls: Vec<Call>,
 }
@@ -32,7 +30,7 @@ pub fn propose_input(alloc: Global, input: &[u8]) -> Result<ProposeInput, Failur
     ensures profile { IfOk result (λ read. read.header.profile ≡ Three) }
 {
     let mut lines = DigitLines::new(input);
-    let base = next_base(alloc, &mut lines)?.into_ledger();
+    let base = next_base(alloc, &mut lines)?;
     let header = next_header(alloc, &mut lines)?;
     let calls = calls_of(alloc, lines)?;
     Ok(ProposeInput {

@@ -1,26 +1,27 @@
 //! Running the program's commands, those among them that start threads.
 
 ghost use Rattle.std.specs.Prelude.{◌≡◌, IfOk, None, map};
-ghost use Rattle.avm_node.specs.Answers.{CommandAnswers, IsReply};
-ghost use Rattle.avm_words.specs.CommandLine.{command_in};
-ghost use Rattle.avm_words.specs.declared.command_line.NodeCommand.TheVariants.{Propose};
-ghost use Rattle.avm_node.specs.Shown.{reply_shown};
+ghost use Rattle.avm_input.specs.Answers.{CommandAnswers, CommandFails, IsReply};
+ghost use Rattle.avm_input.specs.Replies.{failed, usage_reply};
+ghost use Rattle.avm_input.specs.CommandLine.{command_in};
+ghost use Rattle.avm_input.specs.declared.command_line.NodeCommand.TheVariants.{Propose};
+ghost use Rattle.avm_input.specs.Shown.{reply_shown};
+ghost use Rattle.avm_node.specs.Answers.{IsNodeReply};
 ghost use Rattle.avm_node.specs.WorkerSets.{AreSets, AreWorkerSets};
 
-use crate::asm::input_refusal;
-use crate::commands::answer_to;
-use crate::input::{INPUT_LIMIT, read_input};
-use crate::output::{FAILED, Reply, write_reply};
 use crate::propose_command::propose_reply;
+use avm_commands::answer_to;
+use avm_input::{
+    FAILED, INPUT_LIMIT, Reply, command_in, input_refusal, read_input, workers_of, write_reply,
+};
 use avm_ops::{BoxedOp, Op, OpSet};
-use avm_words::{command_in, workers_of};
 use std::alloc::Global;
 use std::io::{self, Read, Write};
 use std::sync::Wait;
 use std::thread::Threads;
 
-/// Runs the command that the words after the program's name are, and gives the exit status, as [`answer`](crate::answer) does
-/// but for `propose`, whose calls run in as many threads as it has workers.
+/// Executes the command that the words after the program's name are, and gives the exit status, as [`answer`](crate::answer) does
+/// but for `propose`, whose calls are executed in as many threads as it has workers.
 ///
 /// There are nine sets with an object of every opcode: one for each worker, and the last for the thread that calls.
 pub fn run<'a, T: Threads + Wait + Sync, R: Read, W: Write>(
@@ -32,7 +33,11 @@ pub fn run<'a, T: Threads + Wait + Sync, R: Read, W: Write>(
     mut sets: Vec<OpSet>,
 ) -> u8
     requires sets { AreSets ⟦<BoxedOp as Op>⟧.opcode sets.items }
-    ensures answers { CommandAnswers (command_in (map (λ word. word.now) words.now)) (R.remaining reader.old) (W.contents writer.old) (W.contents writer.new) result }
+    ensures answers { CommandAnswers usage_reply IsNodeReply (command_in (map (λ word. word.now) words.now))
+        (R.remaining reader.old) (W.contents writer.old) (W.contents writer.new) result }
+    ensures fails { result ≡ failed → CommandFails usage_reply IsNodeReply
+        (command_in (map (λ word. word.now) words.now))
+        (R.remaining reader.old) (W.contents writer.old) (W.contents writer.new) writer.old writer.new }
     ensures reads_nothing { command_in (map (λ word. word.now) words.now) ≡ None → reader.new ≡ reader.old }
 {
     let Some(own) = sets.pop() else {
@@ -63,7 +68,7 @@ fn proposed<T: Threads + Wait + Sync, R: Read>(
     own: &OpSet,
 ) -> io::Result<Reply>
     requires sets { AreWorkerSets ⟦<BoxedOp as Op>⟧.opcode sets.items own.now }
-    ensures { IfOk result (λ reply. IsReply (Propose workers) (R.remaining reader.old) (reply_shown reply)) }
+    ensures { IfOk result (λ reply. IsReply (IsNodeReply (Propose workers)) (R.remaining reader.old) (reply_shown reply)) }
 {
     let input = read_input(alloc, reader)?;
     if input.len() > INPUT_LIMIT {

@@ -1,0 +1,22 @@
+-- Replies, by what was read.
+use Rattle.std.proofs.Common.{◌≡◌, ℕ, List, Result, refl, true, false}
+use Rattle.std.specs.Str.{IsUtf8, is_utf8}
+use Rattle.std.proofs.lemmas.Str.{IsUtf8-from_is_utf8, is_utf8-from_IsUtf8}
+use Rattle.teal_source.specs.declared.fault.AsmFault.{AsmFault}
+use Rattle.teal_asm.specs.Program.{assembled}
+use Rattle.avm_input.specs.Replies.{input_refusal}
+use Rattle.avm_commands.specs.Answers.{asm_reply, assembly_reply}
+
+not_utf8 : (bytes : List ℕ) → (IsUtf8 bytes → ⊥) → is_utf8 bytes ≡ false
+not_utf8 bytes fails =
+    elim (is_utf8 bytes) as (λ b. is_utf8 bytes ≡ b → b ≡ false) [
+      | true ↦ λ e. absurd (fails (IsUtf8-from_is_utf8 bytes e))
+      | false ↦ λ e. refl
+    ] refl
+
+pub asm_reply-not_utf8 : (input : List ℕ) → (IsUtf8 input → ⊥) → asm_reply input ≡ input_refusal
+asm_reply-not_utf8 input fails = rw (not_utf8 input fails) refl
+
+pub asm_reply-utf8 : (input text : List ℕ) (meant : Result (List ℕ) AsmFault) → IsUtf8 input → text ≡ input
+    → assembled text ≡ meant → asm_reply input ≡ assembly_reply meant
+asm_reply-utf8 input text meant u same means = rw (is_utf8-from_IsUtf8 input u, ← same, means) refl

@@ -1,0 +1,148 @@
+-- Steps of a call's program, as a debugger makes them.
+use Rattle.std.proofs.Common.{◌≡◌, ◌<◌, ◌+◌, ℕ, Bool, true, false, cond, length, eqb, List, Option, Some, None, Result, Ok, Err, inl, inr, ap, subst, sym, ◌∙◌, refl, arith}
+use Rattle.std.specs.Prelude.{option_map}
+use Rattle.std.proofs.lemmas.Bool.{cases_lt}
+use Rattle.teal_value.specs.declared.failure.Failure.TheVariants as failure
+use Rattle.teal_value.specs.declared.fault.Fault.{Fault}
+use Rattle.teal_code.specs.declared.instr.Instr.{Instr}
+use Rattle.avm_ledger.specs.declared.application.Application.{Application}
+use Rattle.avm_ledger.specs.declared.header.Header.{Header}
+use Rattle.avm_ledger.specs.Ledgers.{Ledger}
+use Rattle.avm_items.specs.declared.call_data.CallData.{CallData}
+use Rattle.avm_items.specs.Asks.{result_over}
+use Rattle.avm_items.specs.LedgerItems.{at}
+use Rattle.avm_call.specs.declared.outcome.Ended.TheVariants as ended
+use Rattle.avm_call.specs.declared.outcome.Why.{Why}
+use Rattle.avm_call.specs.Runs.{Position}
+use Rattle.avm_call.specs.Calls.{Target, admitted, program_of}
+use Rattle.avm_call.specs.CallPaths.{call_path}
+use Rattle.avm_call.specs.Views.{AtEnd, Faults, NextStep, Runs, View, view_after}
+use Rattle.avm_block.specs.Blocks.{Block}
+use Rattle.avm_stepper.specs.declared.faults.StepFault.TheVariants as fault
+use Rattle.avm_stepper.specs.Debugging.{Debugged, steps_shown}
+use Rattle.avm_stepper.specs.DebugSteps.{StepsTo}
+use Rattle.avm_stepper.specs.Opening.{IsOpened, ledger_before}
+use Rattle.avm_stepper.proofs.ViewsThere.{view_there}
+use Rattle.avm_commands.specs.DebugCommands.{CanGo, FindsText, HasNext, IsEnded, IsFoundReply, next_after}
+use Rattle.avm_commands.specs.DebugRuns.{HasCome, HasMade, IsDebugOver, ShowsText}
+use Rattle.avm_input.specs.Replies.{Reply, succeeded}
+
+-- ---- after a fault no instruction comes next
+
+abbrev next_in : View → NextStep
+next_in v = v.next
+
+fault_or_end : (b : Bool) (f : Fault) (i : Instr) → Some (cond b AtEnd (Faults f)) ≡ Some (Runs i) → ⊥
+fault_or_end true f i e = absurd cc
+fault_or_end false f i e = absurd cc
+
+module _ (l : Ledger) (call : CallData) (header : Header) where
+  no_next_in : (id : ℕ) (o : Option Application) (n : ℕ) (p : Position) (f : Fault) (place : ℕ) → result_over (at l) (admitted call) ≡ Ok (record { id = id; row = o })
+      → result_over (at l) (call_path call header n) ≡ Some (p, Some (ended.Faulted f place)) → HasNext l call header n → ⊥
+  no_next_in id None n p f place admits comes next =
+      let none : next_after l call header n ≡ None = rw admits refl in
+      let never : None ≡ Some (Runs next.0) = sym none ∙ next.1 in absurd cc
+  no_next_in id (Some row) n p f place admits comes next =
+      fault_or_end (eqb p.place (length (program_of call.completion row))) f next.0
+      (sym (ap (option_map next_in) (view_there l call header id row n (p, Some (ended.Faulted f place)) admits comes)) ∙ next.1)
+
+  no_next_by : (r : Result Target Why) (n : ℕ) (p : Position) (f : Fault) (place : ℕ) → result_over (at l) (admitted call) ≡ r
+      → result_over (at l) (call_path call header n) ≡ Some (p, Some (ended.Faulted f place)) → HasNext l call header n → ⊥
+  no_next_by (Ok t) n p f place admits comes next = no_next_in t.id t.row n p f place admits comes next
+  no_next_by (Err w) n p f place admits comes next =
+      let none : next_after l call header n ≡ None = rw admits refl in
+      let never : None ≡ Some (Runs next.0) = sym none ∙ next.1 in absurd cc
+
+  no_next : (n : ℕ) (p : Position) (f : Fault) (place : ℕ) → result_over (at l) (call_path call header n) ≡ Some (p, Some (ended.Faulted f place)) → HasNext l call header n → ⊥
+  no_next n p f place comes next = no_next_by (result_over (at l) (admitted call)) n p f place refl comes next
+
+  -- ---- one step more
+
+  go_on : (n : ℕ) → CanGo l call header n → HasNext l call header n → CanGo l call header (n + 1)
+  go_on n can next m lt =
+      elim (cases_lt m n) [
+        | inl below ↦ can m below
+        | inr above ↦ let same : n ≡ m = omega (arith, above, lt) in subst (HasNext l call header) same next
+      ]
+
+  abbrev there : ℕ → Option Fault → Option Debugged
+  there steps fault = Some (record { ledger = l; call = call; header = header; steps = steps; fault = fault })
+
+  made_by : (steps : ℕ) (fault : Option Fault) (n : ℕ) (after : Option Debugged) → steps_shown steps fault ≡ n → CanGo l call header n → IsDebugOver l call header n fault
+      → StepsTo (there steps fault) after (Ok tt) → HasMade l call header (n + 1) after
+  made_by steps None n after counted can over (inl moved) = record {
+    steps = steps + 1;
+    fault = None;
+    is = moved.now;
+    counted = ap (λ m. m + 1) counted;
+    can_go = go_on n can (subst (HasNext l call header) counted moved.instruction);
+    over = tt;
+  }
+  made_by steps None n after counted can over (inr faulted) = record {
+    steps = steps;
+    fault = Some faulted.fault;
+    is = faulted.now;
+    counted = ap (λ m. m + 1) counted;
+    can_go = go_on n can (subst (HasNext l call header) counted faulted.instruction);
+    over = subst (λ m. HasNext l call header (m + 1) → ⊥) counted (no_next (steps + 1) faulted.position faulted.fault faulted.place faulted.path);
+  }
+  made_by steps (Some f) n after counted can over (inl moved) = absurd (over (subst (HasNext l call header) counted moved.instruction))
+  made_by steps (Some f) n after counted can over (inr faulted) = absurd (over (subst (HasNext l call header) counted faulted.instruction))
+
+  made_more : (n : ℕ) (now after : Option Debugged) → HasMade l call header n now → StepsTo now after (Ok tt) → HasMade l call header (n + 1) after
+  made_more n now after h steps = made_by h.steps h.fault n after h.counted h.can_go h.over (subst (λ m. StepsTo m after (Ok tt)) h.is steps)
+
+  -- no step is made where no instruction comes next
+  ended_there : (n : ℕ) (now after : Option Debugged) → HasMade l call header n now → StepsTo now after (Err (failure.Fault fault.Ended)) → HasNext l call header n → ⊥
+  ended_there n now after h steps =
+      let refused = subst (λ m. StepsTo m after (Err (failure.Fault fault.Ended))) h.is steps in
+      subst (λ m. HasNext l call header m → ⊥) h.counted refused.0
+
+-- ---- in the entry of a block
+
+pub come_first : (base : Ledger) (b : Block) (number : ℕ) (d : Option Debugged) → IsOpened base b number d → HasCome base b number 0 d
+come_first base b number d o = record {
+  entry = o.entry;
+  there = o.there;
+  same_base = o.same_base;
+  program = o.program;
+  made = record { steps = 0; fault = None; is = o.now; counted = refl; can_go = λ n lt. absurd (omega (arith, lt)); over = tt };
+}
+
+pub come_more : (base : Ledger) (b : Block) (number n : ℕ) (now after : Option Debugged) → HasCome base b number n now → StepsTo now after (Ok tt) → HasCome base b number (n + 1) after
+come_more base b number n now after h steps = record {
+  entry = h.entry;
+  there = h.there;
+  same_base = h.same_base;
+  program = h.program;
+  made = made_more (ledger_before base b h.entry) h.entry.call b.header n now after h.made steps;
+}
+
+pub come_ended : (base : Ledger) (b : Block) (number n steps : ℕ) (now after : Option Debugged) → HasCome base b number n now → n < steps → StepsTo now after (Err (failure.Fault fault.Ended)) → IsEnded base b number steps
+come_ended base b number n steps now after h lt refused = record {
+  entry = h.entry;
+  there = h.there;
+  same_base = h.same_base;
+  program = h.program;
+  ends = (n, lt, ended_there (ledger_before base b h.entry) h.entry.call b.header n now after h.made refused);
+}
+
+-- ---- the answer
+
+pub come_shown : (base : Ledger) (b : Block) (number steps : ℕ) (now : Option Debugged) (text : List ℕ) → HasCome base b number steps now → ShowsText now text → FindsText (base, b) number steps text
+come_shown base b number steps now text h shows =
+    let made = h.made in
+    let (v, view, is) = subst (λ m. ShowsText m text) made.is shows in (
+      v,
+      record {
+        entry = h.entry;
+        there = h.there;
+        same_base = h.same_base;
+        can_go = made.can_go;
+        shown = subst (λ n. view_after (ledger_before base b h.entry) h.entry.call b.header n ≡ Some v) made.counted view;
+      },
+      is,
+    )
+
+pub found_shown : (input : Ledger × Block) (number steps : ℕ) (text : List ℕ) (reply : Reply) → FindsText input number steps text → reply ≡ record { text = text; status = succeeded } → IsFoundReply number steps (Ok input) reply
+found_shown input number steps text reply (v, found, is) shown = (Ok v, found, shown ∙ ap (λ t. record { text = t; status = succeeded }) is)

@@ -1,0 +1,120 @@
+//! The commands `replay` and `state`, whose input is two lines of digits: the ledger before a block, and the block.
+
+ghost use Rattle.std.specs.Prelude.{◌≡◌, IfOk, Ok};
+ghost use Rattle.teal_value.specs.Answer.{Gives};
+ghost use Rattle.avm_ops.specs.Objects.{IsFull};
+ghost use Rattle.avm_replay.specs.declared.verdict.Verdict.TheVariants as verdict;
+ghost use Rattle.avm_commands.specs.BlockCommands.{IsReplayReply, IsVerdictReply, agrees_reply, ledger_reply, past_ledger_at, state_reply, verdict_reply};
+ghost use Rattle.avm_input.specs.Replies.{refused};
+ghost use Rattle.avm_input.specs.Shown.{reply_shown};
+
+use avm_block::Block;
+use avm_call::Outcome;
+use avm_input::{DONE, REFUSED, Refusal, Reply, ledger_and_block, outcome_text, refusal_reply};
+use avm_ledger::Ledger;
+use avm_ops::{BoxedOp, Op, OpSet};
+use avm_replay::{Base, Verdict, replay_owned, state_at_owned};
+use std::alloc::{AllocError, Global};
+use teal_value::Failure;
+
+/// What `replay` answers to its input: whether the block replays over the ledger, or the first thing that differs.
+pub fn replay_reply(alloc: Global, input: &[u8], ops: &OpSet) -> Result<Reply, AllocError>
+    requires full { IsFull ⟦<BoxedOp as Op>⟧.opcode ops.now }
+    ensures { IfOk result (λ reply. IsReplayReply input.now (reply_shown reply)) }
+{
+    match ledger_and_block(alloc, input) {
+        Ok((base, block)) => verdict_on(alloc, base, &block, ops),
+        Err(Failure::Fault(refusal)) => refusal_reply(alloc, refusal),
+        Err(Failure::Memory) => Err(AllocError),
+    }
+}
+
+/// What `state` answers to its input: the ledger after the calls with timestamps up to this one.
+pub fn state_reply(
+    alloc: Global,
+    timestamp: u64,
+    input: &[u8],
+    ops: &OpSet,
+) -> Result<Reply, AllocError>
+    requires full { IsFull ⟦<BoxedOp as Op>⟧.opcode ops.now }
+    ensures { IfOk result (λ reply. reply_shown reply ≡ state_reply timestamp input.now) }
+{
+    match past_ledger(alloc, timestamp, input, ops) {
+        Ok(ledger) => ledger_reply(alloc, &ledger),
+        Err(Failure::Fault(refusal)) => refusal_reply(alloc, refusal),
+        Err(Failure::Memory) => Err(AllocError),
+    }
+}
+
+fn ledger_reply(alloc: Global, ledger: &Ledger) -> Result<Reply, AllocError>
+    ensures { IfOk result (λ reply. reply_shown reply ≡ ledger_reply (Ok ledger.now)) }
+{
+    let bytes = ledger.canonical(alloc)?;
+    let mut text = hex::encode(alloc, bytes.as_slice())?;
+    text.push('\n')?;
+    Ok(Reply { text, status: DONE })
+}
+
+/// The verdict on a block, as an answer.
+fn verdict_on(alloc: Global, base: Base, block: &Block, ops: &OpSet) -> Result<Reply, AllocError>
+    requires full { IsFull ⟦<BoxedOp as Op>⟧.opcode ops.now }
+    ensures { IfOk result (λ reply. IsVerdictReply (Ok (base, block.now)) (reply_shown reply)) }
+{
+    match replay_owned(alloc, base, block, ops)? {
+        Verdict::Agrees(_after) => {
+            let reply = agrees_reply(alloc, block.after())?;
+            Ok(reply)
+        }
+        Verdict::WrongBase => wrong_reply(alloc, "wrong base\n"),
+        Verdict::WrongOutcome { entry, found } => wrong_outcome_reply(alloc, entry, found),
+        Verdict::WrongState => wrong_reply(alloc, "wrong state\n"),
+    }
+}
+
+/// The answer where a block agrees: the digest of the ledger after it.
+fn agrees_reply(alloc: Global, digest: &[u8; 32]) -> Result<Reply, AllocError>
+    ensures { IfOk result (λ reply. reply_shown reply ≡ agrees_reply digest.now) }
+{
+    let digits = hex::encode(alloc, digest.as_slice())?;
+    let text = format!(in alloc; "agrees {digits}\n")?;
+    Ok(Reply { text, status: DONE })
+}
+
+fn wrong_outcome_reply(alloc: Global, entry: usize, found: Outcome) -> Result<Reply, AllocError>
+    ensures { IfOk result (λ reply. reply_shown reply ≡ verdict_reply (verdict.WrongOutcome entry found)) }
+{
+    let found = outcome_text(alloc, found)?;
+    let text = format!(in alloc; "wrong outcome {entry} {found}\n")?;
+    Ok(Reply {
+        text,
+        status: REFUSED,
+    })
+}
+
+fn wrong_reply(alloc: Global, text: &str) -> Result<Reply, AllocError>
+    ensures { IfOk result (λ reply. reply_shown reply ≡ record { text = text.now; status = refused }) }
+{
+    let text = String::from_str(alloc, text)?;
+    Ok(Reply {
+        text,
+        status: REFUSED,
+    })
+}
+
+/// The ledger after the calls with timestamps up to this one.
+fn past_ledger(
+    alloc: Global,
+    timestamp: u64,
+    input: &[u8],
+    ops: &OpSet,
+) -> Result<Ledger, Failure<Refusal>>
+    requires full { IsFull ⟦<BoxedOp as Op>⟧.opcode ops.now }
+    ensures { Gives (λ l. l) result (past_ledger_at timestamp input.now) }
+{
+    let (base, block) = ledger_and_block(alloc, input)?;
+    match state_at_owned(alloc, base, &block, timestamp, ops) {
+        Ok(past) => Ok(past),
+        Err(Failure::Fault(fault)) => Err(Failure::Fault(Refusal::State(fault))),
+        Err(Failure::Memory) => Err(Failure::Memory),
+    }
+}

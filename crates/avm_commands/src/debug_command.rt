@@ -1,0 +1,132 @@
+//! The command `debug`, whose input is that of `replay`: the ledger before a block, and the block.
+
+ghost use Rattle.std.specs.Prelude.{ℕ, IfErr, IfOk, Ok, string_bytes};
+ghost use Rattle.avm_ops.specs.Objects.{IsFull};
+ghost use Rattle.avm_stepper.specs.Opening.{IsOpened};
+ghost use Rattle.avm_commands.specs.DebugCommands.{FindsText, IsDebugReply, IsFoundReply, OneFinding};
+ghost use Rattle.avm_commands.specs.DebugRuns.{HasCome, IsDebugRefused, ShowsText};
+ghost use Rattle.avm_input.specs.Shown.{reply_shown};
+
+use crate::view_text::view_text;
+use avm_block::Block;
+use avm_input::{DONE, Refusal, Reply, ledger_and_block, refusal_reply};
+use avm_ledger::Ledger;
+use avm_ops::{BoxedOp, Op, OpSet};
+use avm_stepper::{StepFault, Stepper};
+use std::alloc::{AllocError, Global};
+use teal_value::Failure;
+
+/// What `debug` answers to its input: what stands where the program of an entry's call is after so many steps. Entries are
+/// numbered from 1. It costs no more steps than the program has.
+pub fn debug_reply(
+    alloc: Global,
+    entry: u64,
+    steps: u64,
+    input: &[u8],
+    ops: &OpSet,
+) -> Result<Reply, AllocError>
+    requires full { IsFull ⟦<BoxedOp as Op>⟧.opcode ops.now }
+    ensures { IfOk result (λ reply. IsDebugReply entry steps input.now (reply_shown reply)) }
+{
+    match ledger_and_block(alloc, input) {
+        Ok((base, block)) => found_reply(alloc, base.ledger(), &block, entry as usize, steps, ops),
+        Err(Failure::Fault(refusal)) => refusal_reply(alloc, refusal),
+        Err(Failure::Memory) => Err(AllocError),
+    }
+}
+
+fn found_reply(
+    alloc: Global,
+    ledger: &Ledger,
+    block: &Block,
+    entry: usize,
+    steps: u64,
+    ops: &OpSet,
+) -> Result<Reply, AllocError>
+    requires full { IsFull ⟦<BoxedOp as Op>⟧.opcode ops.now }
+    ensures { IfOk result (λ reply. IsFoundReply entry steps (Ok (ledger.now, block.now)) (reply_shown reply)) }
+{
+    match view_found(alloc, ledger, block, entry, steps, ops) {
+        Ok(text) => Ok(Reply { text, status: DONE }),
+        Err(Failure::Fault(refusal)) => refusal_reply(alloc, refusal),
+        Err(Failure::Memory) => Err(AllocError),
+    }
+}
+
+/// The view of the call of a block's entry after so many steps, in words; or why there is none. Entries are numbered from 1.
+pub fn view_found(
+    alloc: Global,
+    ledger: &Ledger,
+    block: &Block,
+    entry: usize,
+    steps: u64,
+    ops: &OpSet,
+) -> Result<String, Failure<Refusal>>
+    requires full { IsFull ⟦<BoxedOp as Op>⟧.opcode ops.now }
+    ensures found { IfOk result (λ text. FindsText (ledger.now, block.now) entry steps (string_bytes text)) }
+    ensures refused { IfErr result (IsDebugRefused ledger.now block.now entry steps) }
+{
+    let stepper = stepper_at(alloc, ledger, block, entry, steps, ops)?;
+    match shown_text(alloc, &stepper) {
+        Ok(text) => Ok(text),
+        Err(AllocError) => Err(Failure::Memory),
+    }
+}
+
+/// The call of an entry, so many steps on.
+fn stepper_at(
+    alloc: Global,
+    ledger: &Ledger,
+    block: &Block,
+    entry: usize,
+    steps: u64,
+    ops: &OpSet,
+) -> Result<Stepper, Failure<Refusal>>
+    requires full { IsFull ⟦<BoxedOp as Op>⟧.opcode ops.now }
+    ensures come { IfOk result (λ stepper. HasCome ledger.now block.now entry steps stepper) }
+    ensures refused { IfErr result (IsDebugRefused ledger.now block.now entry steps) }
+{
+    let mut stepper = opened(alloc, ledger, block, entry, ops)?;
+    for _step in 0..steps {
+        match stepper.step(alloc, ops) {
+            Ok(()) => {}
+            Err(Failure::Fault(StepFault::Ended)) => return Err(Failure::Fault(Refusal::Ended)),
+            Err(Failure::Fault(StepFault::Spent) | Failure::Memory) => return Err(Failure::Memory),
+        }
+    }
+    Ok(stepper)
+}
+
+/// The call of an entry, before the first instruction of its program.
+fn opened(
+    alloc: Global,
+    ledger: &Ledger,
+    block: &Block,
+    entry: usize,
+    ops: &OpSet,
+) -> Result<Stepper, Failure<Refusal>>
+    requires full { IsFull ⟦<BoxedOp as Op>⟧.opcode ops.now }
+    ensures opened { IfOk result (λ stepper. IsOpened ledger.now block.now entry stepper) }
+    ensures refused { (steps : ℕ) → IfErr result (IsDebugRefused ledger.now block.now entry steps) }
+{
+    match Stepper::open_block(alloc, ledger, block, entry, ops) {
+        Ok(stepper) => Ok(stepper),
+        Err(Failure::Fault(fault)) => Err(Failure::Fault(Refusal::Opening(fault))),
+        Err(Failure::Memory) => Err(Failure::Memory),
+    }
+}
+
+fn shown_text(alloc: Global, stepper: &Stepper) -> Result<String, AllocError>
+    ensures { IfOk result (λ text. ShowsText stepper.now (string_bytes text)) }
+{
+    match stepper.view(alloc) {
+        Ok(view) => view_text(alloc, &view),
+        Err(_) => Err(AllocError),
+    }
+}
+
+/// In an entry one thing is found after so many steps: a view, or one refusal. So each is found exactly where its definition
+/// says.
+pub fn one_finding()
+    ensures { OneFinding }
+{}

@@ -1,0 +1,16 @@
+//! The commands of the program `avm` that start no thread: a command's text and exit status, from the words of its command line
+//! and its input.
+//!
+//! `specs/Answers.antt` says what each command answers. `specs/BlockCommands.antt` has the commands that replay blocks,
+//! `specs/DebugCommands.antt` the one that steps through a call of a block.
+#![tactic(auto)]
+
+mod asm;
+mod block_commands;
+mod commands;
+mod debug_command;
+mod programs;
+mod view_text;
+
+pub use commands::{answer, answer_to};
+pub use debug_command::{one_finding, view_found};

@@ -1,0 +1,6 @@
+pub mod CommandNames
+pub mod NumberTexts
+pub mod ReadPairs
+pub mod LineReading
+pub mod Inputs
+pub mod Written

@@ -1,0 +1,11 @@
+pub mod Replies
+pub mod Answers
+pub mod CommandLine
+pub mod DigitPairs
+pub mod DigitLines
+pub mod Lines
+pub mod CallLines
+pub mod Outcomes
+pub mod Refusals
+pub mod BlockLines
+pub mod Shown

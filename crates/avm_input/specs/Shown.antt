@@ -1,0 +1,10 @@
+-- Replies and lines of the program, without where they lie in memory.
+use Rattle.std.specs.Prelude.{ℕ, List, String, map, string_bytes}
+use Rattle.avm_input.specs.declared.replies.Reply.{Reply as WrittenReply}
+use Rattle.avm_input.specs.Replies.{Reply}
+
+abbrev pub reply_shown : WrittenReply → Reply
+reply_shown reply = record { text = string_bytes reply.text; status = reply.status }
+
+abbrev pub texts : {A : Type 0} → List (String A) → List (List ℕ)
+texts lines = map string_bytes lines

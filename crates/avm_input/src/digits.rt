@@ -1,0 +1,126 @@
+//! Hexadecimal digits. They are read without a branch for each, so that many are read at once.
+
+ghost use Rattle.std.specs.Prelude.{◌≡◌, ◌≤◌, ◌<◌, ◌+◌, ◌*◌, ◌⊎◌, IfOk, None, Some, if◌then◌else◌, length, unwrap_or};
+ghost use Rattle.std.specs.Option.{option_map};
+ghost use Rattle.std.specs.Result.{result_ok};
+ghost use Rattle.hex.specs.Hex.{decode_of, decode_pairs, hex_digit_value};
+ghost use Rattle.avm_input.specs.DigitPairs.{AreNumbers, AreRead, DigitsAreWritten};
+
+use std::alloc::{AllocError, Global};
+
+/// How many bytes are written together: a fixed number, for which the compiler takes instructions that work on many at once.
+const BLOCK: usize = 32;
+
+/// The bytes that digits of either case spell, where they are an even number of such digits.
+pub fn decode_digits(alloc: Global, digits: &[u8]) -> Result<Option<Vec<u8>>, AllocError>
+    ensures { IfOk result (λ bytes. option_map (λ v. v.items) bytes ≡ result_ok (decode_of digits.now)) }
+{
+    if digits.len() % 2 != 0 {
+        return Ok(None);
+    }
+    let mut bytes = vec![in alloc; 0u8; digits.len() / 2]?;
+    let read = put_bytes(digits, bytes.as_mut_slice());
+    Ok(if read { Some(bytes) } else { None })
+}
+
+/// Writes the bytes that digits spell, and says whether all of them are digits; if not, it writes any bytes.
+fn put_bytes(digits: &[u8], bytes: &mut [u8]) -> bool
+    requires { length digits.now ≡ 2 * length bytes.old }
+    ensures { result_ok (decode_pairs 0 digits.now) ≡ (if result then Some bytes.new else None) }
+{
+    let mut i = 0;
+    let mut most = 0;
+    while i < bytes.len() {
+        if bytes.len() - i < BLOCK {
+            most = put_pair(digits, bytes, i, most);
+            i += 1;
+        } else {
+            most = put_block(digits, bytes, i, most);
+            i += BLOCK;
+        }
+    }
+    most < 16
+}
+
+/// Writes the byte at an index, and answers the greatest number of its digits and of those before.
+fn put_pair(digits: &[u8], bytes: &mut [u8], i: usize, before: u8) -> u8
+    requires even { length digits.now ≡ 2 * length bytes.old }
+    requires there { i < length bytes.old }
+    ensures len { length bytes.new ≡ length bytes.old }
+    ensures read { AreRead digits.now bytes.old i before → AreRead digits.now bytes.new (i + 1) result }
+{
+    let high = digit_number(digits[2 * i]);
+    let low = digit_number(digits[2 * i + 1]);
+    bytes[i] = high.wrapping_mul(16).wrapping_add(low);
+    greater(greater(before, high), low)
+}
+
+/// Writes a block of bytes from an index on, and answers the greatest number of their digits and of those before.
+fn put_block(digits: &[u8], bytes: &mut [u8], start: usize, before: u8) -> u8
+    requires even { length digits.now ≡ 2 * length bytes.old }
+    requires there { start + 32 ≤ length bytes.old }
+    ensures len { length bytes.new ≡ length bytes.old }
+    ensures read { AreRead digits.now bytes.old start before → AreRead digits.now bytes.new (start + 32) result }
+{
+    let (numbers, most) = block_numbers(digits, 2 * start, before);
+    put_pairs(&numbers, bytes, start);
+    most
+}
+
+/// The numbers of a block's digits from a place on, and the greatest of them and of those before.
+fn block_numbers(digits: &[u8], place: usize, before: u8) -> ([u8; 64], u8)
+    requires { place + 64 ≤ length digits.now }
+    ensures { AreNumbers digits.now place 64 result.0 before result.1 }
+{
+    let mut numbers = [0; 64];
+    let mut most = before;
+    'digits: for i in 0..64usize {
+        let number = digit_number(digits[place + i]);
+        numbers[i] = number;
+        most = greater(most, number);
+    }
+    (numbers, most)
+}
+
+/// Writes the bytes of a block's numbers from an index on.
+fn put_pairs(numbers: &[u8; 64], bytes: &mut [u8], start: usize)
+    requires { start + 32 ≤ length bytes.old }
+    ensures len { length bytes.new ≡ length bytes.old }
+    ensures written { DigitsAreWritten numbers.now bytes.old bytes.new start 32 }
+{
+    'pairs: for i in 0..BLOCK {
+        bytes[start + i] = numbers[2 * i]
+            .wrapping_mul(16)
+            .wrapping_add(numbers[2 * i + 1]);
+    }
+}
+
+/// The value of a digit; 255 where it is none.
+fn digit_number(digit: u8) -> u8
+    ensures { result ≡ unwrap_or (hex_digit_value digit) 255 }
+{
+    let number = digit.wrapping_sub(b'0');
+    // A distance below the first letter is a great one, so the lesser is that of the letter's own case.
+    let letter = lesser(digit.wrapping_sub(b'A'), digit.wrapping_sub(b'a'));
+    if number < 10 {
+        number
+    } else if letter < 6 {
+        letter + 10
+    } else {
+        255
+    }
+}
+
+fn lesser(a: u8, b: u8) -> u8
+    ensures no_more { (result ≤ a) × (result ≤ b) }
+    ensures one { (result ≡ a) ⊎ (result ≡ b) }
+{
+    if a < b { a } else { b }
+}
+
+fn greater(a: u8, b: u8) -> u8
+    ensures no_less { (a ≤ result) × (b ≤ result) }
+    ensures one { (result ≡ a) ⊎ (result ≡ b) }
+{
+    if a < b { b } else { a }
+}

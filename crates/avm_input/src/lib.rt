@@ -1,0 +1,25 @@
+//! The command line, its input and its replies: which command the words are (`specs/CommandLine.antt`), the whole input,
+//! lines of hexadecimal digits (`specs/DigitLines.antt`), the ledger and the block on them (`specs/BlockLines.antt`), why an
+//! input is refused (`specs/Refusals.antt`), and what is written (`specs/Answers.antt`). Programs stand on it; it carries
+//! out no command.
+#![tactic(auto)]
+
+mod block_lines;
+mod call_line;
+mod command_line;
+mod digit_lines;
+mod digits;
+mod input;
+mod outcomes;
+mod refusals;
+mod replies;
+
+pub use block_lines::{ledger_and_block, needed_bytes, next_base};
+pub use call_line::{CallLineFault, checked_call};
+pub use command_line::{NodeCommand, command_in, words_of_commands, workers_of};
+pub use digit_lines::DigitLines;
+pub use digits::decode_digits;
+pub use input::{INPUT_LIMIT, read_input};
+pub use outcomes::outcome_text;
+pub use refusals::{Refusal, check_place, refusal_reply};
+pub use replies::{DONE, FAILED, REFUSED, Reply, USAGE, input_refusal, write_reply};

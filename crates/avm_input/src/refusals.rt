@@ -1,0 +1,121 @@
+//! Why an input of lines of digits is refused, and what is answered to it.
+
+ghost use Rattle.std.specs.Prelude.{◌≡◌, IfOk, string_bytes};
+ghost use Rattle.avm_input.specs.Refusals.{block_text, call_text, check_place, check_text, ledger_text, opening_text, refusal_reply, state_text};
+ghost use Rattle.avm_input.specs.Shown.{reply_shown};
+
+use crate::call_line::CallLineFault;
+use crate::replies::{REFUSED, Reply};
+use avm_block::BlockFault;
+use avm_ledger::LedgerFault;
+use avm_replay::StateFault;
+use avm_stepper::OpenFault;
+use std::alloc::{AllocError, Global};
+use teal_check::CheckFault;
+
+/// Why an input of lines of digits is refused.
+#[derive(Clone, Copy, Debug, PartialEq, Eq)]
+pub enum Refusal {
+    /// The line of this number has another character than digits, or an odd count of them.
+    Hex(usize),
+    /// There is a line too many, or too few.
+    Lines,
+    /// The program breaks this rule.
+    Check(CheckFault),
+    /// The ledger has this fault.
+    Ledger(LedgerFault),
+    /// The block has this fault.
+    Block(BlockFault),
+    /// There is no ledger of the past.
+    State(StateFault),
+    /// The line for the header has more or fewer than its 40 bytes.
+    Header,
+    /// The call of this number, counted from 1, has this fault.
+    Call(usize, CallLineFault),
+    /// The call of an entry is not opened in a debugger.
+    Opening(OpenFault),
+    /// The program of a call ends before so many steps.
+    Ended,
+}
+
+/// What is answered to a refused input.
+pub fn refusal_reply(alloc: Global, refusal: Refusal) -> Result<Reply, AllocError>
+    ensures { IfOk result (λ reply. reply_shown reply ≡ refusal_reply refusal) }
+{
+    let text = match refusal {
+        Refusal::Hex(line) => format!(in alloc; "refused hex {line}\n")?,
+        Refusal::Lines => String::from_str(alloc, "refused lines\n")?,
+        Refusal::Check(fault) => check_text(alloc, fault)?,
+        Refusal::Ledger(fault) => ledger_text(alloc, fault)?,
+        Refusal::Block(fault) => block_text(alloc, fault)?,
+        Refusal::State(fault) => state_text(alloc, fault)?,
+        Refusal::Header => String::from_str(alloc, "refused header\n")?,
+        Refusal::Call(number, fault) => call_text(alloc, number, fault)?,
+        Refusal::Opening(fault) => opening_text(alloc, fault)?,
+        Refusal::Ended => String::from_str(alloc, "refused debug Ended\n")?,
+    };
+    Ok(Reply {
+        text,
+        status: REFUSED,
+    })
+}
+
+fn check_text(alloc: Global, fault: CheckFault) -> Result<String, AllocError>
+    ensures { IfOk result (λ text. string_bytes text ≡ check_text fault) }
+{
+    let name = fault.name();
+    match check_place(fault) {
+        Some(place) => format!(in alloc; "refused check {name} {place}\n"),
+        None => format!(in alloc; "refused check {name}\n"),
+    }
+}
+
+fn call_text(alloc: Global, number: usize, fault: CallLineFault) -> Result<String, AllocError>
+    ensures { IfOk result (λ text. string_bytes text ≡ call_text number fault) }
+{
+    let name = fault.name();
+    format!(in alloc; "refused call {number} {name}\n")
+}
+
+fn ledger_text(alloc: Global, fault: LedgerFault) -> Result<String, AllocError>
+    ensures { IfOk result (λ text. string_bytes text ≡ ledger_text fault) }
+{
+    let name = fault.name();
+    format!(in alloc; "refused ledger {name}\n")
+}
+
+fn block_text(alloc: Global, fault: BlockFault) -> Result<String, AllocError>
+    ensures { IfOk result (λ text. string_bytes text ≡ block_text fault) }
+{
+    let name = fault.name();
+    format!(in alloc; "refused block {name}\n")
+}
+
+fn state_text(alloc: Global, fault: StateFault) -> Result<String, AllocError>
+    ensures { IfOk result (λ text. string_bytes text ≡ state_text fault) }
+{
+    let name = fault.name();
+    format!(in alloc; "refused state {name}\n")
+}
+
+fn opening_text(alloc: Global, fault: OpenFault) -> Result<String, AllocError>
+    ensures { IfOk result (λ text. string_bytes text ≡ opening_text fault) }
+{
+    let name = fault.name();
+    format!(in alloc; "refused debug {name}\n")
+}
+
+/// The place of the instruction that breaks the rule, where the rule is one of instructions.
+pub fn check_place(fault: CheckFault) -> Option<u16>
+    ensures { result ≡ check_place fault }
+{
+    match fault {
+        CheckFault::Code { place, .. }
+        | CheckFault::OutOfProfile { place }
+        | CheckFault::Backward { place }
+        | CheckFault::NotAligned { place }
+        | CheckFault::PastEnd { place }
+        | CheckFault::UnknownField { place } => Some(place),
+        CheckFault::Version | CheckFault::Length | CheckFault::Cost => None,
+    }
+}

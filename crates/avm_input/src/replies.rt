@@ -1,0 +1,89 @@
+//! Replies, and writing them.
+
+ghost use Rattle.std.specs.Prelude.{◌≡◌, ◌≢◌, ◌≤◌, IfOk, IfSome, IsTrue, None, length, take};
+ghost use Rattle.std.specs.Io.KnownBytes.{Appends, Keeps};
+ghost use Rattle.avm_input.specs.Answers.{HasBeginning, IsBegun, IsWritten};
+ghost use Rattle.avm_input.specs.Replies.{failed, input_refusal};
+ghost use Rattle.avm_input.specs.Shown.{reply_shown};
+
+use std::alloc::{AllocError, Global};
+use std::io::{ErrorKind, Write};
+
+/// A text to write and an exit status.
+#[derive(Drop)]
+pub struct Reply {
+    pub text: String,
+    pub status: u8,
+}
+
+/// The exit status of a command that did its work.
+pub const DONE: u8 = 0;
+
+/// The exit status of a command that refused its input.
+pub const REFUSED: u8 = 1;
+
+/// The exit status of a wrong command line.
+pub const USAGE: u8 = 2;
+
+/// The exit status of a failed read or write, and where memory was refused.
+pub const FAILED: u8 = 3;
+
+/// The refusal of an input that is too long, or of text that is no UTF-8.
+pub fn input_refusal(alloc: Global) -> Result<Reply, AllocError>
+    ensures { IfOk result (λ reply. reply_shown reply ≡ input_refusal) }
+{
+    let text = String::from_str(alloc, "refused input\n")?;
+    Ok(Reply {
+        text,
+        status: REFUSED,
+    })
+}
+
+/// Writes a text, and gives the status that goes with it, or that of a failed write, before which a beginning of the text
+/// may have been written.
+pub fn write_reply<W: Write>(writer: &mut W, text: &str, status: u8) -> u8
+    ensures written { result ≢ failed → IsWritten (record { text = text.now; status = status })
+        (W.contents writer.old) (W.contents writer.new) result }
+    ensures begun { IsBegun (record { text = text.now; status = status })
+        (W.contents writer.old) (W.contents writer.new) }
+{
+    if write_text(writer, text.as_bytes()) {
+        status
+    } else {
+        FAILED
+    }
+}
+
+/// Writes a text, or a beginning of it, and says whether all of it was written.
+fn write_text<W: Write>(writer: &mut W, text: &[u8]) -> bool
+    ensures written { IsTrue result → Appends (W.contents writer.old) (W.contents writer.new) text.now }
+    ensures begun { HasBeginning text.now (W.contents writer.old) (W.contents writer.new) }
+{
+    let mut rest = text;
+    'writes: for _ in 0..u64::MAX {
+        if rest.is_empty() {
+            return writer.flush().is_ok();
+        }
+        match write_some(writer, rest) {
+            Some(count) => rest = &rest[count..],
+            None => return false,
+        }
+    }
+    false
+}
+
+/// Writes some bytes of a part, none where the write was interrupted and is to be tried again, and says how many; nothing
+/// where it failed.
+#[tactic(auto, using(crate::proofs::Written::kept_appends))]
+fn write_some<W: Write>(writer: &mut W, part: &[u8]) -> Option<usize>
+    ensures some { IfSome result (λ count. count ≤ length part.now) }
+    ensures written { IfSome result (λ count. Appends (W.contents writer.old) (W.contents writer.new) (take count part.now)) }
+    ensures failed { result ≡ None → Keeps (W.contents writer.old) (W.contents writer.new) }
+{
+    match writer.write(part) {
+        Ok(0) => None,
+        Ok(count) => Some(count),
+        Err(error) if error.kind() == ErrorKind::Interrupted => Some(0),
+        Err(_) => None,
+    }
+}

@@ -1,5 +1,0 @@
-use Rattle.avm_node.proofs.OneFinding.{one_finding}
-use Rattle.avm_node.proofs.debug_command.one_finding.Goals as goal
-
-pub returns : goal.returns
-returns c = one_finding

@@ -1,5 +1,0 @@
-use Rattle.avm_node.proofs.Replies.{IsInput-taken}
-use Rattle.avm_node.proofs.input.read_input.Goals as goal
-
-pub returns : goal.returns
-returns g c = IsInput-taken _ _ _ c.take-limited.ensures.limit (rw c.take-limited.ensures.inner at c.in_ok-input.ensures)

@@ -1,9 +1,0 @@
--- A line taken from lines, without where it lies in memory.
-use Rattle.std.specs.Prelude.{◌≡◌, ℕ, List, [], ◌∷◌, Option, Some, None}
-use Rattle.std.specs.Borrow.{Bor}
-use Rattle.avm_node.specs.DigitLines.{DigitLine}
-
--- the first line, if there is one, and the lines behind it
-abbrev pub IsTaken : Option (ℕ × Bor (List ℕ)) → List DigitLine → List DigitLine → Type 0
-IsTaken None lines rest = (lines ≡ []) × (rest ≡ [])
-IsTaken (Some (number, digits)) lines rest = lines ≡ record { number = number; digits = digits.now } ∷ rest

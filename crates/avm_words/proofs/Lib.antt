@@ -1,2 +1,0 @@
-pub mod CommandNames
-mod NumberTexts

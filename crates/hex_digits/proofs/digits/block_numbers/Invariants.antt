@@ -1,6 +1,0 @@
-use Rattle.std.proofs.Common.{◌≡◌, length}
-use Rattle.hex_digits.specs.DigitPairs.{AreNumbers}
-use Rattle.hex_digits.proofs.digits.block_numbers.Given as goal
-
-abbrev pub invariant-digits : goal.invariant-digits
-invariant-digits l = (length l.numbers ≡ 64) × AreNumbers l.digits l.place l.i l.numbers l.before l.most

@@ -1,5 +1,0 @@
-use Rattle.hex_digits.specs.DigitPairs.{DigitsAreWritten}
-use Rattle.hex_digits.proofs.digits.put_pairs.Given as goal
-
-abbrev pub invariant-pairs : goal.invariant-pairs
-invariant-pairs l = DigitsAreWritten l.numbers l.fn.bytes l.bytes l.start l.i
