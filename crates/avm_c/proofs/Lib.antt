@@ -1,0 +1,3 @@
+pub mod CommandAnswers
+pub mod Texts
+pub mod ViewsFound

@@ -1,0 +1,173 @@
+//! The machine for callers in C: a static library whose exports take bytes and answer bytes, a status and numbers. Nothing is
+//! kept between calls, and no thread is started. `include/avm.h` says for C what the contracts here say.
+//!
+//! `specs/Statuses.antt` has the numbers of statuses, `specs/Answers.antt` what a caller finds in the room that it lends,
+//! and the other definitions say which answer it is, in the words of the commands' own contracts.
+#![tactic(auto)]
+
+mod answers;
+mod blocks;
+mod findings;
+mod programs;
+mod questions;
+mod statuses;
+mod views;
+mod words;
+
+ghost use Rattle.std.specs.Prelude.{◌≡◌, ◌≢◌};
+ghost use Rattle.teal_check.specs.WellFormed.{checked};
+ghost use Rattle.avm_c.specs.declared.statuses.Status.TheVariants as status;
+ghost use Rattle.avm_c.specs.Answers.{IsAnswered};
+ghost use Rattle.avm_c.specs.BlockAnswers.{ledger_and_block, state_answer_at};
+ghost use Rattle.avm_c.specs.Findings.{IsFound};
+ghost use Rattle.avm_c.specs.Programs.{assembled_answer, check_status, listed_answer};
+ghost use Rattle.avm_c.specs.Statuses.{status_number};
+ghost use Rattle.avm_c.specs.ViewAnswers.{IsViewAnswer};
+ghost use Rattle.avm_c.specs.WordAnswers.{IsCommandAnswer, command_of};
+
+use crate::answers::{place, place_nothing};
+use crate::blocks::{Replay, State};
+use crate::findings::{Difference, write_finding};
+use crate::programs::{assembled_answer, listed_answer};
+use crate::questions::ask;
+use crate::statuses::Status;
+use crate::views::ViewAfter;
+use crate::words::Command;
+use std::alloc::Global;
+use teal_check::check;
+use teal_value::Failure;
+
+/// Whether the bytes are a program.
+#[unsafe(no_mangle)]
+pub extern "C" fn avm_c_check(alloc: Global, program: &[u8]) -> u32
+    ensures { result ≢ status_number status.Memory
+        → result ≡ status_number (check_status (checked program.now)) }
+{
+    match check(alloc, program) {
+        Ok(_program) => Status::Done.number(),
+        Err(Failure::Fault(_fault)) => Status::NoProgram.number(),
+        Err(Failure::Memory) => Status::Memory.number(),
+    }
+}
+
+/// The program that source text assembles to.
+#[unsafe(no_mangle)]
+pub extern "C" fn avm_c_assemble(
+    alloc: Global,
+    text: &[u8],
+    room: &mut [u8],
+    written: &mut usize,
+) -> u32
+    ensures { IsAnswered (λ answer. answer ≡ assembled_answer text.now)
+        room.old room.new written.new result }
+{
+    match assembled_answer(alloc, text) {
+        Ok(answer) => place(&answer, room, written),
+        Err(_) => place_nothing(written),
+    }
+}
+
+/// A program's listing.
+#[unsafe(no_mangle)]
+pub extern "C" fn avm_c_list(
+    alloc: Global,
+    program: &[u8],
+    room: &mut [u8],
+    written: &mut usize,
+) -> u32
+    ensures { IsAnswered (λ answer. answer ≡ listed_answer program.now)
+        room.old room.new written.new result }
+{
+    match listed_answer(alloc, program) {
+        Ok(answer) => place(&answer, room, written),
+        Err(_) => place_nothing(written),
+    }
+}
+
+/// The verdict on a block over the ledger before it: with the SHA-256 of the ledger after it where it agrees, and with the
+/// first entry that differs where one does.
+#[unsafe(no_mangle)]
+pub extern "C" fn avm_c_replay(
+    alloc: Global,
+    ledger: &[u8],
+    block: &[u8],
+    digest: &mut [u8; 32],
+    difference: &mut Difference,
+) -> u32
+    ensures { IsFound (ledger_and_block ledger.now block.now)
+        digest.old digest.new difference.old difference.new result }
+{
+    match ask(alloc, &Replay { ledger, block }) {
+        Ok(finding) => write_finding(finding, digest, difference),
+        Err(_) => Status::Memory.number(),
+    }
+}
+
+/// The bytes of the ledger after the calls of a block with timestamps up to this one.
+#[unsafe(no_mangle)]
+pub extern "C" fn avm_c_state(
+    alloc: Global,
+    ledger: &[u8],
+    block: &[u8],
+    timestamp: u64,
+    room: &mut [u8],
+    written: &mut usize,
+) -> u32
+    ensures { IsAnswered
+        (λ answer. answer ≡ state_answer_at timestamp (ledger_and_block ledger.now block.now))
+        room.old room.new written.new result }
+{
+    let question = State {
+        ledger,
+        block,
+        timestamp,
+    };
+    match ask(alloc, &question) {
+        Ok(answer) => place(&answer, room, written),
+        Err(_) => place_nothing(written),
+    }
+}
+
+/// The view of the call of a block's entry after so many steps, as `debug` prints it. Entries are counted from 1.
+#[unsafe(no_mangle)]
+pub extern "C" fn avm_c_view(
+    alloc: Global,
+    ledger: &[u8],
+    block: &[u8],
+    entry: u64,
+    steps: u64,
+    room: &mut [u8],
+    written: &mut usize,
+) -> u32
+    ensures { IsAnswered (IsViewAnswer entry steps (ledger_and_block ledger.now block.now))
+        room.old room.new written.new result }
+{
+    let question = ViewAfter {
+        ledger,
+        block,
+        entry,
+        steps,
+    };
+    match ask(alloc, &question) {
+        Ok(answer) => place(&answer, room, written),
+        Err(_) => place_nothing(written),
+    }
+}
+
+/// What the program `avm` writes for these words, parted by zero bytes, and this input, with its exit status.
+#[unsafe(no_mangle)]
+pub extern "C" fn avm_c_answer(
+    alloc: Global,
+    words: &[u8],
+    input: &[u8],
+    room: &mut [u8],
+    written: &mut usize,
+) -> u32
+    ensures { IsAnswered (IsCommandAnswer (command_of words.now) input.now)
+        room.old room.new written.new result }
+{
+    match ask(alloc, &Command { words, input }) {
+        Ok(answer) => place(&answer, room, written),
+        Err(_) => place_nothing(written),
+    }
+}

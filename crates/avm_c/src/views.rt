@@ -1,0 +1,89 @@
+//! What is answered of a call of a block, so many steps on.
+
+ghost use Rattle.std.specs.Prelude.{◌≡◌, IfOk, Ok};
+ghost use Rattle.avm_ops.specs.Objects.{IsFull};
+ghost use Rattle.avm_c.specs.Shown.{answer_shown};
+ghost use Rattle.avm_c.specs.ViewAnswers.{IsViewAnswer, view_status};
+
+use crate::answers::{Answer, done, refusal};
+use crate::blocks::ledger_and_block;
+use crate::questions::Question;
+use crate::statuses::Status;
+use avm_block::Block;
+use avm_commands::view_found;
+use avm_input::Refusal;
+use avm_ledger::Ledger;
+use avm_ops::{BoxedOp, Op, OpSet};
+use avm_stepper::OpenFault;
+use std::alloc::{AllocError, Global};
+use teal_value::Failure;
+
+/// What stands where the program of an entry's call is after so many steps. Entries are counted from 1.
+#[derive(Drop)]
+pub struct ViewAfter<'a> {
+    pub ledger: &'a [u8],
+    pub block: &'a [u8],
+    pub entry: u64,
+    pub steps: u64,
+}
+
+impl Question for ViewAfter<'_> {
+    type Answer = Answer;
+
+    ghost use Rattle.avm_c.specs.BlockAnswers.{ledger_and_block};
+    ghost use Rattle.avm_c.specs.Shown.{answer_shown};
+    ghost use Rattle.avm_c.specs.ViewAnswers.{IsViewAnswer};
+
+    ghost answers = { λ asked answer. IsViewAnswer asked.entry asked.steps
+        (ledger_and_block asked.ledger.now asked.block.now) (answer_shown answer) };
+
+    fn answer(&self, alloc: Global, ops: &OpSet) -> Result<Answer, AllocError> {
+        match ledger_and_block(alloc, self.ledger, self.block) {
+            Ok((base, block)) => {
+                view_of(
+                    alloc,
+                    base.ledger(),
+                    &block,
+                    self.entry as usize,
+                    self.steps,
+                    ops,
+                )
+            }
+            Err(Failure::Fault(why)) => Ok(refusal(alloc, why)),
+            Err(Failure::Memory) => Err(AllocError),
+        }
+    }
+}
+
+fn view_of(
+    alloc: Global,
+    ledger: &Ledger,
+    block: &Block,
+    entry: usize,
+    steps: u64,
+    ops: &OpSet,
+) -> Result<Answer, AllocError>
+    requires full { IsFull ⟦<BoxedOp as Op>⟧.opcode ops.now }
+    ensures { IfOk result (λ answer.
+        IsViewAnswer entry steps (Ok (ledger.now, block.now)) (answer_shown answer)) }
+{
+    match view_found(alloc, ledger, block, entry, steps, ops) {
+        Ok(text) => Ok(done(text.into_bytes())),
+        Err(Failure::Fault(why)) => Ok(refusal(alloc, view_status(why))),
+        Err(Failure::Memory) => Err(AllocError),
+    }
+}
+
+/// The status of a refusal that a view may have.
+fn view_status(why: Refusal) -> Status
+    ensures { result ≡ view_status why }
+{
+    match why {
+        Refusal::Opening(OpenFault::NoEntry) => Status::NoEntry,
+        Refusal::Opening(OpenFault::WrongBase) => Status::WrongBase,
+        Refusal::Opening(OpenFault::NoProgram) => Status::NoRun,
+        Refusal::Ended => Status::Ended,
+        // A view has no other refusal.
+        _ => Status::NoRun,
+    }
+}

@@ -1,0 +1,72 @@
+//! What is answered to words of the command line.
+
+ghost use Rattle.std.specs.Prelude.{◌≡◌, IfOk, map};
+ghost use Rattle.avm_ops.specs.Objects.{IsFull};
+ghost use Rattle.avm_input.specs.CommandLine.{command_in};
+ghost use Rattle.avm_c.specs.Shown.{answer_shown};
+ghost use Rattle.avm_c.specs.WordAnswers.{IsCommandAnswer, words_in};
+
+use crate::answers::{Answer, refusal};
+use crate::questions::Question;
+use crate::statuses::Status;
+use avm_commands::answer;
+use avm_input::FAILED;
+use avm_ops::{BoxedOp, Op, OpSet};
+use std::alloc::{AllocError, Global};
+use std::str;
+
+/// What the program `avm` writes for words, parted by zero bytes, and an input.
+#[derive(Drop)]
+pub struct Command<'a> {
+    pub words: &'a [u8],
+    pub input: &'a [u8],
+}
+
+impl Question for Command<'_> {
+    type Answer = Answer;
+
+    ghost use Rattle.avm_c.specs.Shown.{answer_shown};
+    ghost use Rattle.avm_c.specs.WordAnswers.{IsCommandAnswer, command_of};
+
+    ghost answers = { λ asked answer.
+        IsCommandAnswer (command_of asked.words.now) asked.input.now (answer_shown answer) };
+
+    fn answer(&self, alloc: Global, ops: &OpSet) -> Result<Answer, AllocError> {
+        match str::from_utf8(self.words) {
+            Ok(text) => {
+                let words = words_in(alloc, text)?;
+                command_answer(alloc, words.as_slice(), self.input, ops)
+            }
+            Err(_) => command_answer(alloc, &[], self.input, ops),
+        }
+    }
+}
+
+/// The words between zero bytes.
+fn words_in<'a>(alloc: Global, text: &'a str) -> Result<Vec<&'a str>, AllocError>
+    ensures { IfOk result (λ words. map (λ word. word.now) words.items ≡ words_in text.now) }
+{
+    text.split('\0').collect(alloc)
+}
+
+fn command_answer<'a>(
+    alloc: Global,
+    words: &'a [&'a str],
+    input: &[u8],
+    ops: &OpSet,
+) -> Result<Answer, AllocError>
+    requires full { IsFull ⟦<BoxedOp as Op>⟧.opcode ops.now }
+    ensures { IfOk result (λ answer. IsCommandAnswer
+        (command_in (map (λ word. word.now) words.now)) input.now (answer_shown answer)) }
+{
+    let mut reader = input;
+    let mut text = Vec::new(alloc);
+    match answer(alloc, words, &mut reader, &mut text, ops) {
+        None => Ok(refusal(alloc, Status::Propose)),
+        Some(FAILED) => Err(AllocError),
+        Some(status) => Ok(Answer {
+            status: u32::from(status),
+            bytes: text,
+        }),
+    }
+}
