@@ -1,162 +1,160 @@
 //! Calls on a ledger in memory, and the bytes of ledgers, calls and blocks, by these rows:
-//! - `ledger DIGITS` puts a ledger in place, `bytes` and `digest` tell its bytes and their digest;
-//! - `call ID COMPLETION APPROVAL CLEAR UINTS BYTES ARGUMENT` makes a call by the zero address on it, in the profile that its
-//!   programs need, and `call3` in profile 3;
-//! - `calldata DIGITS` and `block DIGITS` read a call and a block, and write them again.
-//! `-` stands for no digits.
+//! - `program NAME` assembles the input, begins it anew, and puts the program under a name; it tells the bytes. `code NAME DIGITS`
+//!   puts one that no source is assembled to;
+//! - `header PROFILE NUMBERS` sets the round, the latest timestamp, the least fee, the least balance and the longest life of what
+//!   follows; before it all numbers are 0, and a call is made in the profile that its programs need;
+//! - `ledger PIECES` puts a ledger in place, `bytes` and `digest` tell its bytes and their digest;
+//! - `call WORDS` makes a call on it, and `call3 WORDS` makes it in profile 3;
+//! - `calldata PIECES` and `block PIECES` read a call and a block, and write them again;
+//! - `beginnings KIND PIECES` reads each proper beginning of a `ledger`, a `calldata` or a `block`, and tells how many are
+//!   truncated; `changed PIECES` reads a block with each byte in turn changed in its lowest bit, and tells how many are refused.
+//!
+//! `sample_calls` has the words of calls and the pieces of bytes.
 
 ghost use Rattle.avm_ops.specs.Objects.{IsFull};
 
-use crate::number_of;
-use avm_block::{decode, encode};
-use avm_call::{Call, CallFault};
-use avm_call_codec::CallCodec;
-use avm_items::{Addresses, CallData, Completion};
-use avm_ledger::{Header, Ledger, Profile};
+use avm_block::{BlockFault, decode, encode};
+use avm_call_codec::{CallCodec, CallDataFault};
+use avm_items::CallData;
+use avm_ledger::{Header, Ledger, LedgerFault, Profile};
 use avm_ops::{BoxedOp, Op, OpSet};
 use avm_run::call_on;
-use avm_states::Schema;
-use std::alloc::{AllocError, Global};
-use std::io::{self, ErrorKind};
-use teal_value::{Address, ByteString, ByteStrings, Failure, Uints};
+use sample_calls::calls::{HEADER, call_or_fault};
+use sample_calls::programs::Programs;
+use sample_calls::words::{joined, number, word};
+use std::alloc::Global;
+use std::test::Fail;
+use teal_value::Failure;
 
-const NOBODY: Address = Address([0; 32]);
+/// The ledger, the programs and the header of the rows so far.
+#[derive(Drop)]
+pub struct Bench {
+    pub programs: Programs,
+    pub ledger: Ledger,
+    /// The header that a row has set.
+    pub header: Option<Header>,
+}
+
+impl Bench {
+    pub fn new(alloc: Global) -> Bench {
+        Bench {
+            programs: Programs::new(alloc),
+            ledger: Ledger::new(alloc),
+            header: None,
+        }
+    }
+
+    /// The header of this profile, or the one that a row has set.
+    pub fn header(&self, profile: Profile) -> Header {
+        self.header.unwrap_or(Header { profile, ..HEADER })
+    }
+}
 
 /// The answer to a row, or nothing where its head is none of these.
 pub fn reply(
     alloc: Global,
     ops: &OpSet,
-    ledger: &mut Ledger,
+    bench: &mut Bench,
+    input: &mut Vec<u8>,
     head: &str,
-    rest: &str,
-) -> io::Result<Option<String>>
+    words: &[&str],
+) -> Result<Option<String>, Fail>
     requires full { IsFull ⟦<BoxedOp as Op>⟧.opcode ops.now }
 {
     match head {
-        "call" => Ok(Some(called(alloc, ops, ledger, None, rest)?)),
-        "call3" => Ok(Some(called(alloc, ops, ledger, Some(Profile::Three), rest)?)),
-        "ledger" => Ok(Some(ledger_read(alloc, ledger, rest)?)),
-        "bytes" => Ok(Some(hex::encode(alloc, ledger.canonical(alloc)?.as_slice())?)),
-        "digest" => Ok(Some(hex::encode(alloc, ledger.digest(alloc)?.as_slice())?)),
-        "calldata" => Ok(Some(call_data_again(alloc, rest)?)),
-        "block" => Ok(Some(block_again(alloc, rest)?)),
+        "call" => Ok(Some(called(alloc, ops, bench, None, words)?)),
+        "call3" => Ok(Some(called(alloc, ops, bench, Some(Profile::Three), words)?)),
+        "ledger" => Ok(Some(ledger_read(alloc, bench, words)?)),
+        "bytes" => Ok(Some(digits_of(alloc, &bench.ledger)?)),
+        "digest" => Ok(Some(hex::encode(alloc, bench.ledger.digest(alloc)?.as_slice())?)),
+        "calldata" => Ok(Some(call_data_again(alloc, bench, words)?)),
+        "block" => Ok(Some(block_again(alloc, bench, words)?)),
+        "beginnings" => Ok(Some(beginnings(alloc, bench, words)?)),
+        "changed" => Ok(Some(changed(alloc, bench, words)?)),
+        "program" => {
+            let name = word(words, 0)?;
+            let told = bench.programs.assemble(alloc, name, input.as_slice())?;
+            input.clear();
+            Ok(Some(told))
+        }
         _ => Ok(None),
     }
 }
 
-fn bytes_of(alloc: Global, digits: &str) -> io::Result<Vec<u8>> {
-    match hex::decode(alloc, if digits == "-" { "" } else { digits }) {
-        Ok(bytes) => Ok(bytes),
-        Err(_) => Err(io::Error::from(ErrorKind::InvalidInput)),
+/// Whether a row sets something, and has no answer.
+pub fn is_set(alloc: Global, bench: &mut Bench, head: &str, words: &[&str]) -> Result<bool, Fail> {
+    match head {
+        "code" => {
+            if let Some((name, words)) = words.split_first() {
+                let bytes = joined(alloc, &bench.programs, words)?;
+                bench.programs.put(alloc, name, bytes.as_slice())?;
+            }
+            Ok(true)
+        }
+        "header" => {
+            bench.header = Some(header_of(words)?);
+            Ok(true)
+        }
+        _ => Ok(false),
     }
 }
 
+/// The bytes of a ledger.
+pub fn digits_of(alloc: Global, ledger: &Ledger) -> Result<String, Fail> {
+    Ok(hex::encode(alloc, ledger.canonical(alloc)?.as_slice())?)
+}
+
+/// The profile of its number.
+pub fn profile_of(word: &str) -> Result<Profile, Fail> {
+    match word {
+        "2" => Ok(Profile::Two),
+        "3" => Ok(Profile::Three),
+        _ => Err("profiles are 2 and 3".into()),
+    }
+}
+
+fn header_of(words: &[&str]) -> Result<Header, Fail> {
+    Ok(Header {
+        profile: profile_of(word(words, 0)?)?,
+        round: number(words, 1)?,
+        latest_timestamp: number(words, 2)?,
+        min_fee: number(words, 3)?,
+        min_balance: number(words, 4)?,
+        max_life: number(words, 5)?,
+    })
+}
+
 /// Puts the ledger of these bytes in place of the one before.
-fn ledger_read(alloc: Global, ledger: &mut Ledger, digits: &str) -> io::Result<String> {
-    match Ledger::read(alloc, bytes_of(alloc, digits)?.as_slice()) {
+fn ledger_read(alloc: Global, bench: &mut Bench, words: &[&str]) -> Result<String, Fail> {
+    match Ledger::read(alloc, joined(alloc, &bench.programs, words)?.as_slice()) {
         Ok(read) => {
-            *ledger = read;
+            bench.ledger = read;
             Ok(String::from_str(alloc, "read")?)
         }
         Err(Failure::Fault(fault)) => Ok(format!(in alloc; "{fault:?}")?),
-        Err(Failure::Memory) => Err(io::Error::from(AllocError)),
+        Err(Failure::Memory) => Err("memory is refused".into()),
     }
 }
 
 /// A call's bytes read and written.
-fn call_data_again(alloc: Global, digits: &str) -> io::Result<String> {
-    match CallData::read(alloc, bytes_of(alloc, digits)?.as_slice()) {
+fn call_data_again(alloc: Global, bench: &Bench, words: &[&str]) -> Result<String, Fail> {
+    match CallData::read(alloc, joined(alloc, &bench.programs, words)?.as_slice()) {
         Ok(call) => {
             let mut bytes = Vec::new(alloc);
             call.encode_into(&mut bytes)?;
             Ok(hex::encode(alloc, bytes.as_slice())?)
         }
         Err(Failure::Fault(fault)) => Ok(format!(in alloc; "{fault:?}")?),
-        Err(Failure::Memory) => Err(io::Error::from(AllocError)),
+        Err(Failure::Memory) => Err("memory is refused".into()),
     }
 }
 
 /// A block's bytes read and written.
-fn block_again(alloc: Global, digits: &str) -> io::Result<String> {
-    match decode(alloc, bytes_of(alloc, digits)?.as_slice()) {
+fn block_again(alloc: Global, bench: &Bench, words: &[&str]) -> Result<String, Fail> {
+    match decode(alloc, joined(alloc, &bench.programs, words)?.as_slice()) {
         Ok(block) => Ok(hex::encode(alloc, encode(alloc, &block)?.as_slice())?),
         Err(Failure::Fault(fault)) => Ok(format!(in alloc; "{fault:?}")?),
-        Err(Failure::Memory) => Err(io::Error::from(AllocError)),
-    }
-}
-
-fn completion_of(word: &str) -> io::Result<Completion> {
-    match word {
-        "NoOp" => Ok(Completion::NoOp),
-        "OptIn" => Ok(Completion::OptIn),
-        "CloseOut" => Ok(Completion::CloseOut),
-        "ClearState" => Ok(Completion::ClearState),
-        "UpdateApplication" => Ok(Completion::UpdateApplication),
-        "DeleteApplication" => Ok(Completion::DeleteApplication),
-        _ => Err(io::Error::from(ErrorKind::InvalidInput)),
-    }
-}
-
-fn small(word: &str) -> io::Result<u8> {
-    match word.parse::<u8>() {
-        Ok(number) => Ok(number),
-        Err(_) => Err(io::Error::from(ErrorKind::InvalidInput)),
-    }
-}
-
-fn program_of(alloc: Global, word: Option<&str>) -> io::Result<ByteString> {
-    Ok(ByteString::from_vec(bytes_of(alloc, word.unwrap_or("-"))?))
-}
-
-fn schema_of(uints: Option<&str>, bytes: Option<&str>) -> io::Result<Schema> {
-    Ok(Schema {
-        uints: small(uints.unwrap_or("0"))?,
-        bytes: small(bytes.unwrap_or("0"))?,
-    })
-}
-
-fn arguments_of(alloc: Global, word: Option<&str>) -> io::Result<ByteStrings> {
-    let mut arguments = Vec::new(alloc);
-    if let Some(word) = word {
-        arguments.push(ByteString::from_slice(alloc, word.as_bytes())?)?;
-    }
-    Ok(ByteStrings::from_vec(arguments))
-}
-
-/// `ID COMPLETION APPROVAL CLEAR UINTS BYTES ARGUMENT`, of which the last may be left out: a call by the zero address, with
-/// a schema of the global state.
-fn fields_of(alloc: Global, rest: &str) -> io::Result<CallData> {
-    let mut words = rest.split_whitespace();
-    let application = number_of(words.next().unwrap_or("0"))? as u64;
-    let completion = completion_of(words.next().unwrap_or("NoOp"))?;
-    let approval = program_of(alloc, words.next())?;
-    let clear = program_of(alloc, words.next())?;
-    let global_schema = schema_of(words.next(), words.next())?;
-    Ok(CallData {
-        sender: NOBODY,
-        fee: 0,
-        first_valid: 0,
-        last_valid: 0,
-        note: ByteString::new(),
-        lease: [0; 32],
-        rekey_to: NOBODY,
-        application,
-        completion,
-        arguments: arguments_of(alloc, words.next())?,
-        accounts: Addresses::from_vec(Vec::new(alloc)),
-        foreign_applications: Uints::from_vec(Vec::new(alloc)),
-        approval,
-        clear,
-        global_schema,
-        local_schema: Schema { uints: 0, bytes: 0 },
-    })
-}
-
-fn checked(alloc: Global, fields: CallData) -> io::Result<Result<Call, CallFault>> {
-    match Call::check(alloc, fields) {
-        Ok(call) => Ok(Ok(call)),
-        Err((Failure::Fault(fault), _)) => Ok(Err(fault)),
-        Err((Failure::Memory, _)) => Err(io::Error::from(AllocError)),
+        Err(Failure::Memory) => Err("memory is refused".into()),
     }
 }
 
@@ -164,30 +162,73 @@ fn checked(alloc: Global, fields: CallData) -> io::Result<Result<Call, CallFault
 fn called(
     alloc: Global,
     ops: &OpSet,
-    ledger: &mut Ledger,
+    bench: &mut Bench,
     profile: Option<Profile>,
-    rest: &str,
-) -> io::Result<String>
+    words: &[&str],
+) -> Result<String, Fail>
     requires full { IsFull ⟦<BoxedOp as Op>⟧.opcode ops.now }
 {
-    match checked(alloc, fields_of(alloc, rest)?)? {
+    match call_or_fault(alloc, &bench.programs, words)? {
         Ok(call) => {
-            let profile = profile.unwrap_or(call.needs());
+            let header = bench.header(profile.unwrap_or(call.needs()));
             let mut spare = None;
-            let outcome = call_on(alloc, ledger, &call, &header(profile), ops, &mut spare)?;
-            Ok(format!(in alloc; "{outcome:?} {profile:?}")?)
+            let outcome = call_on(alloc, &mut bench.ledger, &call, &header, ops, &mut spare)?;
+            Ok(format!(in alloc; "{outcome:?} {:?}", header.profile)?)
         }
         Err(fault) => Ok(format!(in alloc; "{fault:?}")?),
     }
 }
 
-fn header(profile: Profile) -> Header {
-    Header {
-        profile,
-        round: 0,
-        latest_timestamp: 0,
-        min_fee: 0,
-        min_balance: 0,
-        max_life: 0,
+/// How many proper beginnings of bytes of a kind are truncated.
+fn beginnings(alloc: Global, bench: &Bench, words: &[&str]) -> Result<String, Fail> {
+    let Some((kind, words)) = words.split_first() else {
+        return Err("a kind is missing".into());
+    };
+    let bytes = joined(alloc, &bench.programs, words)?;
+    let len = bytes.len();
+    let mut truncated = 0usize;
+    for count in 0..len {
+        if is_truncated(alloc, kind, &bytes[..count]) {
+            truncated = truncated.saturating_add(1);
+        }
+    }
+    Ok(format!(in alloc; "{truncated} of {len} truncated")?)
+}
+
+fn is_truncated(alloc: Global, kind: &str, bytes: &[u8]) -> bool {
+    match kind {
+        "ledger" => matches!(
+            Ledger::read(alloc, bytes),
+            Err(Failure::Fault(LedgerFault::Truncated))
+        ),
+        "calldata" => matches!(
+            CallData::read(alloc, bytes),
+            Err(Failure::Fault(CallDataFault::Truncated))
+        ),
+        _ => matches!(
+            decode(alloc, bytes),
+            Err(Failure::Fault(BlockFault::Truncated))
+        ),
+    }
+}
+
+/// How many blocks that differ from these bytes in the lowest bit of one byte are refused.
+fn changed(alloc: Global, bench: &Bench, words: &[&str]) -> Result<String, Fail> {
+    let mut bytes = joined(alloc, &bench.programs, words)?;
+    let len = bytes.len();
+    let mut refused = 0usize;
+    for place in 0..len {
+        flip(&mut bytes, place);
+        if matches!(decode(alloc, bytes.as_slice()), Err(Failure::Fault(_))) {
+            refused = refused.saturating_add(1);
+        }
+        flip(&mut bytes, place);
+    }
+    Ok(format!(in alloc; "{refused} of {len} refused")?)
+}
+
+fn flip(bytes: &mut Vec<u8>, place: usize) {
+    if let Some(byte) = bytes.as_mut_slice().get_mut(place) {
+        *byte ^= 1;
     }
 }

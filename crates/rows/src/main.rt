@@ -5,27 +5,29 @@
 //! - `fail` has the reader fail where the input ends, and `interrupt` has it interrupted there;
 //! - `room NUMBER` has the writer fail behind so many bytes;
 //! - `$ WORDS` answers the words of a command line to the input, and begins anew;
+//! - `case NAME` prints the name of what follows;
 //! - the rows of `ledgers`, which make calls on a ledger and read and write bytes;
+//! - the rows of `blocks`, which make blocks of calls, and step through calls;
 //! - the rows of `texts`, which spell bytes as texts and read them.
 //! Others, as `# TEXT`, say nothing.
 #![tactic(auto)]
 
 ghost use Rattle.avm_ops.specs.Objects.{IsFull};
 
+mod blocks;
 mod ledgers;
 mod streams;
 mod texts;
 
+use crate::blocks::Blocks;
+use crate::ledgers::Bench;
 use crate::streams::{Input, Output};
-use avm_arith::ArithOp;
-use avm_flow_ops::FlowOp;
-use avm_ledger::Ledger;
 use avm_node::answer;
-use avm_ops::{BoxedOp, Op, OpSet, Ops};
-use avm_state_ops::StateOp;
+use avm_objects::filled_set;
+use avm_ops::{BoxedOp, Op, OpSet};
 use std::alloc::Global;
-use std::io::{self, ErrorKind};
-use teal_table::Opcode;
+use std::io::ErrorKind;
+use std::test::Fail;
 
 /// What the rows since the last command have said.
 #[derive(Drop)]
@@ -45,75 +47,119 @@ impl Row {
     }
 }
 
-fn main(rt: HostRuntime) -> io::Result<()> {
-    let alloc = rt.alloc();
-    let mut ops: OpSet = Ops::new(alloc)?;
-    for code in 0..256usize {
-        let Some(opcode) = Opcode::of(code as u8) else {
-            continue;
-        };
-        let op: Box<dyn Op> = if let Some(op) = ArithOp::of(opcode) {
-            Box::new(alloc, op)?
-        } else if let Some(op) = FlowOp::of(opcode) {
-            Box::new(alloc, op)?
-        } else if let Some(op) = StateOp::of(opcode) {
-            Box::new(alloc, op)?
-        } else {
-            continue;
-        };
-        if ops.push(BoxedOp { op }).is_err() {
-            return Err(io::Error::from(ErrorKind::Other));
-        }
-    }
+/// All that rows have said so far.
+#[derive(Drop)]
+struct Said {
+    row: Row,
+    bench: Bench,
+    blocks: Blocks,
+}
+
+fn main(rt: HostRuntime) -> Result<(), Fail> {
+    let ops = filled_set!(rt.alloc(), Err("memory is refused".into()));
     if ops.missing().is_some() {
-        return Err(io::Error::from(ErrorKind::Other));
+        return Err("an opcode has no object".into());
     }
     all_rows(&rt, &ops)
 }
 
-fn all_rows(rt: &HostRuntime, ops: &OpSet) -> io::Result<()>
+fn all_rows(rt: &HostRuntime, ops: &OpSet) -> Result<(), Fail>
     requires full { IsFull ⟦<BoxedOp as Op>⟧.opcode ops.now }
 {
     let alloc = rt.alloc();
-    let mut row = Row::new(alloc);
-    let mut ledger = Ledger::new(alloc);
+    let mut said = Said {
+        row: Row::new(alloc),
+        bench: Bench::new(alloc),
+        blocks: Blocks::new(alloc),
+    };
     for line in rt.lines(alloc) {
         let line = line?;
         let (head, rest) = line.as_str().split_once(' ').unwrap_or((line.as_str(), ""));
         if head == "$" {
             println!(rt; "{line}")?;
-            let (status, written) = answered(alloc, ops, rest, row)?;
-            match status {
-                Some(status) => println!(rt; "{written}= {status}")?,
-                None => println!(rt; "{written}= none")?,
-            }
-            row = Row::new(alloc);
-        } else if let Some(text) = ledgers::reply(alloc, ops, &mut ledger, head, rest)? {
+            let text = answered(alloc, ops, rest, &mut said.row)?;
+            println!(rt; "{text}")?;
+        } else if head == "case" {
+            println!(rt; "{line}")?;
+        } else if let Some(text) = reply(alloc, ops, &mut said, head, rest)? {
             println!(rt; "{line}\n= {text}")?;
-        } else if let Some(text) = texts::reply(alloc, head, rest)? {
-            println!(rt; "{line}\n= {text}")?;
-        } else {
-            add_to(alloc, &mut row, head, rest)?;
         }
     }
     Ok(())
 }
 
-/// The status and the text of a command, or no status where it is one that wants threads.
-fn answered(alloc: Global, ops: &OpSet, words: &str, row: Row) -> io::Result<(Option<u8>, String)>
+/// The answer to a row that has one of its own; other rows are done.
+fn reply(
+    alloc: Global,
+    ops: &OpSet,
+    said: &mut Said,
+    head: &str,
+    rest: &str,
+) -> Result<Option<String>, Fail>
+    requires full { IsFull ⟦<BoxedOp as Op>⟧.opcode ops.now }
+{
+    if let Some(text) = texts::reply(alloc, head, rest)? {
+        return Ok(Some(text));
+    }
+    if is_input(alloc, &mut said.row, head, rest)? {
+        return Ok(None);
+    }
+    let words: Vec<&str> = rest.split_whitespace().collect(alloc)?;
+    reply_to_words(alloc, ops, said, head, words.as_slice())
+}
+
+fn reply_to_words(
+    alloc: Global,
+    ops: &OpSet,
+    said: &mut Said,
+    head: &str,
+    words: &[&str],
+) -> Result<Option<String>, Fail>
+    requires full { IsFull ⟦<BoxedOp as Op>⟧.opcode ops.now }
+{
+    let bench = &mut said.bench;
+    if let Some(text) = ledgers::reply(alloc, ops, bench, &mut said.row.bytes, head, words)? {
+        return Ok(Some(text));
+    }
+    if let Some(text) = blocks::reply(alloc, ops, bench, &mut said.blocks, head, words)? {
+        return Ok(Some(text));
+    }
+    match head {
+        "queue" => said.blocks.queue(alloc, bench, words)?,
+        "+" => {
+            let line = said
+                .blocks
+                .line(alloc, bench, words.first().copied().unwrap_or(""))?;
+            said.row.bytes.extend_from_slice(line.as_bytes())?;
+            said.row.bytes.push(b'\n')?;
+        }
+        _ => {
+            let _is_set = ledgers::is_set(alloc, bench, head, words)?;
+        }
+    }
+    Ok(None)
+}
+
+/// The text of a command and, behind `=`, its status, or none where it is one that wants threads. The row begins anew.
+fn answered(alloc: Global, ops: &OpSet, words: &str, row: &mut Row) -> Result<String, Fail>
     requires full { IsFull ⟦<BoxedOp as Op>⟧.opcode ops.now }
 {
     let words: Vec<&str> = words.split_whitespace().collect(alloc)?;
     let mut input = Input::new(row.bytes.as_slice(), row.failure);
     let mut output = Output::new(alloc, row.room);
     let status = answer(alloc, words.as_slice(), &mut input, &mut output, ops);
-    match String::from_utf8(output.taken) {
-        Ok(text) => Ok((status, text)),
-        Err(_) => Err(io::Error::from(ErrorKind::InvalidData)),
+    *row = Row::new(alloc);
+    let Ok(text) = String::from_utf8(output.taken) else {
+        return Err("answers are text".into());
+    };
+    match status {
+        Some(status) => Ok(format!(in alloc; "{text}= {status}")?),
+        None => Ok(format!(in alloc; "{text}= none")?),
     }
 }
 
-fn add_to(alloc: Global, row: &mut Row, head: &str, rest: &str) -> io::Result<()> {
+/// Whether a row adds to the input of a command, or says what its streams do.
+fn is_input(alloc: Global, row: &mut Row, head: &str, rest: &str) -> Result<bool, Fail> {
     match head {
         "|" => {
             row.bytes.extend_from_slice(rest.as_bytes())?;
@@ -121,35 +167,21 @@ fn add_to(alloc: Global, row: &mut Row, head: &str, rest: &str) -> io::Result<()
         }
         "x" => row
             .bytes
-            .extend_from_slice(bytes_of(alloc, rest)?.as_slice())?,
+            .extend_from_slice(hex::decode(alloc, rest)?.as_slice())?,
         "*" => add_repeated(row, rest)?,
         "fail" => row.failure = Some(ErrorKind::Other),
         "interrupt" => row.failure = Some(ErrorKind::Interrupted),
-        "room" => row.room = number_of(rest)?,
-        _ => {}
+        "room" => row.room = rest.parse::<usize>()?,
+        _ => return Ok(false),
     }
-    Ok(())
+    Ok(true)
 }
 
-fn add_repeated(row: &mut Row, rest: &str) -> io::Result<()> {
+fn add_repeated(row: &mut Row, rest: &str) -> Result<(), Fail> {
     if let Some((number, text)) = rest.split_once(' ') {
-        for _time in 0..number_of(number)? {
+        for _time in 0..number.parse::<usize>()? {
             row.bytes.extend_from_slice(text.as_bytes())?;
         }
     }
     Ok(())
-}
-
-fn bytes_of(alloc: Global, digits: &str) -> io::Result<Vec<u8>> {
-    match hex::decode(alloc, digits) {
-        Ok(bytes) => Ok(bytes),
-        Err(_) => Err(io::Error::from(ErrorKind::InvalidInput)),
-    }
-}
-
-fn number_of(digits: &str) -> io::Result<usize> {
-    match digits.parse::<usize>() {
-        Ok(number) => Ok(number),
-        Err(_) => Err(io::Error::from(ErrorKind::InvalidInput)),
-    }
 }

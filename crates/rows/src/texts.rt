@@ -3,15 +3,15 @@
 //! - `base32_bytes TEXT` and `address TEXT` tell the bytes of a text in base32 and of an address, in digits behind `0x`;
 //! - `literal TOKEN` and `literal_of ENCODING TEXT` tell the bytes of a byte literal of one token and of two.
 
-use std::alloc::{AllocError, Global};
-use std::io;
+use std::alloc::Global;
+use std::test::Fail;
 use teal_text::byte_literal;
 use teal_value::{Address, Failure, address_of_text, address_text, base32_decode, base32_encode};
 
 const NOBODY: Address = Address([0; 32]);
 
 /// The answer to a row, or nothing where its head is none of these.
-pub fn reply(alloc: Global, head: &str, rest: &str) -> io::Result<Option<String>> {
+pub fn reply(alloc: Global, head: &str, rest: &str) -> Result<Option<String>, Fail> {
     match head {
         "base32" => Ok(Some(base32_encode(alloc, rest.as_bytes())?)),
         "nobody" => Ok(Some(address_text(alloc, &NOBODY)?)),
@@ -26,30 +26,30 @@ pub fn reply(alloc: Global, head: &str, rest: &str) -> io::Result<Option<String>
     }
 }
 
-fn base32_bytes(alloc: Global, text: &str) -> io::Result<String> {
+fn base32_bytes(alloc: Global, text: &str) -> Result<String, Fail> {
     match base32_decode(alloc, text) {
         Ok(bytes) => digits_of(alloc, bytes.as_slice()),
         Err(Failure::Fault(fault)) => Ok(format!(in alloc; "{fault}")?),
-        Err(Failure::Memory) => Err(io::Error::from(AllocError)),
+        Err(Failure::Memory) => Err("memory is refused".into()),
     }
 }
 
-fn address_bytes(alloc: Global, text: &str) -> io::Result<String> {
+fn address_bytes(alloc: Global, text: &str) -> Result<String, Fail> {
     match address_of_text(alloc, text) {
         Ok(address) => digits_of(alloc, &address.0),
         Err(Failure::Fault(fault)) => Ok(format!(in alloc; "{fault}")?),
-        Err(Failure::Memory) => Err(io::Error::from(AllocError)),
+        Err(Failure::Memory) => Err("memory is refused".into()),
     }
 }
 
-fn literal_bytes(alloc: Global, first: &str, second: Option<&str>) -> io::Result<String> {
+fn literal_bytes(alloc: Global, first: &str, second: Option<&str>) -> Result<String, Fail> {
     match byte_literal(alloc, first, second)? {
         Some(bytes) => digits_of(alloc, bytes.as_slice()),
         None => Ok(String::from_str(alloc, "none")?),
     }
 }
 
-fn digits_of(alloc: Global, bytes: &[u8]) -> io::Result<String> {
+fn digits_of(alloc: Global, bytes: &[u8]) -> Result<String, Fail> {
     let digits = hex::encode(alloc, bytes)?;
     Ok(format!(in alloc; "0x{digits}")?)
 }

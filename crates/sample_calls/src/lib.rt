@@ -1,12 +1,7 @@
-//! Calls and ledgers by rows of data, and what runs them, for the tests of more than one crate.
+//! What the rows of the test programs have in common: programs by name, which are assembled from their sources, calls by words, and
+//! bytes in pieces.
 #![tactic(auto)]
 
-pub mod bare;
-pub mod counted;
-pub mod numbers;
-pub mod random;
-pub mod rows;
-pub mod running;
-pub mod samples;
-mod sets;
-pub mod worked;
+pub mod calls;
+pub mod programs;
+pub mod words;

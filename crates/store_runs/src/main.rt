@@ -1,64 +1,83 @@
-//! Carries out calls, events of a store and readings one after another, and prints a line for each. Where memory ends in one, it
-//! prints `memory`, then whether all that is seen of the store is `as before`, and tries the same once more. So a run to which
-//! one growth is refused prints the lines of a run with ample memory, and those words between them; tests/refusals looks at that.
-//! The first word names the scenario; without one all are run.
+//! Carries out the rows of standard input, which are calls, events of a store or of a journal, and looks at them, and prints
+//! each row and, behind `=`, what came of it. The answers, which are worked out outside the program, are the crate's file stdout.
+//!
+//! All rows are read before the first is carried out. Where memory ends in a row, `memory` is printed, then whether all that is
+//! seen of the store is `as before`, and the row is tried once more. So a run to which one growth is refused prints the lines of
+//! a run with ample memory, and those words between them; tests/refusals looks at that, for rows of stores alone: of a journal
+//! nothing is compared.
+//!
+//! `script` says how rows read, `stores` and `journals` what they do.
 #![tactic(auto)]
 
 ghost use Rattle.avm_ops.specs.Objects.{IsFull};
 
-mod refused_reads;
-mod steps;
+mod journals;
+mod said;
+mod script;
+mod sealed;
 mod stores;
-mod values;
+mod texts;
 
-use avm_arith::ArithOp;
-use avm_flow_ops::FlowOp;
-use avm_ops::{BoxedOp, Op, OpSet, Ops};
-use avm_state_ops::StateOp;
-use sample_calls::full_set;
-use std::env;
+use crate::journals::Journals;
+use crate::said::{say, say_memory};
+use crate::script::{Row, Step, rows};
+use crate::stores::Stores;
+use avm_objects::filled_set;
+use avm_ops::{BoxedOp, Op, OpSet};
 use std::test::Fail;
-use teal_table::Opcode;
-
-/// The scenarios.
-const NAMES: [&str; 5] = ["values", "skew", "parts", "prunes", "marks"];
 
 fn main(rt: HostRuntime) -> Result<(), Fail> {
-    let ops = full_set!(rt.alloc());
-    run(&rt, &ops)
-}
-
-/// The scenario that the first word names, or all.
-fn run(rt: &HostRuntime, ops: &OpSet) -> Result<(), Fail>
-    requires full { IsFull ⟦<BoxedOp as Op>⟧.opcode ops.now }
-{
-    let words: Vec<String> = env::args(rt)?.skip(1).collect(rt.alloc())?;
-    match words.first() {
-        Some(name) => scenario(rt, ops, name.as_str()),
-        None => all_scenarios(rt, ops),
+    let ops = filled_set!(rt.alloc(), Err("memory is refused".into()));
+    if ops.missing().is_some() {
+        return Err("an opcode has no object".into());
     }
+    carry_out_all(&rt, &ops)
 }
 
-fn all_scenarios(rt: &HostRuntime, ops: &OpSet) -> Result<(), Fail>
+fn carry_out_all(rt: &HostRuntime, ops: &OpSet) -> Result<(), Fail>
     requires full { IsFull ⟦<BoxedOp as Op>⟧.opcode ops.now }
 {
-    for name in NAMES {
-        scenario(rt, ops, name)?;
+    let alloc = rt.alloc();
+    let rows = rows(rt)?;
+    let mut stores = Stores::new(alloc)?;
+    let mut journals = Journals::new(alloc);
+    for row in rows.as_slice() {
+        println!(rt; "{}", row.line)?;
+        carry_out(rt, ops, &mut stores, &mut journals, row)?;
     }
     Ok(())
 }
 
-/// One scenario, behind a line with its name.
-fn scenario(rt: &HostRuntime, ops: &OpSet, name: &str) -> Result<(), Fail>
+/// Carries out a row, at the second try if memory is refused in the first.
+fn carry_out(
+    rt: &HostRuntime,
+    ops: &OpSet,
+    stores: &mut Stores,
+    journals: &mut Journals,
+    row: &Row,
+) -> Result<(), Fail>
     requires full { IsFull ⟦<BoxedOp as Op>⟧.opcode ops.now }
 {
-    println!(rt; "{name}")?;
-    match name {
-        "values" => values::show_all(rt, ops),
-        "skew" => stores::skew(rt, ops),
-        "parts" => stores::parts(rt, ops),
-        "prunes" => stores::prunes(rt, ops),
-        "marks" => refused_reads::marks(rt, ops),
-        _ => Err("there is no such scenario".into()),
+    let alloc = rt.alloc();
+    for _time in 0..2 {
+        let before = stores.seen();
+        let said = match &row.step {
+            Step::Store(event) => stores.carry_out(alloc, ops, event),
+            Step::Journal(event) => journals.carry_out(alloc, ops, event),
+            Step::Told(text) => return say_text(rt, text),
+        };
+        match said {
+            Ok(said) => return say(rt, &said),
+            Err(_) => say_memory(rt, stores.is_as_before(alloc, &before, &row.step)?)?,
+        }
     }
+    Err("memory is refused twice".into())
+}
+
+/// The answer that is known from reading a row; a heading has none.
+fn say_text(rt: &HostRuntime, text: &Option<String>) -> Result<(), Fail> {
+    if let Some(text) = text {
+        println!(rt; "= {text}")?;
+    }
+    Ok(())
 }

@@ -1,90 +1,651 @@
-//! Calls of a store, by direct calls.
+//! Events of a store, and looks at it.
 
 ghost use Rattle.avm_ops.specs.Objects.{IsFull};
 
-use crate::steps::{Tried, attempted, ended, show_block, show_state};
+use crate::said::Said;
+use crate::script::Step;
+use crate::sealed::{block_text, replay_text};
+use crate::texts::{digits_of, entries_text, item_text, value_text};
+use avm_call::Call;
+use avm_debug::{Debugger, PastError, Source, state_of};
+use avm_items::Item;
+use avm_ledger::{Header, Ledger};
 use avm_ops::{BoxedOp, Op, OpSet};
-use mv_core::Store;
-use sample_calls::rows::{HEADER, PLAIN, Row, Y, calls_of, ledger_of};
-use sample_calls::worked::{SKEW, SKEW_CALLS};
-use std::alloc::Global;
+use avm_run::{Advance, CallRun, Finished, call_plain};
+use mv_core::{CommitFault, Event, ReadFault, Store, Ticket, Worker, World, run_events};
+use mv_parts::{BeginFault, Sealed};
+use sample_calls::calls::HEADER;
+use std::alloc::{AllocError, Global};
 use std::sync::Arc;
 use std::test::Fail;
+use teal_value::{Address, Failure, StateKey};
 
-/// Application 1 puts 7 under `v` of the sender, of the call's account and of its own state, where 1 stands:
-/// `int 0; byte "v"; int 7; app_local_put; int 1; byte "v"; int 7; app_local_put; byte "v"; int 7; app_global_put; int 7`.
-/// X and Y are in, with empty states.
-const THREE: &str =
-    "0000000000000002000000010000000000000001000000000000000000000000000000000000000000000000000000000000000000160220030001072601017622282466232824662824672400050220010122010001000101760100000000000000010000000201010101010101010101010101010101010101010101010101010101010101010000000000000001000202020202020202020202020202020202020202020202020202020202020202000000000000000100";
+/// A ledger and calls.
+#[derive(Drop)]
+pub struct Stored {
+    pub base: Ledger,
+    pub calls: Arc<Vec<Call>>,
+}
 
-/// A call by X, with the account Y.
-const ONE_CALL: [Row; 1] = [Row {
-    account: Y,
-    ..PLAIN
-}];
+/// What a row does with a store. A call that has ended has a name.
+#[derive(Drop)]
+pub enum StoreEvent {
+    Open(Stored),
+    /// One call on the ledger.
+    Plain(Stored),
+    /// A store after events of eight workers.
+    Events(Stored, Vec<Event>),
+    Begin(u32),
+    Read(Ticket, Item),
+    /// A read to which memory may be refused, but which must then leave no mark: the call of the name commits, though its
+    /// timestamp is below. What is read isn't told: at a second try it is what that call wrote.
+    Unmarked(Ticket, String, Item),
+    /// Reads all that the call of a ticket asks for, and names its end.
+    Run(Ticket, String),
+    Commit(Ticket, String),
+    Abandon(Ticket),
+    Prune(u64),
+    Versions(Item),
+    /// The ledger of a timestamp.
+    State(u64),
+    /// An entry's program after so many steps.
+    Debug(usize, usize),
+    /// The ledger of a timestamp, by the debugger of an entry, or by none if that is 0.
+    Past(usize, u64),
+    Entries,
+    /// Whether the store is of its ledger, header and calls, and of another header, no calls and the empty ledger.
+    IsOf,
+    Seal,
+    /// The sealed block, and its numbers.
+    Block,
+    /// A replay of it.
+    Replay,
+}
 
-/// A store of the calls of rows, over the ledger of these digits.
-pub fn store_of(alloc: Global, digits: &str, rows: &[Row]) -> Result<Store, Fail> {
-    let calls = Arc::new(alloc, calls_of(alloc, rows)?)?;
-    match Store::open(alloc, ledger_of(alloc, digits)?, HEADER, calls) {
-        Ok(store) => Ok(store),
-        Err(_) => Err("few calls make a store".into()),
+/// A call that has ended, under a name; none once it is committed.
+#[derive(Drop)]
+struct Ended {
+    name: String,
+    finished: Option<Finished>,
+}
+
+/// The store of the rows so far.
+#[derive(Drop)]
+pub struct Stores {
+    stored: Stored,
+    store: Option<Store>,
+    ended: Vec<Ended>,
+    sealed: Option<Sealed>,
+}
+
+/// What shows of a store: its committed calls, its low mark, and the versions of the local states of X and Y, of
+/// application 1, and of its key `v`.
+#[derive(Clone, Copy, PartialEq, Eq)]
+pub struct Seen {
+    entries: usize,
+    low: u64,
+    versions: [usize; 4],
+}
+
+const NOTHING: Seen = Seen {
+    entries: 0,
+    low: 0,
+    versions: [0; 4],
+};
+
+const X: Address = Address([1; 32]);
+
+const Y: Address = Address([2; 32]);
+
+fn seen_of(store: &Store) -> Seen {
+    let key = match StateKey::of(b"v") {
+        Some(key) => store.versions(&Item::Key(1, key)),
+        None => 0,
+    };
+    Seen {
+        entries: store.entries().len(),
+        low: store.low(),
+        versions: [
+            store.versions(&Item::Local(X, 1)),
+            store.versions(&Item::Local(Y, 1)),
+            store.versions(&Item::App(1)),
+            key,
+        ],
     }
 }
 
-/// Both calls have read before either ends.
-fn both(rt: &HostRuntime, ops: &OpSet, store: &mut Store) -> Result<(), Fail>
-    requires full { IsFull ⟦<BoxedOp as Op>⟧.opcode ops.now }
-{
-    let first = attempted(rt, ops, store, 1)?;
-    let second = attempted(rt, ops, store, 2)?;
-    both_end(rt, store, first, second)
+/// Whether a ticket's attempt is live: its call does not begin, and no ticket of another timestamp reads.
+fn is_live(store: &mut Store, ticket: &Ticket) -> bool {
+    let other = Ticket {
+        number: ticket.number,
+        timestamp: ticket.timestamp.saturating_add(1),
+    };
+    matches!(
+        store.begin(ticket.number),
+        Err(Failure::Fault(BeginFault::Taken))
+    ) && matches!(
+        store.read(&other, Item::NextApp),
+        Err(Failure::Fault(ReadFault::Unknown))
+    )
 }
 
-fn both_end(rt: &HostRuntime, store: &mut Store, first: Tried, second: Tried) -> Result<(), Fail> {
-    ended(rt, store, first)?;
-    ended(rt, store, second)
+/// The call of a name that has ended.
+fn named<'a>(ended: &'a mut [Ended], name: &str) -> Option<&'a mut Ended> {
+    for one in ended {
+        if one.name.as_str() == name {
+            return Some(one);
+        }
+    }
+    None
 }
 
-/// Two calls have read what the other writes; the one at the lower timestamp is late, and comes after the other.
-pub fn skew(rt: &HostRuntime, ops: &OpSet) -> Result<(), Fail>
-    requires full { IsFull ⟦<BoxedOp as Op>⟧.opcode ops.now }
-{
-    let mut store = store_of(rt.alloc(), SKEW, &SKEW_CALLS)?;
-    both(rt, ops, &mut store)?;
-    one_call(rt, ops, &mut store, 1)?;
-    show_state(rt, &store, 2)?;
-    show_state(rt, &store, 3)?;
-    show_block(rt, store)
+impl Stores {
+    /// No store.
+    pub fn new(alloc: Global) -> Result<Stores, AllocError> {
+        let stored = Stored {
+            base: Ledger::new(alloc),
+            calls: Arc::new(alloc, Vec::new(alloc))?,
+        };
+        Ok(Stores {
+            stored,
+            store: None,
+            ended: Vec::new(alloc),
+            sealed: None,
+        })
+    }
+
+    /// What shows of the store.
+    pub fn seen(&self) -> Seen {
+        match &self.store {
+            Some(store) => seen_of(store),
+            None => NOTHING,
+        }
+    }
+
+    /// Whether all is as before a step to which memory was refused.
+    pub fn is_as_before(
+        &mut self,
+        alloc: Global,
+        before: &Seen,
+        step: &Step,
+    ) -> Result<bool, Fail> {
+        if let Step::Store(StoreEvent::Unmarked(_ticket, name, _item)) = step {
+            return self.is_in_time(alloc, name.as_str());
+        }
+        let same = self.seen() == *before;
+        let ticket = match step {
+            Step::Store(StoreEvent::Run(ticket, _name)) => ticket,
+            Step::Store(StoreEvent::Commit(ticket, _name)) => ticket,
+            _ => return Ok(same),
+        };
+        match &mut self.store {
+            Some(store) => Ok(same && is_live(store, ticket)),
+            None => Ok(same),
+        }
+    }
+
+    /// Whether the call of a name, which call 1 is, commits at timestamp 1.
+    fn is_in_time(&mut self, alloc: Global, name: &str) -> Result<bool, Fail> {
+        let ticket = Ticket {
+            number: 1,
+            timestamp: 1,
+        };
+        match self.commit(alloc, &ticket, name) {
+            Ok(Said::Commits(_timestamp)) => Ok(true),
+            Ok(_) => Ok(false),
+            Err(_) => Err("memory is refused twice".into()),
+        }
+    }
+
+    /// Does what a row says, or nothing where memory is refused in it.
+    pub fn carry_out(
+        &mut self,
+        alloc: Global,
+        ops: &OpSet,
+        event: &StoreEvent,
+    ) -> Result<Said, AllocError>
+        requires full { IsFull ⟦<BoxedOp as Op>⟧.opcode ops.now }
+    {
+        match event {
+            StoreEvent::Open(stored) => self.open(alloc, stored),
+            StoreEvent::Plain(stored) => plain(alloc, ops, stored),
+            StoreEvent::Events(stored, events) => self.run_events(alloc, ops, stored, events),
+            StoreEvent::Run(ticket, name) => self.run(alloc, ops, ticket, name.as_str()),
+            StoreEvent::Commit(ticket, name) => self.commit(alloc, ticket, name.as_str()),
+            StoreEvent::IsOf => self.is_of(alloc),
+            StoreEvent::Seal => self.seal(alloc),
+            StoreEvent::Block => block_text(alloc, &self.sealed),
+            StoreEvent::Replay => replay_text(alloc, ops, &self.stored.base, &self.sealed),
+            _ => match &mut self.store {
+                Some(store) => on_store(alloc, ops, store, event),
+                None => Ok(Said::Word("no store")),
+            },
+        }
+    }
+
+    fn open(&mut self, alloc: Global, stored: &Stored) -> Result<Said, AllocError> {
+        self.stored = stored.copied()?;
+        let Stored { base, calls } = stored.copied()?;
+        match Store::open(alloc, base, HEADER, calls) {
+            Ok(store) => {
+                self.store = Some(store);
+                Ok(Said::Word("opened"))
+            }
+            Err(Failure::Fault(fault)) => Ok(Said::Text(format!(in alloc; "{fault:?}")?)),
+            Err(Failure::Memory) => Err(AllocError),
+        }
+    }
+
+    fn run_events(
+        &mut self,
+        alloc: Global,
+        ops: &OpSet,
+        stored: &Stored,
+        events: &[Event],
+    ) -> Result<Said, AllocError>
+        requires full { IsFull ⟦<BoxedOp as Op>⟧.opcode ops.now }
+    {
+        self.stored = stored.copied()?;
+        let World { store, workers } = world_after(alloc, ops, stored, events)?;
+        let said = self.keep_workers(alloc, workers)?;
+        self.store = Some(store);
+        Ok(said)
+    }
+
+    /// What each worker does. Where its call has ended, that is named by the worker: `w0`.
+    fn keep_workers(
+        &mut self,
+        alloc: Global,
+        mut workers: Vec<Worker>,
+    ) -> Result<Said, AllocError> {
+        let mut text = String::new(alloc);
+        workers.reverse();
+        for number in 0..workers.len() {
+            let Some(worker) = workers.pop() else {
+                break;
+            };
+            text.push_str(worker_text(alloc, &worker)?.as_str())?;
+            self.keep_worker(alloc, number, worker)?;
+        }
+        Ok(Said::Text(text))
+    }
+
+    fn keep_worker(
+        &mut self,
+        alloc: Global,
+        number: usize,
+        worker: Worker,
+    ) -> Result<(), AllocError> {
+        match worker {
+            Worker::Finished {
+                ticket: _,
+                finished,
+            } => { self.keep(format!(in alloc; "w{number}")?, finished) }
+            _ => Ok(()),
+        }
+    }
+
+    /// Keeps the end of a call under a name.
+    fn keep(&mut self, name: String, finished: Finished) -> Result<(), AllocError> {
+        if let Some(one) = named(self.ended.as_mut_slice(), name.as_str()) {
+            one.finished = Some(finished);
+            return Ok(());
+        }
+        self.ended.push(Ended {
+            name,
+            finished: Some(finished),
+        })?;
+        Ok(())
+    }
+
+    fn run(
+        &mut self,
+        alloc: Global,
+        ops: &OpSet,
+        ticket: &Ticket,
+        name: &str,
+    ) -> Result<Said, AllocError>
+        requires full { IsFull ⟦<BoxedOp as Op>⟧.opcode ops.now }
+    {
+        let Some(store) = &mut self.store else {
+            return Ok(Said::Word("no store"));
+        };
+        match finished(alloc, ops, store, ticket)? {
+            Some(finished) => {
+                let said = Said::Ends(finished.outcome(), finished.reads().len());
+                self.keep(String::from_str(alloc, name)?, finished)?;
+                Ok(said)
+            }
+            None => Ok(Said::Word("no end")),
+        }
+    }
+
+    fn commit(&mut self, alloc: Global, ticket: &Ticket, name: &str) -> Result<Said, AllocError> {
+        let Some(store) = &mut self.store else {
+            return Ok(Said::Word("no store"));
+        };
+        let Some(ended) = named(self.ended.as_mut_slice(), name) else {
+            return Ok(Said::Word("no such end"));
+        };
+        commit(alloc, store, ticket, ended)
+    }
+
+    fn is_of(&self, alloc: Global) -> Result<Said, AllocError> {
+        let Some(store) = &self.store else {
+            return Ok(Said::Word("no store"));
+        };
+        let base = &self.stored.base;
+        let calls = self.stored.calls.as_slice();
+        let later = Header { round: 1, ..HEADER };
+        let own = store.is_of(base, &HEADER, calls);
+        let of_later = store.is_of(base, &later, calls);
+        let of_none = store.is_of(base, &HEADER, &[]);
+        let of_other = store.is_of(&other_ledger(alloc), &HEADER, calls);
+        Ok(Said::Text(format!(in alloc;
+            "own {own}, header {of_later}, calls {of_none}, ledger {of_other}"
+        )?))
+    }
+
+    fn seal(&mut self, alloc: Global) -> Result<Said, AllocError> {
+        let Some(store) = self.store.take() else {
+            return Ok(Said::Word("no store"));
+        };
+        match store.seal(alloc) {
+            Ok(sealed) => {
+                self.sealed = Some(sealed);
+                Ok(Said::Word("sealed"))
+            }
+            Err(refused) => {
+                self.store = Some(refused.store);
+                match refused.error {
+                    Failure::Fault(fault) => Ok(Said::Word(fault.name())),
+                    Failure::Memory => Err(AllocError),
+                }
+            }
+        }
+    }
 }
 
-/// A call begins, reads and is committed.
-fn one_call(rt: &HostRuntime, ops: &OpSet, store: &mut Store, number: u32) -> Result<(), Fail>
-    requires full { IsFull ⟦<BoxedOp as Op>⟧.opcode ops.now }
-{
-    let tried = attempted(rt, ops, store, number)?;
-    ended(rt, store, tried)
+impl Stored {
+    /// The same ledger and calls.
+    pub fn copied(&self) -> Result<Stored, AllocError> {
+        Ok(Stored {
+            base: self.base.clone()?,
+            calls: Arc::try_clone(&self.calls)?,
+        })
+    }
 }
 
-/// One commit that writes to three shards.
-pub fn parts(rt: &HostRuntime, ops: &OpSet) -> Result<(), Fail>
-    requires full { IsFull ⟦<BoxedOp as Op>⟧.opcode ops.now }
-{
-    let mut store = store_of(rt.alloc(), THREE, &ONE_CALL)?;
-    one_call(rt, ops, &mut store, 1)?;
-    show_state(rt, &store, 1)?;
-    show_block(rt, store)
+/// The empty ledger with another next id.
+pub fn other_ledger(alloc: Global) -> Ledger {
+    let mut other = Ledger::new(alloc).open();
+    other.set_next_id(9);
+    other.close()
 }
 
-/// One call after the other, with a prune between them and one at the end, which take no memory.
-pub fn prunes(rt: &HostRuntime, ops: &OpSet) -> Result<(), Fail>
+fn plain(alloc: Global, ops: &OpSet, stored: &Stored) -> Result<Said, AllocError>
     requires full { IsFull ⟦<BoxedOp as Op>⟧.opcode ops.now }
 {
-    let mut store = store_of(rt.alloc(), SKEW, &SKEW_CALLS)?;
-    one_call(rt, ops, &mut store, 1)?;
-    store.prune(9);
-    one_call(rt, ops, &mut store, 2)?;
-    store.prune(9);
-    println!(rt; "low {}", store.low())?;
-    show_state(rt, &store, 2)
+    match stored.calls.first() {
+        Some(call) => {
+            let (outcome, after) = call_plain(alloc, &stored.base, call, &HEADER, ops)?;
+            let digits = digits_of(alloc, &after)?;
+            Ok(Said::Text(format!(in alloc; "{outcome:?} {digits}")?))
+        }
+        None => Ok(Said::Word("no call")),
+    }
+}
+
+fn world_after(
+    alloc: Global,
+    ops: &OpSet,
+    stored: &Stored,
+    events: &[Event],
+) -> Result<World, AllocError>
+    requires full { IsFull ⟦<BoxedOp as Op>⟧.opcode ops.now }
+{
+    let Stored { base, calls } = stored.copied()?;
+    // That a store is opened says that there are few calls, each of the header's profile.
+    match Store::open(alloc, base.clone()?, HEADER, Arc::try_clone(&calls)?) {
+        Ok(_store) => run_events(alloc, base, HEADER, calls, ops, events),
+        Err(_) => Err(AllocError),
+    }
+}
+
+fn worker_text(alloc: Global, worker: &Worker) -> Result<String, AllocError> {
+    match worker {
+        Worker::Idle => String::from_str(alloc, " idle"),
+        Worker::Running {
+            ticket,
+            run: _run,
+            asks,
+        } => {
+            let asks = item_text(alloc, asks)?;
+            format!(in alloc;
+                " [call {} at {} asks for {asks}]",
+                ticket.number, ticket.timestamp
+            )
+        }
+        Worker::Finished {
+            ticket,
+            finished: _finished,
+        } => format!(in alloc;
+            " [call {} at {} has ended]",
+            ticket.number, ticket.timestamp
+        ),
+    }
+}
+
+/// Runs a call to its end, over what its live attempt reads; none where it is not live.
+fn finished(
+    alloc: Global,
+    ops: &OpSet,
+    store: &mut Store,
+    ticket: &Ticket,
+) -> Result<Option<Finished>, AllocError>
+    requires full { IsFull ⟦<BoxedOp as Op>⟧.opcode ops.now }
+{
+    let mut run = match store.call(ticket.number) {
+        Some(call) => CallRun::start(alloc, call, &HEADER, None)?,
+        None => return Ok(None),
+    };
+    for _item in 0..16 {
+        match run.advance(alloc, ops) {
+            Ok(Advance::Done(finished)) => return Ok(Some(finished)),
+            Ok(Advance::Need(item)) => {
+                if !is_supplied(store, ticket, &mut run, item)? {
+                    return Ok(None);
+                }
+            }
+            Err(_) => return Err(AllocError),
+        }
+    }
+    Ok(None)
+}
+
+fn is_supplied(
+    store: &mut Store,
+    ticket: &Ticket,
+    run: &mut CallRun,
+    item: Item,
+) -> Result<bool, AllocError> {
+    match store.read(ticket, item.copied()) {
+        Ok(value) => match run.supply(item, value) {
+            Ok(()) => Ok(true),
+            Err(_) => Err(AllocError),
+        },
+        Err(Failure::Fault(_unknown)) => Ok(false),
+        Err(Failure::Memory) => Err(AllocError),
+    }
+}
+
+/// Commits an end by a ticket. What is refused is kept.
+fn commit(
+    alloc: Global,
+    store: &mut Store,
+    ticket: &Ticket,
+    ended: &mut Ended,
+) -> Result<Said, AllocError> {
+    let Some(finished) = ended.finished.take() else {
+        return Ok(Said::Word("no such end"));
+    };
+    match store.commit(ticket, finished) {
+        Ok(timestamp) => Ok(Said::Commits(timestamp)),
+        Err(refused) => {
+            ended.finished = Some(refused.finished);
+            match refused.error {
+                Failure::Fault(fault) => commit_refusal(alloc, &fault),
+                Failure::Memory => Err(AllocError),
+            }
+        }
+    }
+}
+
+fn commit_refusal(alloc: Global, fault: &CommitFault) -> Result<Said, AllocError> {
+    match fault {
+        CommitFault::Late {
+            item,
+            version,
+            mark,
+        } => {
+            let item = item_text(alloc, item)?;
+            Ok(Said::Text(format!(in alloc; "late: {item} version {version} mark {mark}")?))
+        }
+        _ => Ok(Said::Word(fault.name())),
+    }
+}
+
+/// An event of the store alone, or a look.
+fn on_store(
+    alloc: Global,
+    ops: &OpSet,
+    store: &mut Store,
+    event: &StoreEvent,
+) -> Result<Said, AllocError>
+    requires full { IsFull ⟦<BoxedOp as Op>⟧.opcode ops.now }
+{
+    match event {
+        StoreEvent::Begin(number) => begin(store, *number),
+        StoreEvent::Read(ticket, item) => read(alloc, store, ticket, item),
+        StoreEvent::Unmarked(ticket, _name, item) => reads(store, ticket, item),
+        StoreEvent::Abandon(ticket) => match store.abandon(ticket) {
+            Ok(()) => Ok(Said::Word("abandoned")),
+            Err(fault) => Ok(Said::Word(fault.name())),
+        },
+        StoreEvent::Prune(timestamp) => {
+            store.prune(*timestamp);
+            Ok(Said::Low(store.low()))
+        }
+        StoreEvent::Versions(item) => {
+            Ok(Said::Text(format!(in alloc; "{}", store.versions(item))?))
+        }
+        StoreEvent::Entries => Ok(Said::Text(entries_text(alloc, store.entries())?)),
+        StoreEvent::State(timestamp) => match store.state_at(alloc, *timestamp) {
+            Ok(ledger) => Ok(Said::Text(digits_of(alloc, &ledger)?)),
+            Err(Failure::Fault(fault)) => Ok(Said::Word(fault.name())),
+            Err(Failure::Memory) => Err(AllocError),
+        },
+        StoreEvent::Debug(entry, steps) => debug(alloc, ops, store, *entry, *steps),
+        StoreEvent::Past(entry, timestamp) => past(alloc, ops, store, *entry, *timestamp),
+        _ => Ok(Said::Word("no event of a store")),
+    }
+}
+
+fn begin(store: &mut Store, number: u32) -> Result<Said, AllocError> {
+    match store.begin(number) {
+        Ok(ticket) => Ok(Said::Begins(ticket.timestamp)),
+        Err(Failure::Fault(fault)) => Ok(Said::Word(fault.name())),
+        Err(Failure::Memory) => Err(AllocError),
+    }
+}
+
+fn read(
+    alloc: Global,
+    store: &mut Store,
+    ticket: &Ticket,
+    item: &Item,
+) -> Result<Said, AllocError> {
+    match store.read(ticket, item.copied()) {
+        Ok(value) => Ok(Said::Text(value_text(alloc, &value)?)),
+        Err(Failure::Fault(fault)) => Ok(Said::Word(fault.name())),
+        Err(Failure::Memory) => Err(AllocError),
+    }
+}
+
+/// A read that is told without a growth of memory, since none comes behind its mark.
+fn reads(store: &mut Store, ticket: &Ticket, item: &Item) -> Result<Said, AllocError> {
+    match store.read(ticket, item.copied()) {
+        Ok(_value) => Ok(Said::Word("reads")),
+        Err(Failure::Fault(fault)) => Ok(Said::Word(fault.name())),
+        Err(Failure::Memory) => Err(AllocError),
+    }
+}
+
+/// Where the program of a committed call stands after so many steps.
+fn debug(
+    alloc: Global,
+    ops: &OpSet,
+    store: &Store,
+    entry: usize,
+    steps: usize,
+) -> Result<Said, AllocError>
+    requires full { IsFull ⟦<BoxedOp as Op>⟧.opcode ops.now }
+{
+    match Debugger::open(alloc, Source::Live(store), entry, ops) {
+        Ok(debugger) => {
+            let mut debugger = debugger;
+            place_after(alloc, ops, &mut debugger, steps)
+        }
+        Err(Failure::Fault(fault)) => Ok(Said::Word(fault.name())),
+        Err(Failure::Memory) => Err(AllocError),
+    }
+}
+
+fn place_after(
+    alloc: Global,
+    ops: &OpSet,
+    debugger: &mut Debugger<'_>,
+    steps: usize,
+) -> Result<Said, AllocError>
+    requires full { IsFull ⟦<BoxedOp as Op>⟧.opcode ops.now }
+{
+    for _step in 0..steps {
+        match debugger.step(alloc, ops) {
+            Ok(()) => {}
+            Err(Failure::Fault(fault)) => return Ok(Said::Word(fault.name())),
+            Err(Failure::Memory) => return Err(AllocError),
+        }
+    }
+    match debugger.view(alloc) {
+        Ok(view) => Ok(Said::Text(format!(in alloc; "place {}", view.place)?)),
+        Err(_) => Err(AllocError),
+    }
+}
+
+/// The ledger of a timestamp, by the debugger of an entry, or by none.
+fn past(
+    alloc: Global,
+    ops: &OpSet,
+    store: &Store,
+    entry: usize,
+    timestamp: u64,
+) -> Result<Said, AllocError>
+    requires full { IsFull ⟦<BoxedOp as Op>⟧.opcode ops.now }
+{
+    if entry == 0 {
+        return past_text(alloc, state_of(alloc, Source::Live(store), timestamp, ops));
+    }
+    match Debugger::open(alloc, Source::Live(store), entry, ops) {
+        Ok(debugger) => past_text(alloc, debugger.state(alloc, timestamp, ops)),
+        Err(Failure::Fault(fault)) => Ok(Said::Word(fault.name())),
+        Err(Failure::Memory) => Err(AllocError),
+    }
+}
+
+fn past_text(alloc: Global, past: Result<Ledger, PastError>) -> Result<Said, AllocError> {
+    match past {
+        Ok(ledger) => Ok(Said::Text(digits_of(alloc, &ledger)?)),
+        Err(Failure::Fault(fault)) => Ok(Said::Word(fault.name())),
+        Err(Failure::Memory) => Err(AllocError),
+    }
 }

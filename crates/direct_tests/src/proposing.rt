@@ -1,0 +1,134 @@
+//! Whether calls are proposed as a case says.
+
+ghost use Rattle.std.specs.Prelude.{◌≡◌};
+ghost use Rattle.avm_ops.specs.Objects.{IsFull};
+
+use crate::cases::Case;
+use crate::data::{bytes_of, calls_of, ledger_of, programs, stand_once};
+use crate::script::Script;
+use avm_block::{Block, encode};
+use avm_call::Call;
+use avm_ledger::{Header, Ledger};
+use avm_ops::{BoxedOp, Op, OpSet};
+use avm_pool::{Gate, Proposal, propose};
+use avm_replay::{Verdict, replay};
+use sample_calls::calls::HEADER;
+use sample_calls::programs::Programs;
+use std::alloc::Global;
+use std::sync::Wait;
+use std::test::Fail;
+use std::thread::Threads;
+
+/// Calls that are proposed whole: none is left, and the number of each stands once.
+pub fn proposed<G: Gate, R: Threads + Wait + Sync>(
+    rt: &R,
+    alloc: Global,
+    base: &Ledger,
+    header: &Header,
+    calls: Vec<Call>,
+    sets: Vec<OpSet>,
+    own: &OpSet,
+    gate: &G,
+) -> Result<Block, Fail> {
+    let count = calls.len();
+    match propose(rt, alloc, base, header, calls, sets, own, gate) {
+        Ok(proposal) => {
+            let Proposal {
+                block,
+                numbers,
+                left,
+            } = proposal;
+            if !left.is_empty() {
+                return Err("a call is left".into());
+            }
+            let is_whole = numbers.len() == count && block.entries().len() == count;
+            if !is_whole || !stand_once(alloc, &numbers, count)? {
+                return Err("each call is in the block, once".into());
+            }
+            Ok(block)
+        }
+        Err(_) => Err("the calls are proposed".into()),
+    }
+}
+
+/// The bytes of the ledger after a block, where it replays.
+pub fn replayed(alloc: Global, base: &Ledger, block: &Block, ops: &OpSet) -> Result<Vec<u8>, Fail>
+    requires full { IsFull ⟦<BoxedOp as Op>⟧.opcode ops.now }
+{
+    match replay(alloc, base, block, ops)? {
+        Verdict::Agrees(after) => Ok(after.canonical(alloc)?),
+        _ => Err("the block replays".into()),
+    }
+}
+
+/// Whether a block has these timestamps, or any where none are given.
+fn has_timestamps(block: &Block, timestamps: &[u64]) -> bool {
+    if timestamps.is_empty() {
+        return true;
+    }
+    for (entry, timestamp) in block.entries().iter().zip(timestamps.iter()) {
+        if entry.timestamp != *timestamp {
+            return false;
+        }
+    }
+    block.entries().len() == timestamps.len()
+}
+
+/// Whether a block has these bytes, or any where none are given.
+fn has_bytes(alloc: Global, block: &Block, digits: &str) -> Result<bool, Fail> {
+    Ok(
+        digits.is_empty()
+            || encode(alloc, block)?.as_slice() == hex::decode(alloc, digits)?.as_slice(),
+    )
+}
+
+/// What differs from the case, if something does.
+pub fn wrong<R: Threads + Wait + Sync>(
+    rt: &R,
+    alloc: Global,
+    case: &Case,
+    sets: Vec<OpSet>,
+    own: &OpSet,
+) -> Result<Option<&'static str>, Fail>
+    requires full { IsFull ⟦<BoxedOp as Op>⟧.opcode own.now }
+{
+    let programs = programs(alloc)?;
+    let base = ledger_of(alloc, &programs, case.base)?;
+    let header = Header {
+        profile: case.profile,
+        ..HEADER
+    };
+    let calls = calls_of(alloc, &programs, case.calls, case.times)?;
+    let gate = Script::new(alloc, case.holds, calls.len())?;
+    let block = proposed(rt, alloc, &base, &header, calls, sets, own, &gate)?;
+    if !gate.is_passed() {
+        return Ok(Some("someone waited in vain, or a call was not committed once"));
+    }
+    if case.first && !gate.is_first() {
+        return Ok(Some("a call was made again"));
+    }
+    if !has_timestamps(&block, case.timestamps) {
+        return Ok(Some("the timestamps"));
+    }
+    if !has_bytes(alloc, &block, case.block)? {
+        return Ok(Some("the block's bytes"));
+    }
+    let after = replayed(alloc, &base, &block, own)?;
+    if !is_one_of(alloc, &programs, after.as_slice(), &case.after)? {
+        return Ok(Some("the ledger after"));
+    }
+    Ok(None)
+}
+
+/// Whether bytes are one of these two, in pieces.
+fn is_one_of(
+    alloc: Global,
+    programs: &Programs,
+    bytes: &[u8],
+    wanted: &[&str; 2],
+) -> Result<bool, Fail> {
+    Ok(
+        bytes_of(alloc, programs, wanted[0])?.as_slice() == bytes
+            || bytes_of(alloc, programs, wanted[1])?.as_slice() == bytes,
+    )
+}

@@ -1,0 +1,186 @@
+//! How rows read.
+//!
+//! - `# TEXT` is a heading. `| TEXT` adds a line to a source, which `program NAME` assembles; it tells the bytes.
+//! - `ledger PIECES` puts a ledger in place, which it tells whole, and `call WORDS` adds a call by the words of `sample_calls`.
+//! - `plain` makes the one call on the ledger, and tells the outcome and the ledger after.
+//! - `open` opens a store over the ledger, for the calls, `parts` a journal with its shards; the calls are then gone.
+//! - Rows that begin with `journal` are events of the journal, all others are of the store.
+
+use crate::journals::JournalEvent;
+use crate::stores::{StoreEvent, Stored};
+use avm_call::Call;
+use avm_ledger::Ledger;
+use mv_core::{Event, Ticket};
+use sample_calls::calls::call;
+use sample_calls::programs::Programs;
+use sample_calls::words::{call_number, item, joined, number, word};
+use std::alloc::Global;
+use std::mem;
+use std::sync::Arc;
+use std::test::Fail;
+
+/// A row: its line, and what it does.
+#[derive(Drop)]
+pub struct Row {
+    pub line: String,
+    pub step: Step,
+}
+
+/// What a row does.
+#[derive(Drop)]
+pub enum Step {
+    Store(StoreEvent),
+    Journal(JournalEvent),
+    /// Nothing more, since reading it has told the answer; a heading has none.
+    Told(Option<String>),
+}
+
+/// What rows have said so far.
+#[derive(Drop)]
+struct Said {
+    source: Vec<u8>,
+    programs: Programs,
+    base: Ledger,
+    calls: Vec<Call>,
+}
+
+/// All rows of standard input.
+pub fn rows(rt: &HostRuntime) -> Result<Vec<Row>, Fail> {
+    let alloc = rt.alloc();
+    let mut said = Said {
+        source: Vec::new(alloc),
+        programs: Programs::new(alloc),
+        base: Ledger::new(alloc),
+        calls: Vec::new(alloc),
+    };
+    let mut rows = Vec::new(alloc);
+    for line in rt.lines(alloc) {
+        let line = line?;
+        if let Some(step) = step_of(alloc, &mut said, line.as_str())? {
+            rows.push(Row { line, step })?;
+        }
+    }
+    Ok(rows)
+}
+
+/// What a line does, or nothing where it only adds to what was said.
+fn step_of(alloc: Global, said: &mut Said, line: &str) -> Result<Option<Step>, Fail> {
+    let (head, rest) = line.split_once(' ').unwrap_or((line, ""));
+    if head == "|" {
+        said.source.extend_from_slice(rest.as_bytes())?;
+        said.source.push(b'\n')?;
+        return Ok(None);
+    }
+    let words: Vec<&str> = rest.split_whitespace().collect(alloc)?;
+    let words = words.as_slice();
+    match head {
+        "#" => Ok(Some(Step::Told(None))),
+        "program" => Ok(Some(program_of(alloc, said, words)?)),
+        "ledger" => Ok(Some(ledger_of(alloc, said, words)?)),
+        "call" => {
+            said.calls.push(call(alloc, &said.programs, words)?)?;
+            Ok(None)
+        }
+        "journal" => Ok(Some(Step::Journal(JournalEvent::of(alloc, words)?))),
+        "parts" => Ok(Some(Step::Journal(JournalEvent::Open(stored(alloc, said)?)))),
+        _ => Ok(Some(Step::Store(store_event(alloc, said, head, words)?))),
+    }
+}
+
+fn program_of(alloc: Global, said: &mut Said, words: &[&str]) -> Result<Step, Fail> {
+    let source = mem::replace(&mut said.source, Vec::new(alloc));
+    let digits = said
+        .programs
+        .assemble(alloc, word(words, 0)?, source.as_slice())?;
+    Ok(Step::Told(Some(digits)))
+}
+
+fn ledger_of(alloc: Global, said: &mut Said, words: &[&str]) -> Result<Step, Fail> {
+    let bytes = joined(alloc, &said.programs, words)?;
+    match Ledger::read(alloc, bytes.as_slice()) {
+        Ok(ledger) => said.base = ledger,
+        Err(_) => return Err("these bytes are a ledger".into()),
+    }
+    let digits = hex::encode(alloc, said.base.canonical(alloc)?.as_slice())?;
+    Ok(Step::Told(Some(digits)))
+}
+
+/// The ledger, and the calls, which are taken.
+fn stored(alloc: Global, said: &mut Said) -> Result<Stored, Fail> {
+    let base = said.base.clone()?;
+    let calls = mem::replace(&mut said.calls, Vec::new(alloc));
+    let calls = Arc::new(alloc, calls)?;
+    Ok(Stored { base, calls })
+}
+
+fn store_event(
+    alloc: Global,
+    said: &mut Said,
+    head: &str,
+    words: &[&str],
+) -> Result<StoreEvent, Fail> {
+    match head {
+        "open" => Ok(StoreEvent::Open(stored(alloc, said)?)),
+        "plain" => Ok(StoreEvent::Plain(stored(alloc, said)?)),
+        "events" => Ok(StoreEvent::Events(stored(alloc, said)?, events_of(alloc, words)?)),
+        "begin" => Ok(StoreEvent::Begin(call_number(words, 0)?)),
+        "read" => Ok(StoreEvent::Read(ticket(words)?, item(alloc, words, 2)?)),
+        "unmarked" => Ok(StoreEvent::Unmarked(
+            ticket(words)?,
+            name(alloc, words, 2)?,
+            item(alloc, words, 3)?,
+        )),
+        "run" => Ok(StoreEvent::Run(ticket(words)?, name(alloc, words, 2)?)),
+        "commit" => Ok(StoreEvent::Commit(ticket(words)?, name(alloc, words, 2)?)),
+        "abandon" => Ok(StoreEvent::Abandon(ticket(words)?)),
+        "prune" => Ok(StoreEvent::Prune(number(words, 0)?)),
+        "versions" => Ok(StoreEvent::Versions(item(alloc, words, 0)?)),
+        "state" => Ok(StoreEvent::State(number(words, 0)?)),
+        "debug" => Ok(StoreEvent::Debug(number(words, 0)? as usize, number(words, 1)? as usize)),
+        "past" => Ok(StoreEvent::Past(number(words, 0)? as usize, number(words, 1)?)),
+        "entries" => Ok(StoreEvent::Entries),
+        "is_of" => Ok(StoreEvent::IsOf),
+        "seal" => Ok(StoreEvent::Seal),
+        "block" => Ok(StoreEvent::Block),
+        "replay" => Ok(StoreEvent::Replay),
+        _ => Err("there is no such row".into()),
+    }
+}
+
+fn ticket(words: &[&str]) -> Result<Ticket, Fail> {
+    Ok(Ticket {
+        number: call_number(words, 0)?,
+        timestamp: number(words, 1)?,
+    })
+}
+
+/// The name of a call that has ended.
+pub fn name(alloc: Global, words: &[&str], index: usize) -> Result<String, Fail> {
+    Ok(String::from_str(alloc, word(words, index)?)?)
+}
+
+/// Events of workers, one a word: `b0:1` has worker 0 begin call 1, `r0` read, `c0` commit, `a0` abandon; `p9` is a prune.
+fn events_of(alloc: Global, words: &[&str]) -> Result<Vec<Event>, Fail> {
+    let mut events = Vec::new(alloc);
+    for word in words {
+        events.push(event_of(word)?)?;
+    }
+    Ok(events)
+}
+
+fn event_of(word: &str) -> Result<Event, Fail> {
+    if let Some(rest) = word.strip_prefix("b") {
+        let (worker, number) = rest.split_once(':').unwrap_or((rest, ""));
+        Ok(Event::Begin(worker.parse::<u8>()?, number.parse::<u32>()?))
+    } else if let Some(rest) = word.strip_prefix("r") {
+        Ok(Event::Read(rest.parse::<u8>()?))
+    } else if let Some(rest) = word.strip_prefix("c") {
+        Ok(Event::Commit(rest.parse::<u8>()?))
+    } else if let Some(rest) = word.strip_prefix("a") {
+        Ok(Event::Abandon(rest.parse::<u8>()?))
+    } else if let Some(rest) = word.strip_prefix("p") {
+        Ok(Event::Prune(rest.parse::<u64>()?))
+    } else {
+        Err("there is no such event".into())
+    }
+}

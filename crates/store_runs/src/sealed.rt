@@ -1,0 +1,42 @@
+//! Looks at a sealed block.
+
+ghost use Rattle.avm_ops.specs.Objects.{IsFull};
+
+use crate::said::Said;
+use crate::texts::digits_of;
+use avm_block::encode;
+use avm_ledger::Ledger;
+use avm_ops::{BoxedOp, Op, OpSet};
+use avm_replay::{Verdict, replay};
+use mv_parts::Sealed;
+use std::alloc::{AllocError, Global};
+
+/// The numbers of its calls, and its bytes.
+pub fn block_text(alloc: Global, sealed: &Option<Sealed>) -> Result<Said, AllocError> {
+    match sealed {
+        Some(sealed) => {
+            let digits = hex::encode(alloc, encode(alloc, &sealed.block)?.as_slice())?;
+            let numbers = sealed.numbers.as_slice();
+            Ok(Said::Text(format!(in alloc; "calls {numbers:?} {digits}")?))
+        }
+        None => Ok(Said::Word("no block")),
+    }
+}
+
+/// The ledger that its replay over a base leaves.
+pub fn replay_text(
+    alloc: Global,
+    ops: &OpSet,
+    base: &Ledger,
+    sealed: &Option<Sealed>,
+) -> Result<Said, AllocError>
+    requires full { IsFull ⟦<BoxedOp as Op>⟧.opcode ops.now }
+{
+    match sealed {
+        Some(sealed) => match replay(alloc, base, &sealed.block, ops)? {
+            Verdict::Agrees(after) => Ok(Said::Text(digits_of(alloc, &after)?)),
+            _ => Ok(Said::Word("does not agree")),
+        },
+        None => Ok(Said::Word("no block")),
+    }
+}
