@@ -1,4 +1,5 @@
-"""The rows of crates/rows, whose answers were worked out outside the program, and how the tests of this folder run programs."""
+"""The rows of crates/rows and crates/store_runs, whose answers were worked out outside the programs, and how the tests of this
+folder run programs."""
 
 import os
 import re
@@ -7,6 +8,8 @@ import sys
 
 TOP = os.path.dirname(os.path.dirname(os.path.abspath(__file__)))
 ENDED = re.compile("(.*)= ([0-9]+|none)")
+ANSWERED = ("$", "ledger", "bytes", "call", "call3", "calldata", "block")
+SCENARIOS = ("values", "skew", "parts", "prunes", "marks")
 
 
 def read(path):
@@ -28,7 +31,7 @@ def built(name):
 
 
 def commands():
-    """The rows of commands without a failing stream: the words, the input, the answer, the status."""
+    """The rows of commands without a failing stream, whose whole input is stored: the words, the input, the answer, the status."""
     found, given, plain = [], b"", True
     answers = iter(read("rows/stdout").split("\n"))
     for line in read("rows/stdin").split("\n"):
@@ -41,8 +44,10 @@ def commands():
             number, _, text = rest.partition(" ")
             plain = plain and int(number) * len(text) < 100_000
             given += text.encode() * int(number) if plain else b""
-        elif head in ("fail", "interrupt", "room"):
+        elif head in ("fail", "interrupt", "room", "+"):
             plain = False
+        elif head == "program":
+            given = b""
         elif head == "$":
             while next(answers) != line:
                 pass
@@ -64,23 +69,41 @@ def rows_below(heading):
     for line in read("rows/stdin").split("\n"):
         if line.startswith("# "):
             inside = line[2:] == heading
-        if line.split(" ")[0] in ("$", "ledger", "bytes", "call", "call3", "calldata", "block"):
+        if line.split(" ")[0] in ANSWERED:
             while next(answers) != line:
                 pass
             answer = next(answers) if inside else "= Truncated"
             if answer != "= Truncated":
                 rows.append(line)
                 printed += [line, answer]
+    if not rows:
+        sys.exit(f"crates/rows/stdin has no rows below: {heading}")
     return rows, printed
 
 
+def sections(text):
+    """The lines of a text by their headings, each of which is the first of its lines."""
+    found = {}
+    for line in text.splitlines():
+        if line.startswith("# "):
+            lines = found.setdefault(line[2:], [])
+        lines.append(line)
+    return found
+
+
 def store_runs():
-    """The lines of each scenario of crates/store_runs; the first is its name, a word alone in front of the lines of steps."""
+    """The scenarios of crates/store_runs to which memory is refused: the name, the rows and the lines that they print. The programs
+    of the first heading come before each."""
+    asked, printed = sections(read("store_runs/stdin")), sections(read("store_runs/stdout"))
     found = []
-    for line in read("store_runs/stdout").encode().splitlines():
-        if b" " not in line:
-            found.append([])
-        found[-1].append(line)
+    for heading in asked:
+        name = heading.split(":")[0]
+        if name in SCENARIOS:
+            text = "\n".join(asked["programs"] + asked[heading]) + "\n"
+            lines = [line.encode() for line in printed["programs"] + printed[heading]]
+            found.append((name, text.encode(), lines))
+    if len(found) != len(SCENARIOS):
+        sys.exit(f"crates/store_runs/stdin has not each of the headings {', '.join(SCENARIOS)}")
     return found
 
 

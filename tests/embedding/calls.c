@@ -1,0 +1,28 @@
+#include "calls.h"
+
+#include <string.h>
+
+const char *const function_names[FUNCTIONS] = {"check", "assemble", "list", "replay", "state", "view", "answer"};
+
+void clear(struct answer *answer) {
+    memset(answer, MARK, sizeof *answer);
+}
+
+void make(const struct call *call, struct answer *answer, size_t room) {
+    const uint8_t *first = call->first.at, *second = call->second.at;
+    size_t length = call->first.length, other = call->second.length;
+    switch (call->function) {
+    case CHECK: answer->status = avm_c_check(first, length); break;
+    case ASSEMBLE: answer->status = avm_c_assemble(first, length, answer->room, room, &answer->written); break;
+    case LIST: answer->status = avm_c_list(first, length, answer->room, room, &answer->written); break;
+    case REPLAY: answer->status = avm_c_replay(first, length, second, other, answer->digest, &answer->difference); break;
+    case STATE:
+        answer->status = avm_c_state(first, length, second, other, call->number, answer->room, room, &answer->written);
+        break;
+    case VIEW:
+        answer->status =
+            avm_c_view(first, length, second, other, call->entry, call->number, answer->room, room, &answer->written);
+        break;
+    case ANSWER: answer->status = avm_c_answer(first, length, second, other, answer->room, room, &answer->written); break;
+    }
+}

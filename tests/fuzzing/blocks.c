@@ -1,0 +1,287 @@
+#include "blocks.h"
+
+#include "programs.h"
+#include "sha256.h"
+
+#include <string.h>
+
+enum { PROFILE = 3, OUTCOME = 4, MOST_KEY = 64, MOST_GLOBAL = 64, MOST_LOCAL = 16 };
+
+/* A place in bytes that are read, until they end or something is none. */
+struct reader {
+    struct bytes bytes;
+    size_t place;
+    bool fails;
+    struct parts *parts;
+};
+
+static const uint8_t *take(struct reader *reader, size_t count) {
+    static const uint8_t nothing[256];
+    if (reader->fails || count > reader->bytes.length - reader->place) {
+        reader->fails = true;
+        return nothing;
+    }
+    reader->place += count;
+    return reader->bytes.at + reader->place - count;
+}
+
+static uint64_t number(struct reader *reader, size_t size) {
+    const uint8_t *at = take(reader, size);
+    uint64_t value = 0;
+    for (size_t i = 0; i < size; i++) value = value << 8 | at[i];
+    return value;
+}
+
+static struct bytes string(struct reader *reader, size_t size, bool is_program) {
+    struct field field = {.place = reader->place, .size = size, .is_program = is_program};
+    field.length = number(reader, size);
+    if (reader->fails || field.length > reader->bytes.length - reader->place) {
+        reader->fails = true;
+        return bytes_of(reader->bytes.at, 0);
+    }
+    if (reader->parts->field_count < MOST_FIELDS) reader->parts->fields[reader->parts->field_count++] = field;
+    return bytes_of(take(reader, field.length), field.length);
+}
+
+/* Negative, 0 or positive, as one stands before, with or behind the other in the order of bytes. */
+static int order_of(struct bytes one, struct bytes other) {
+    size_t length = one.length < other.length ? one.length : other.length;
+    int order = memcmp(one.at, other.at, length);
+    return order ? order : (one.length > other.length) - (one.length < other.length);
+}
+
+/* Entries by rising key; keys and values are of 64 bytes at most. */
+static void read_state(struct reader *reader) {
+    struct bytes last = {0};
+    for (uint64_t count = number(reader, 1); count > 0 && !reader->fails; count--) {
+        struct bytes key = string(reader, 1, false), value = {0};
+        if (key.length > MOST_KEY || (last.at && order_of(last, key) >= 0)) reader->fails = true;
+        last = key;
+        uint64_t kind = number(reader, 1);
+        if (kind == 1) number(reader, 8);
+        else if (kind == 2) value = string(reader, 1, false);
+        if (kind < 1 || kind > 2 || value.length > MOST_KEY) reader->fails = true;
+    }
+}
+
+static struct reader reader_of(struct bytes bytes, struct parts *parts) {
+    struct reader reader = {bytes, 0, false, parts};
+    parts->field_count = parts->application_count = parts->entry_count = 0;
+    return reader;
+}
+
+static bool is_read(const struct reader *reader) {
+    return !reader->fails && reader->place == reader->bytes.length;
+}
+
+static bool keeps_schemas(uint64_t schemas) {
+    uint64_t global = (schemas >> 24) + (schemas >> 16 & 255), local = (schemas >> 8 & 255) + (schemas & 255);
+    return global <= MOST_GLOBAL && local <= MOST_LOCAL;
+}
+
+static struct application read_application(struct reader *reader, uint64_t last, uint64_t next) {
+    static struct program program;
+    struct application it = {.id = number(reader, 8)};
+    if (it.id <= last || it.id >= next) reader->fails = true;
+    take(reader, 32);
+    it.approval = string(reader, 2, true);
+    it.clear = string(reader, 2, true);
+    bool are_programs = read_program(it.approval, &program) && program.cost <= MOST_COST;
+    are_programs = are_programs && read_program(it.clear, &program) && program.cost <= MOST_COST;
+    if (!are_programs || !keeps_schemas(number(reader, 4))) reader->fails = true;
+    read_state(reader);
+    return it;
+}
+
+/* Local states by rising account and application. */
+static void read_local_states(struct reader *reader, uint64_t next) {
+    struct bytes last = {0};
+    for (uint64_t count = number(reader, 4); count > 0 && !reader->fails; count--) {
+        struct bytes key = bytes_of(take(reader, 32), 32 + 8);
+        uint64_t id = number(reader, 8);
+        if (id < 1 || id >= next || (last.at && order_of(last, key) >= 0)) reader->fails = true;
+        last = key;
+        read_state(reader);
+    }
+}
+
+bool read_ledger(struct bytes bytes, struct parts *parts) {
+    struct reader reader = reader_of(bytes, parts);
+    uint64_t next = number(&reader, 8), last = 0;
+    if (next < 1) return false;
+    for (uint64_t count = number(&reader, 4); count > 0 && !reader.fails; count--) {
+        struct application it = read_application(&reader, last, next);
+        last = it.id;
+        if (parts->application_count == MOST_APPLICATIONS) return false;
+        parts->applications[parts->application_count++] = it;
+    }
+    read_local_states(&reader, next);
+    return is_read(&reader);
+}
+
+static void read_outcome(struct reader *reader) {
+    uint64_t kind = number(reader, 1);
+    if (kind == AVM_CLEARED_GONE) kind = number(reader, 1);
+    if (kind == AVM_FAULTED) number(reader, 3);
+    else if (kind == AVM_CALL_REFUSED) number(reader, 1);
+    else if (kind > AVM_FAULTED) reader->fails = true;
+}
+
+static struct entry read_entry(struct reader *reader) {
+    struct entry it = {.begin = reader->place};
+    it.timestamp = number(reader, 8);
+    take(reader, 32 + 3 * 8);
+    string(reader, 2, false);
+    take(reader, 32 + 32);
+    it.application = number(reader, 8);
+    it.completion = (uint8_t)number(reader, 1);
+    for (uint64_t count = number(reader, 1); count > 0 && !reader->fails; count--) string(reader, 2, false);
+    for (uint64_t count = number(reader, 1); count > 0 && !reader->fails; count--) take(reader, 32);
+    for (uint64_t count = number(reader, 1); count > 0 && !reader->fails; count--) take(reader, 8);
+    it.approval = string(reader, 2, true);
+    it.clear = string(reader, 2, true);
+    number(reader, 4);
+    it.outcome = reader->place;
+    read_outcome(reader);
+    it.end = reader->place;
+    return it;
+}
+
+bool read_block(struct bytes bytes, struct parts *parts) {
+    struct reader reader = reader_of(bytes, parts);
+    if (memcmp(take(&reader, 4), "AVMB", 4)) return false;
+    uint64_t format = number(&reader, 1), last = 0;
+    if (format == 2 ? number(&reader, 1) != PROFILE : format != 1) return false;
+    parts->base = reader.place;
+    take(&reader, DIGEST + 5 * 8);
+    parts->count_place = reader.place;
+    for (uint64_t count = number(&reader, 4); count > 0 && !reader.fails; count--) {
+        if (parts->entry_count == MOST_ENTRIES) return false;
+        struct entry it = read_entry(&reader);
+        if (it.timestamp <= last) reader.fails = true;
+        last = it.timestamp;
+        parts->entries[parts->entry_count++] = it;
+    }
+    parts->after = reader.place;
+    take(&reader, 2 * DIGEST);
+    return is_read(&reader);
+}
+
+struct pair pair_of(const uint8_t *at, size_t length) {
+    struct pair pair = {bytes_of("", 0), bytes_of("", 0), 0, 0};
+    if (length < FRONT) return pair;
+    size_t wanted = (size_t)at[0] << 24 | (size_t)at[1] << 16 | (size_t)at[2] << 8 | at[3], room = length - FRONT;
+    pair.first = at[4];
+    pair.second = at[5];
+    pair.ledger = bytes_of(at + FRONT, wanted < room ? wanted : room);
+    pair.block = bytes_of(at + FRONT + pair.ledger.length, room - pair.ledger.length);
+    return pair;
+}
+
+void seal(struct bytes block) {
+    sha256(block.at, block.length - DIGEST, block.at + block.length - DIGEST);
+}
+
+struct bytes empty_block(struct bytes ledger, uint8_t *room) {
+    static const uint8_t front[] = {'A', 'V', 'M', 'B', 2, PROFILE};
+    struct bytes block = {room, EMPTY_BLOCK};
+    memset(room, 0, EMPTY_BLOCK);
+    memcpy(room, front, sizeof front);
+    sha256(ledger.at, ledger.length, room + sizeof front);
+    sha256(ledger.at, ledger.length, room + EMPTY_BLOCK - 2 * DIGEST);
+    seal(block);
+    return block;
+}
+
+uint32_t replayed(struct bytes ledger, struct bytes block, struct answer *answer) {
+    struct call call = {REPLAY, ledger, block, 0, 0};
+    return called(call, answer);
+}
+
+uint32_t state_at(struct bytes ledger, struct bytes block, uint64_t timestamp, struct answer *answer) {
+    struct call call = {STATE, ledger, block, 0, timestamp};
+    return called(call, answer);
+}
+
+uint32_t viewed(struct bytes ledger, struct bytes block, uint64_t entry, uint64_t steps, struct answer *answer) {
+    struct call call = {VIEW, ledger, block, entry, steps};
+    return called(call, answer);
+}
+
+/* ---- blocks that agree */
+
+static size_t spell_outcome(const struct avm_difference *found, uint8_t *to) {
+    size_t length = 0;
+    bool clears = found->ending >= AVM_CLEARED_GONE, faults = found->ending == AVM_FAULTED || found->ending == AVM_CLEARED_FAULTED;
+    to[length++] = clears ? OUTCOME : (uint8_t)found->ending;
+    if (clears) to[length++] = (uint8_t)(found->ending - AVM_CLEARED_GONE);
+    if (faults || found->ending == AVM_CALL_REFUSED) to[length++] = (uint8_t)found->number;
+    if (faults) {
+        to[length++] = (uint8_t)(found->place >> 8);
+        to[length++] = (uint8_t)found->place;
+    }
+    return length;
+}
+
+/* Puts the outcome that was found in the place of the entry's. */
+static void put_outcome(struct bytes *block, const struct entry *entry, const struct avm_difference *found) {
+    uint8_t spelled[8];
+    size_t length = spell_outcome(found, spelled), old = entry->end - entry->outcome;
+    demand(old != length || memcmp(block->at + entry->outcome, spelled, length), "an outcome is wrong, and found to be the same");
+    memmove(block->at + entry->outcome + length, block->at + entry->end, block->length - entry->end);
+    memcpy(block->at + entry->outcome, spelled, length);
+    block->length = block->length + length - old;
+}
+
+static void look_at_difference(const struct avm_difference *found, size_t last, const struct parts *parts) {
+    bool faults = found->ending == AVM_FAULTED || found->ending == AVM_CLEARED_FAULTED;
+    demand(found->entry > last && found->entry <= parts->entry_count, "a wrong outcome is not of the first entry left");
+    demand(found->ending <= AVM_CLEARED_FAULTED, "an ending has no such number");
+    demand(faults || found->place == 0, "an ending that has no place has one");
+    demand((faults || found->ending == AVM_CALL_REFUSED) == (found->number != 0), "an ending has a number that it should not");
+    const struct entry *entry = &parts->entries[found->entry - 1];
+    demand(found->ending < AVM_CLEARED_GONE || entry->completion == CLEARS, "only a clear state call clears");
+    note(ENDINGS, (unsigned)(found->entry < 4 ? found->entry : 4) * 8 + found->ending);
+}
+
+/* Puts the digest of the ledger after; not where that is longer than the room for it. */
+static bool put_digest_after(const struct pair *pair, struct bytes block) {
+    static struct answer state;
+    uint32_t status = state_at(pair->ledger, block, UINT64_MAX, &state);
+    demand(status == AVM_DONE || status == AVM_NO_ROOM, "a block that is judged leads to no ledger");
+    if (status == AVM_DONE) sha256(state.room, state.written, block.at + block.length - 2 * DIGEST);
+    return status == AVM_DONE;
+}
+
+bool settle(const struct pair *pair, struct bytes *block) {
+    static uint8_t room[LONGEST_BLOCK + 8 * MOST_ENTRIES];
+    static struct parts parts;
+    static struct answer answer;
+    struct bytes made = {room, pair->block.length};
+    size_t last = 0;
+    bool put = false;
+    if (pair->block.length > LONGEST_BLOCK || !read_block(pair->block, &parts)) return false;
+    memcpy(room, pair->block.at, pair->block.length);
+    sha256(pair->ledger.at, pair->ledger.length, room + parts.base);
+    for (;;) {
+        seal(made);
+        uint32_t status = replayed(pair->ledger, made, &answer);
+        *block = made;
+        if (status == AVM_DONE) {
+            demand(memcmp(answer.digest, made.at + made.length - 2 * DIGEST, DIGEST) == 0, "the digest is not the block's");
+            return true;
+        }
+        if (status == AVM_NO_LEDGER || status == AVM_NO_BLOCK) return demand(last == 0 && !put, "a block that was one is none"), false;
+        if (status == AVM_WRONG_STATE) {
+            demand(!put, "the digest of the ledger after is not that of its bytes");
+            put = true;
+            if (!put_digest_after(pair, made)) return false;
+            continue;
+        }
+        demand(status == AVM_WRONG_OUTCOME && !put, "a verdict that this block cannot have");
+        demand(read_block(made, &parts), "a block is read by the library alone");
+        look_at_difference(&answer.difference, last, &parts);
+        last = answer.difference.entry;
+        put_outcome(&made, &parts.entries[last - 1], &answer.difference);
+    }
+}
