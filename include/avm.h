@@ -9,7 +9,7 @@
    - Bytes are a pointer and then their number. No pointer is null, also of no bytes and of no room.
    - What a call writes to overlaps nothing else that it is given, and nobody else reads or writes it during the call. What a
      call only reads may be shared, also by calls in other threads at once.
-   - A thread that makes a call has 524,288 bytes of stack left for it.
+   - A thread that makes a call has 524,288 bytes of stack left for it (measured, not proved).
    - malloc, realloc and free are of one allocator. No call is made in a signal handler, nor in the forked child of a process
      that has threads.
 
