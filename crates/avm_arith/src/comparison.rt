@@ -8,18 +8,11 @@ ghost use Rattle.avm_arith.specs.Families.{comparison_opcode, comparison_holds, 
 
 use avm_cpu::{Cpu, Flow};
 use avm_items::Env;
-use avm_ops::{Executed, Op};
+use avm_ops::{Executed, Op, flag};
 use std::alloc::Global;
 use teal_code::Instr;
 use teal_table::Opcode;
 use teal_value::{Fault, Value};
-
-/// 1 for true, 0 for false.
-pub(crate) fn flag(holds: bool) -> u64
-    ensures { Uint result ≡ flag holds }
-{
-    if holds { 1 } else { 0 }
-}
 
 /// An instruction that compares two numbers, or takes them as truth values, and gives 1 or 0.
 #[derive(Clone, Copy, Debug, PartialEq, Eq)]

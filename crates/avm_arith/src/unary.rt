@@ -4,10 +4,9 @@ ghost use Rattle.std.specs.Prelude.{◌≡◌, IfOk, IfSome, Some};
 ghost use Rattle.avm_ops.specs.ByteStrings.{bytes_of_number};
 ghost use Rattle.avm_arith.specs.Families.{unary_opcode, unary_value};
 
-use crate::comparison::flag;
 use avm_cpu::{Cpu, Flow};
 use avm_items::Env;
-use avm_ops::{Executed, Op};
+use avm_ops::{Executed, Op, flag};
 use std::alloc::{AllocError, Global};
 use teal_code::Instr;
 use teal_table::Opcode;

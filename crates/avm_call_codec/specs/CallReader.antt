@@ -1,5 +1,5 @@
 -- Reading a call from its bytes: its fields in order, in four groups, and the first that no call has or that the bytes end in.
-use Rattle.std.specs.Prelude.{ℕ, ◌-◌, ◌==◌, if◌then◌else◌, List, length, drop, Option, Some, None, Result, Ok, Err}
+use Rattle.std.specs.Prelude.{ℕ, ◌-◌, ◌==◌, if◌then◌else◌, List, length, drop, Option, Some, None, Result, Ok}
 use Rattle.std.specs.Option.{ok_or}
 use Rattle.std.specs.Int.{w8, w64}
 use Rattle.teal_value.specs.Answer.{◌>>=◌}

@@ -11,7 +11,7 @@ use thiserror::Error;
 #[error("{name}", name = self.name())]
 pub enum CallDataFault {
     /// A field has a value that none has.
-    Field,
+    Field = 1,
     /// The bytes end in a field.
     Truncated,
     /// Bytes stand behind the call.

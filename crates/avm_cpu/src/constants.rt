@@ -89,7 +89,7 @@ impl ByteConstants {
         &self.strings.as_slice()[..self.count]
     }
 
-    /// Puts others in force. At want of memory those of before stay.
+    /// Puts others in force. Where an allocation is refused those of before stay.
     pub fn set(&mut self, alloc: Global, strings: &[ByteString]) -> Result<(), AllocError>
         ensures { MatchResult result (λ _. self.new ≡ strings.now) (λ _. self.new ≡ self.old) }
     {

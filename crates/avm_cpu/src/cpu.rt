@@ -649,7 +649,7 @@ impl Cpu {
     }
 
     /// Puts other byte constants in force, and takes memory only where what the machine held before has no room for them.
-    /// At want of memory those of before stay.
+    /// Where an allocation is refused those of before stay.
     pub fn set_byte_constants(
         &mut self,
         alloc: Global,

@@ -74,9 +74,11 @@ fn is_same_local(who: &[u8; 32], id: u64, other_who: &[u8; 32], other: u64) -> b
 
 /// The order of local states: by account, and then by application.
 #[tactic(auto, using(crate::proofs::Orders::slice_cmp_end))]
-fn local_cmp(who: &[u8; 32], id: u64, other_who: &[u8; 32], other: u64) -> Ordering
-    ensures { result ≡ slice_cmp nat_cmp (who.now ++ id ∷ []) (other_who.now ++ other ∷ []) }
+fn local_cmp(who: &Address, id: u64, other_who: &Address, other: u64) -> Ordering
+    ensures { result ≡ slice_cmp nat_cmp (who.now.0 ++ id ∷ []) (other_who.now.0 ++ other ∷ []) }
 {
+    // Both have 32 bytes, as their type says.
+    let (_bytes, _other_bytes) = (who.0, other_who.0);
     who.cmp(other_who).then(id.cmp(&other))
 }
 
@@ -135,10 +137,7 @@ impl Ord for Item {
                 order => order,
             },
             (Item::Local(who, id), Item::Local(other_who, other)) => local_cmp(
-                &who.0,
-                *id,
-                &other_who.0,
-                *other,
+                who, *id, other_who, *other,
             ),
             _ => self.kind().cmp(&other.kind()),
         }

@@ -11,7 +11,7 @@ use thiserror::Error;
 #[error("{name}", name = self.name())]
 pub enum LedgerFault {
     /// A field breaks a rule of ledgers.
-    Malformed,
+    Malformed = 1,
     /// The bytes end in a field.
     Truncated,
     /// Bytes stand behind the ledger.
@@ -31,5 +31,5 @@ impl LedgerFault {
     }
 }
 
-/// A [`LedgerFault`], or want of memory.
+/// A [`LedgerFault`], or a refused allocation.
 pub type LedgerError = Failure<LedgerFault>;

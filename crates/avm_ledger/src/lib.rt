@@ -19,6 +19,7 @@ mod state_reading;
 mod stored_program;
 
 pub use application::{Application, StoredApplication};
+pub use avm_states::Schema;
 pub use fields::Fields;
 pub use header::{Header, Profile};
 pub use ids_end::IdsEnd;

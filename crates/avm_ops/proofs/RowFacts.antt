@@ -22,7 +22,7 @@ use Rattle.teal_code.specs.declared.instr.Immediates.{Immediates}
 use Rattle.avm_items.specs.declared.item.Item.TheVariants as item
 use Rattle.avm_items.specs.Items.{ItemMap, Look, entry_in}
 use Rattle.avm_items.specs.Asks.{Ask, Gives, Asks, and_then, result_over}
-use Rattle.avm_items.specs.Acts.{Act, on_ok, found, test, reads}
+use Rattle.avm_items.specs.Acts.{Act, on_ok, found, test}
 use Rattle.avm_items.specs.Counting.{AsksAtMost, Any}
 use Rattle.avm_items.proofs.Counting.{at_most-more}
 use Rattle.avm_cpu.specs.declared.flow.Flow.TheVariants as flow

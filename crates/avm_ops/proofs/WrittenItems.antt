@@ -27,7 +27,7 @@ use Rattle.avm_items.specs.declared.item_value.ItemValue.TheVariants as value
 use Rattle.avm_items.specs.Items.{ItemMap, Look, with_item, application_in, entry_in, local_state_in, kept_counts_in}
 use Rattle.avm_items.specs.LedgerItems.{at, row_value, is_of_gone}
 use Rattle.avm_items.specs.Asks.{Ask, Gives, Asks, and_then}
-use Rattle.avm_items.specs.Acts.{Act, on_ok, found, test, reads, done}
+use Rattle.avm_items.specs.Acts.{Act, on_ok, found, test, done}
 use Rattle.avm_items.specs.CallFields.{account}
 use Rattle.avm_cpu.specs.Operands.{bytes_and_value, uint_and_bytes, uint_bytes_and_value, one_bytes}
 use Rattle.avm_cpu.specs.Machine.{most_values}

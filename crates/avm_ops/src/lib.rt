@@ -11,5 +11,6 @@ pub mod laws;
 mod op;
 mod set;
 
-pub use op::{BoxedOp, Executed, Op, Stop};
+pub use avm_cpu::Flow;
+pub use op::{BoxedOp, Executed, Op, Stop, flag};
 pub use set::{OpSet, Ops, PushFault};

@@ -2,7 +2,9 @@
 
 ghost use Rattle.std.specs.Prelude.{◌≡◌};
 ghost use Rattle.teal_table.specs.declared.opcode.Opcode.{Opcode};
+ghost use Rattle.teal_value.specs.declared.value.Value.TheVariants.{Uint};
 ghost use Rattle.teal_table.specs.Table.{code_of};
+ghost use Rattle.avm_ops.specs.Frame.{flag};
 ghost use Rattle.avm_ops.specs.Objects.{IsReady, Does, IfStopped, context_of, known_effect};
 
 use avm_cpu::{Cpu, Flow};
@@ -54,6 +56,13 @@ impl From<Failure<Fault>> for Stop {
             Failure::Fault(fault) => Stop::Fault(fault),
         }
     }
+}
+
+/// The number that the machine has for a truth value: 1 for true, 0 for false.
+pub fn flag(holds: bool) -> u64
+    ensures { Uint result ≡ flag holds }
+{
+    if holds { 1 } else { 0 }
 }
 
 /// What an instruction comes to: where the program goes on, or why it was not carried out.

@@ -17,9 +17,9 @@ ghost use Rattle.avm_run.specs.Showing.{Shows};
 
 use crate::finished::Finished;
 use crate::phase::{EndedRun, PathOutcome, Phase, RunOutcome, run_on, step_on};
+use crate::running::Spare;
 use crate::shown::Shown;
 use avm_call::{Call, Ended};
-use avm_cpu::Cpu;
 use avm_items::{Item, ItemMap, ItemValue};
 use avm_ledger::Header;
 use avm_ops::{BoxedOp, Op, OpSet};
@@ -34,7 +34,7 @@ use thiserror::Error;
 #[error("{name}", name = self.name())]
 pub enum RunFault {
     /// The item was not asked for.
-    NotAsked,
+    NotAsked = 1,
     /// The run has ended, or memory was refused to it.
     Spent,
     /// Memory was refused. The run is spent.
@@ -150,8 +150,8 @@ fn finished(call: Call, header: Header, closed: EndedRun) -> Finished
 #[derive(Drop)]
 pub struct CallRun {
     state: State,
-    /// A machine for the program, until it begins and after it has ended.
-    spare: Option<Cpu>,
+    /// A box for the program, until it begins and after it has ended.
+    spare: Option<Spare>,
 }
 
 impl Model for CallRun {
@@ -166,13 +166,13 @@ impl Model for CallRun {
 }
 
 impl CallRun {
-    /// A run of the call that was supplied with no item. Its program will run on the spare machine; where there is none, one
-    /// is made. [`CallRun::into_spare`] gives it back.
+    /// A run of the call that was supplied with no item. Its program will run in the spare box, on its machine; where there
+    /// is none, one is made. [`CallRun::into_spare`] gives it back.
     pub fn start(
         alloc: Global,
         call: &Call,
         header: &Header,
-        spare: Option<Cpu>,
+        spare: Option<Spare>,
     ) -> Result<CallRun, AllocError>
         ensures { IfOk result (λ run. run ≡ Some (record { call = call.now; header = header.now; reads = []; asked = None; steps = None })) }
     {
@@ -210,12 +210,12 @@ impl CallRun {
         }
     }
 
-    /// The machine of a run, for the next one, if it has one: a run has none whose program has not begun and that was not
-    /// handed one, or that was refused memory in its program.
-    pub fn into_spare(self) -> Option<Cpu> {
+    /// What a run leaves for the next one, if anything: one whose program has not begun and that was handed nothing leaves
+    /// nothing, nor does one that was refused memory in its program.
+    pub fn into_spare(self) -> Option<Spare> {
         let CallRun { state, spare } = self;
         match state {
-            State::Live(live) => live.phase.into_machine().or(spare),
+            State::Live(live) => live.phase.into_spare(spare),
             State::Spent => spare,
         }
     }

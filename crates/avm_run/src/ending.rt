@@ -16,8 +16,13 @@ pub(crate) struct Ending {
 }
 
 /// What an approved call writes beside what its program wrote.
-fn completed(call: &Call, id: u64, row: Application, writes: ItemMap) -> Result<ItemMap, AllocError>
-    ensures { IfOk result (λ after. after ≡ completed call.now id row writes) }
+fn completed(
+    call: &Call,
+    id: u64,
+    row: &Application,
+    writes: ItemMap,
+) -> Result<ItemMap, AllocError>
+    ensures { IfOk result (λ after. after ≡ completed call.now id row.now writes) }
 {
     let fields = call.fields();
     let mut writes = writes;
@@ -27,7 +32,7 @@ fn completed(call: &Call, id: u64, row: Application, writes: ItemMap) -> Result<
             writes.insert(Item::Local(fields.sender, id), ItemValue::Absent)?;
         }
         Completion::UpdateApplication => {
-            let row = call.updated(row)?;
+            let row = call.updated(row.clone()?)?;
             writes.insert(Item::App(id), ItemValue::App(row))?;
         }
         Completion::DeleteApplication => {
@@ -71,11 +76,11 @@ pub(crate) fn end_call(
     alloc: Global,
     call: &Call,
     id: u64,
-    row: Application,
+    row: &Application,
     writes: ItemMap,
     ended: Ended,
 ) -> Result<Ending, AllocError>
-    ensures { IfOk result (λ e. (e.outcome, e.writes) ≡ ending call.now id row (writes, ended)) }
+    ensures { IfOk result (λ e. (e.outcome, e.writes) ≡ ending call.now id row.now (writes, ended)) }
 {
     let clears = call.fields().completion == Completion::ClearState;
     match ended {

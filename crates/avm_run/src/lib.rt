@@ -17,4 +17,5 @@ mod shown;
 pub use call_run::{Advance, CallRun, RunFault, Step};
 pub use finished::Finished;
 pub use on_ledger::{call_on, call_plain};
+pub use running::Spare;
 pub use shown::Shown;

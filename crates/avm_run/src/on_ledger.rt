@@ -9,8 +9,8 @@ ghost use Rattle.avm_call.specs.Replay.{ledger_after, outcome_on};
 
 use crate::admission::first_item;
 use crate::phase::{EndedRun, Phase, RunOutcome, run_on};
+use crate::running::Spare;
 use avm_call::{Call, Outcome};
-use avm_cpu::Cpu;
 use avm_items::{ItemMap, item_of, put_items};
 use avm_laws::call_laws::changes_are_handed_on;
 use avm_laws::order_laws::every_call_keeps_order;
@@ -20,15 +20,15 @@ use std::alloc::{AllocError, Global};
 
 /// Makes a call on a ledger, in place, and answers its outcome. It costs what the call touches, not what the ledger holds.
 ///
-/// The program runs on the spare machine, and leaves it for the next call: a first call is handed `None`, and further ones
-/// need no memory for a machine.
+/// The program runs in the spare box, on its machine, and leaves it for the next call: a first call is handed `None`, and
+/// further ones need no memory for either.
 pub fn call_on(
     alloc: Global,
     ledger: &mut Ledger,
     call: &Call,
     header: &Header,
     ops: &OpSet,
-    spare: &mut Option<Cpu>,
+    spare: &mut Option<Spare>,
 ) -> Result<Outcome, AllocError>
     requires full { IsFull ⟦<BoxedOp as Op>⟧.opcode ops.now }
     ensures outcome { IfOk result (λ outcome. outcome ≡ outcome_on ledger.old call.now header.now) }
@@ -69,7 +69,7 @@ fn run_over(
     call: &Call,
     header: &Header,
     ops: &OpSet,
-    spare: &mut Option<Cpu>,
+    spare: &mut Option<Spare>,
 ) -> Result<EndedRun, AllocError>
     requires full { IsFull ⟦<BoxedOp as Op>⟧.opcode ops.now }
     ensures { IfOk result (λ closed. (closed.outcome, closed.writes) ≡ result_over (at ledger.now) (call_result call.now header.now)) }

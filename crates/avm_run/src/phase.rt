@@ -10,10 +10,9 @@ ghost use Rattle.avm_run.specs.Standing.{BeginsRun};
 
 use crate::admission::{AdmissionStop, Admitted, admit};
 use crate::ending::{cleared, end_call};
-use crate::running::{Running, StepsOutcome, begin, make_steps};
+use crate::running::{Running, Spare, StepsOutcome, begin, make_steps};
 use avm_call::{Call, Cause, Ended, Outcome};
-use avm_cpu::Cpu;
-use avm_items::{Item, ItemMap, ItemValue};
+use avm_items::{Env, Item, ItemMap, ItemValue};
 use avm_ledger::Header;
 use avm_ops::{BoxedOp, Op, OpSet};
 use std::alloc::{AllocError, Global};
@@ -82,13 +81,14 @@ impl Phase {
         }
     }
 
-    /// The machine of its program, if that has begun.
-    pub(crate) fn into_machine(self) -> Option<Cpu> {
+    /// What it leaves for the next run: the box of its program, or the spare one where that has not begun.
+    pub(crate) fn into_spare(self, spare: Option<Spare>) -> Option<Spare> {
         match self {
-            Phase::Tests(_items) => None,
+            Phase::Tests(_items) => spare,
             Phase::Runs(running) => {
-                let Running { cpu, .. } = Box::into_inner(running);
-                Some(cpu)
+                let mut spare = spare;
+                give_back(&mut spare, running);
+                spare
             }
         }
     }
@@ -104,15 +104,15 @@ fn keeps_programs(value: &ItemValue)
     }
 }
 
-/// Runs on to the end of the call, or to an item that was not supplied. A program begins on the spare machine, where there
-/// is one, and leaves its machine there at its end.
+/// Runs on to the end of the call, or to an item that was not supplied. A program begins in the spare box, where there is
+/// one, and leaves its own there at its end.
 pub(crate) fn run_on(
     alloc: Global,
     ops: &OpSet,
     call: &Call,
     header: &Header,
     phase: Phase,
-    spare: &mut Option<Cpu>,
+    spare: &mut Option<Spare>,
 ) -> Result<RunOutcome, AllocError>
     requires full { IsFull ⟦<BoxedOp as Op>⟧.opcode ops.now }
     requires follows { Follows call.now header.now phase }
@@ -129,15 +129,15 @@ pub(crate) fn run_on(
     }
 }
 
-/// Makes the next step of the path of the call's program. The first leads to the start of the program. The spare machine is
-/// used as by [`run_on`].
+/// Makes the next step of the path of the call's program. The first leads to the start of the program. The spare box is used
+/// as by [`run_on`].
 pub(crate) fn step_on(
     alloc: Global,
     ops: &OpSet,
     call: &Call,
     header: &Header,
     phase: Phase,
-    spare: &mut Option<Cpu>,
+    spare: &mut Option<Spare>,
 ) -> Result<PathOutcome, AllocError>
     requires full { IsFull ⟦<BoxedOp as Op>⟧.opcode ops.now }
     requires follows { Follows call.now header.now phase }
@@ -158,7 +158,7 @@ fn run_tests(
     call: &Call,
     header: &Header,
     items: ItemMap,
-    spare: &mut Option<Cpu>,
+    spare: &mut Option<Spare>,
 ) -> Result<AdmissionOutcome, AllocError>
     ensures { IfOk result (λ tested. TestsTo call.now header.now items tested) }
 {
@@ -220,7 +220,7 @@ fn run_program(
     call: &Call,
     header: &Header,
     running: Box<Running>,
-    spare: &mut Option<Cpu>,
+    spare: &mut Option<Spare>,
 ) -> Result<RunOutcome, AllocError>
     requires full { IsFull ⟦<BoxedOp as Op>⟧.opcode ops.now }
     requires begun { BeginsRun call.now header.now running.value.env.reads running.value }
@@ -250,36 +250,49 @@ fn run_program(
 #[inline(never)]
 fn discard(_running: Box<Running>) {}
 
-/// Drops a machine, out of line too.
-#[cold]
-#[inline(never)]
-fn discard_machine(_cpu: Cpu) {}
-
-/// Leaves a machine for the next run.
-fn give_back(spare: &mut Option<Cpu>, cpu: Cpu) {
-    if let Some(before) = mem::replace(spare, Some(cpu)) {
-        discard_machine(before);
+/// Leaves the box of a program for the next run.
+fn give_back(spare: &mut Option<Spare>, running: Box<Running>) {
+    if let Some(before) = mem::replace(spare, Some(Spare { running })) {
+        discard(before.running);
     }
 }
 
-/// A run whose program has ended so. Its machine is spare again.
+/// A run whose program has ended so. Its box is spare again.
 fn close(
     alloc: Global,
     call: &Call,
     header: &Header,
     running: Box<Running>,
     ended: Ended,
-    spare: &mut Option<Cpu>,
+    spare: &mut Option<Spare>,
 ) -> Result<EndedRun, AllocError>
     requires ends { ClosesAs call.now header.now running.value ended }
     ensures ends { IfOk result (λ closed. EndsRun call.now header.now running.value.env.reads closed) }
     ensures outcome { IfOk result (λ closed. closed.outcome ≡ outcome_of call.now.completion ended) }
 {
-    let Running { env, cpu, row, .. } = Box::into_inner(running);
-    give_back(spare, cpu);
-    let id = env.current();
+    let mut running = running;
+    let closed = take_end(alloc, call, header, &mut running, ended);
+    give_back(spare, running);
+    closed
+}
+
+/// Takes the items out of a run whose program has ended so, and ends the call.
+fn take_end(
+    alloc: Global,
+    call: &Call,
+    header: &Header,
+    running: &mut Running,
+    ended: Ended,
+) -> Result<EndedRun, AllocError>
+    requires ends { ClosesAs call.now header.now running.old ended }
+    ensures ends { IfOk result (λ closed. EndsRun call.now header.now running.old.env.reads closed) }
+    ensures outcome { IfOk result (λ closed. closed.outcome ≡ outcome_of call.now.completion ended) }
+{
+    let id = running.env.current();
+    let empty = Env::new(alloc, call.shared_fields()?, *header, id);
+    let env = mem::replace(&mut running.env, empty);
     let (reads, writes) = env.into_items();
-    let end = end_call(alloc, call, id, row, writes, ended)?;
+    let end = end_call(alloc, call, id, &running.row, writes, ended)?;
     Ok(EndedRun {
         reads,
         writes: end.writes,

@@ -14,7 +14,7 @@ use crate::fields::account;
 use crate::known::{application, global_entry, local_state};
 use avm_cpu::{Cpu, Flow};
 use avm_items::Env;
-use avm_ops::{Executed, Op, Stop};
+use avm_ops::{Executed, Op, Stop, flag};
 use std::alloc::{AllocError, Global};
 use teal_code::Instr;
 use teal_table::Opcode;
@@ -62,13 +62,6 @@ impl StateRead {
             StateRead::GlobalGetEx => Opcode::AppGlobalGetEx,
         }
     }
-}
-
-/// 1 for true, 0 for false.
-fn flag(holds: bool) -> u64
-    ensures { Uint result ≡ flag holds }
-{
-    if holds { 1 } else { 0 }
 }
 
 /// A copy of a value; the uint64 0 where there is none.

@@ -82,14 +82,12 @@ fn read_all(lines: &mut Lines<'_>, spare: Vec<Token>) -> Result<(), AsmError>
 fn next_line(lines: &mut Lines<'_>, spare: Vec<Token>) -> Result<Option<Line>, AsmError>
     ensures { IsNext result lines.old lines.new }
 {
-    match lines.next_line(spare) {
-        Ok(line) => Ok(line),
-        Err(Failure::Memory) => Err(Failure::Memory),
-        Err(Failure::Fault(fault)) => Err(Failure::Fault(AsmFault {
+    lines.next_line(spare).map_err(|failure| {
+        failure.map(|fault| AsmFault {
             line: fault.line,
             kind: AsmFaultKind::Text,
-        })),
-    }
+        })
+    })
 }
 
 // Adds the statement of a line, if it has a token.

@@ -50,5 +50,5 @@ impl CheckFault {
     }
 }
 
-/// A [`CheckFault`], or want of memory.
+/// A [`CheckFault`], or a refused allocation.
 pub type CheckError = Failure<CheckFault>;

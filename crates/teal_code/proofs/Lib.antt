@@ -3,4 +3,4 @@ pub mod Digits
 pub mod ManyReading
 pub mod VaruintWriting
 pub mod Bytes
-pub mod GoingOn
+pub mod Prefixes

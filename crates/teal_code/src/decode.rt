@@ -17,7 +17,7 @@ use thiserror::Error;
 #[error("{name}", name = self.name())]
 pub enum CodeFault {
     /// The byte is no opcode of the program's version.
-    UnknownOp,
+    UnknownOp = 1,
     /// The bytes end before the instruction does.
     Truncated,
     /// A varuint has more than ten bytes, or a number of more than 64 bits.
@@ -37,7 +37,7 @@ impl CodeFault {
     }
 }
 
-/// A [`CodeFault`], or want of memory.
+/// A [`CodeFault`], or a refused allocation.
 pub type CodeError = Failure<CodeFault>;
 
 /// The instruction at a place of a program's bytes, and the place behind it.

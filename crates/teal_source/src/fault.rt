@@ -11,7 +11,7 @@ use thiserror::Error;
 #[error("{name}", name = self.name())]
 pub enum AsmFaultKind {
     /// A string or its escapes.
-    Text,
+    Text = 1,
     /// The first line with a token doesn't begin with `#pragma`.
     NoPragma,
     /// The pragma names another version than 2 and 3, or is not in the first line with a token.
@@ -69,5 +69,5 @@ pub struct AsmFault {
     pub kind: AsmFaultKind,
 }
 
-/// An [`AsmFault`], or want of memory.
+/// An [`AsmFault`], or a refused allocation.
 pub type AsmError = Failure<AsmFault>;

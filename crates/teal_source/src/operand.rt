@@ -13,7 +13,7 @@ use teal_table::{Version, global_field_named, txn_field_named};
 use teal_text::{encoded_bytes, names_encoding, number_of_word, token_bytes};
 use teal_value::{ByteString, Failure, address_of_bytes};
 
-/// A fault of a line, or want of memory.
+/// A fault of a line, or a refused allocation.
 pub type LineError = Failure<AsmFaultKind>;
 
 impl From<AsmFaultKind> for LineError {
@@ -173,11 +173,10 @@ pub(crate) fn address_value(
     if encoded.text.is_some() {
         return Err(Failure::Fault(AsmFaultKind::BadBytes));
     }
-    match address_of_bytes(alloc, encoded.first) {
-        Ok(address) => Ok(ByteString::from_slice(alloc, &address.0)?),
-        Err(Failure::Memory) => Err(Failure::Memory),
-        Err(Failure::Fault(_)) => Err(Failure::Fault(AsmFaultKind::BadBytes)),
-    }
+    let address = address_of_bytes(alloc, encoded.first).map_err(|failure| failure.map(
+        |_fault| AsmFaultKind::BadBytes,
+    ))?;
+    Ok(ByteString::from_slice(alloc, &address.0)?)
 }
 
 pub(crate) fn txn_field_value(word: &[u8]) -> Result<u8, AsmFaultKind>

@@ -57,11 +57,9 @@ pub fn address_of_text(alloc: Global, text: &str) -> Result<Address, Failure<Add
 pub fn address_of_bytes(alloc: Global, text: &[u8]) -> Result<Address, Failure<AddressFault>>
     ensures { Gives (λ a. a) result (address_of text.now) }
 {
-    let bytes = match base32_decode_bytes(alloc, text) {
-        Ok(bytes) => bytes,
-        Err(Failure::Memory) => return Err(Failure::Memory),
-        Err(Failure::Fault(_)) => return Err(Failure::Fault(AddressFault::BadText)),
-    };
+    let bytes = base32_decode_bytes(alloc, text).map_err(|failure| failure.map(
+        |_bad_text| AddressFault::BadText,
+    ))?;
     if text.len() == 58 && bytes.len() == 36 {
         address_before_checksum(&bytes)
     } else {

@@ -1,5 +1,5 @@
 //! What every other crate of the virtual machine speaks of: values, byte strings, keys of states, addresses, the faults
-//! of a program, and the form of an answer that may be a fault or want of memory (`specs/Answer.antt`).
+//! of a program, and the form of an answer that may be a fault or a refused allocation (`specs/Answer.antt`).
 #![tactic(auto)]
 
 mod address;

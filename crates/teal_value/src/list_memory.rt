@@ -4,7 +4,7 @@ ghost use Rattle.std.specs.Prelude.{◌≡◌, MatchResult};
 
 use std::alloc::AllocError;
 
-/// Puts other items in a list, in the memory that it has where they fit. At want of memory the list stays.
+/// Puts other items in a list, in the memory that it has where they fit. Where an allocation is refused the list stays.
 pub fn write_over<T: Copy>(list: &mut Vec<T>, items: &[T]) -> Result<(), AllocError>
     ensures { MatchResult result (λ _. list.new.items ≡ items.now) (λ _. list.new.items ≡ list.old.items) }
 {
