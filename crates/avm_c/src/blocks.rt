@@ -35,8 +35,7 @@ impl Question for Replay<'_> {
     fn answer(&self, alloc: Global, ops: &OpSet) -> Result<Finding, AllocError> {
         match ledger_and_block(alloc, self.ledger, self.block) {
             Ok((base, block)) => finding_on(alloc, base, &block, ops),
-            Err(Failure::Fault(why)) => Ok(Finding::Other(why)),
-            Err(Failure::Memory) => Err(AllocError),
+            Err(failure) => Ok(Finding::Other(failure.into_fault()?)),
         }
     }
 }
@@ -62,8 +61,7 @@ impl Question for State<'_> {
     fn answer(&self, alloc: Global, ops: &OpSet) -> Result<Answer, AllocError> {
         match past_ledger(alloc, self.ledger, self.block, self.timestamp, ops) {
             Ok(ledger) => Ok(done(ledger.canonical(alloc)?)),
-            Err(Failure::Fault(why)) => Ok(refusal(alloc, why)),
-            Err(Failure::Memory) => Err(AllocError),
+            Err(failure) => Ok(refusal(alloc, failure.into_fault()?)),
         }
     }
 }
@@ -84,21 +82,13 @@ pub fn ledger_and_block(
 fn ledger_of(alloc: Global, bytes: &[u8]) -> Result<Base, Failure<Status>>
     ensures { Gives (λ base. base) result (ledger_of bytes.now) }
 {
-    match Base::read(alloc, bytes) {
-        Ok(base) => Ok(base),
-        Err(Failure::Fault(_fault)) => Err(Failure::Fault(Status::NoLedger)),
-        Err(Failure::Memory) => Err(Failure::Memory),
-    }
+    Base::read(alloc, bytes).map_err(|failure| failure.map(|_fault| Status::NoLedger))
 }
 
 fn block_of(alloc: Global, bytes: &[u8]) -> Result<Block, Failure<Status>>
     ensures { Gives (λ block. block) result (block_of bytes.now) }
 {
-    match decode(alloc, bytes) {
-        Ok(block) => Ok(block),
-        Err(Failure::Fault(_fault)) => Err(Failure::Fault(Status::NoBlock)),
-        Err(Failure::Memory) => Err(Failure::Memory),
-    }
+    decode(alloc, bytes).map_err(|failure| failure.map(|_fault| Status::NoBlock))
 }
 
 /// The verdict on a block, as a finding.

@@ -49,8 +49,7 @@ impl Question for ViewAfter<'_> {
                     ops,
                 )
             }
-            Err(Failure::Fault(why)) => Ok(refusal(alloc, why)),
-            Err(Failure::Memory) => Err(AllocError),
+            Err(failure) => Ok(refusal(alloc, failure.into_fault()?)),
         }
     }
 }

@@ -10,7 +10,9 @@ ghost use Rattle.avm_input.specs.Shown.{reply_shown};
 
 use avm_block::Block;
 use avm_call::Outcome;
-use avm_input::{DONE, REFUSED, Refusal, Reply, ledger_and_block, outcome_text, refusal_reply};
+use avm_input::{
+    DONE, REFUSED, Refusal, Reply, digit_line, ledger_and_block, outcome_text, refusal_reply,
+};
 use avm_ledger::Ledger;
 use avm_ops::{BoxedOp, Op, OpSet};
 use avm_replay::{Base, Verdict, replay_owned, state_at_owned};
@@ -24,8 +26,7 @@ pub fn replay_reply(alloc: Global, input: &[u8], ops: &OpSet) -> Result<Reply, A
 {
     match ledger_and_block(alloc, input) {
         Ok((base, block)) => verdict_on(alloc, base, &block, ops),
-        Err(Failure::Fault(refusal)) => refusal_reply(alloc, refusal),
-        Err(Failure::Memory) => Err(AllocError),
+        Err(failure) => refusal_reply(alloc, failure.into_fault()?),
     }
 }
 
@@ -41,8 +42,7 @@ pub fn state_reply(
 {
     match past_ledger(alloc, timestamp, input, ops) {
         Ok(ledger) => ledger_reply(alloc, &ledger),
-        Err(Failure::Fault(refusal)) => refusal_reply(alloc, refusal),
-        Err(Failure::Memory) => Err(AllocError),
+        Err(failure) => refusal_reply(alloc, failure.into_fault()?),
     }
 }
 
@@ -50,8 +50,7 @@ fn ledger_reply(alloc: Global, ledger: &Ledger) -> Result<Reply, AllocError>
     ensures { IfOk result (λ reply. reply_shown reply ≡ ledger_reply (Ok ledger.now)) }
 {
     let bytes = ledger.canonical(alloc)?;
-    let mut text = hex::encode(alloc, bytes.as_slice())?;
-    text.push('\n')?;
+    let text = digit_line(alloc, bytes.as_slice())?;
     Ok(Reply { text, status: DONE })
 }
 

@@ -30,8 +30,7 @@ pub fn debug_reply(
 {
     match ledger_and_block(alloc, input) {
         Ok((base, block)) => found_reply(alloc, base.ledger(), &block, entry as usize, steps, ops),
-        Err(Failure::Fault(refusal)) => refusal_reply(alloc, refusal),
-        Err(Failure::Memory) => Err(AllocError),
+        Err(failure) => refusal_reply(alloc, failure.into_fault()?),
     }
 }
 

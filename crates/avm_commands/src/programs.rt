@@ -22,8 +22,7 @@ pub fn dis_reply(alloc: Global, input: &[u8]) -> Result<Reply, AllocError>
             let text = list(alloc, &program)?;
             Ok(Reply { text, status: DONE })
         }
-        Err(Failure::Fault(refusal)) => refusal_reply(alloc, refusal),
-        Err(Failure::Memory) => Err(AllocError),
+        Err(failure) => refusal_reply(alloc, failure.into_fault()?),
     }
 }
 
@@ -33,8 +32,7 @@ pub fn check_reply(alloc: Global, input: &[u8]) -> Result<Reply, AllocError>
 {
     match only_program(alloc, input) {
         Ok(program) => size_reply(alloc, &program),
-        Err(Failure::Fault(refusal)) => refusal_reply(alloc, refusal),
-        Err(Failure::Memory) => Err(AllocError),
+        Err(failure) => refusal_reply(alloc, failure.into_fault()?),
     }
 }
 
@@ -70,9 +68,5 @@ fn first_program(alloc: Global, lines: &mut DigitLines) -> Result<Program, Failu
 fn checked(alloc: Global, bytes: &[u8]) -> Result<Program, Failure<Refusal>>
     ensures { Gives (λ program. program) result (on_check (checked bytes.now)) }
 {
-    match check(alloc, bytes) {
-        Ok(program) => Ok(program),
-        Err(Failure::Fault(fault)) => Err(Failure::Fault(Refusal::Check(fault))),
-        Err(Failure::Memory) => Err(Failure::Memory),
-    }
+    check(alloc, bytes).map_err(|failure| failure.map(Refusal::Check))
 }

@@ -4,3 +4,4 @@ pub mod ReadPairs
 pub mod LineReading
 pub mod Inputs
 pub mod Written
+pub mod WrittenDigits

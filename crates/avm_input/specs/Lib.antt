@@ -9,3 +9,4 @@ pub mod Outcomes
 pub mod Refusals
 pub mod BlockLines
 pub mod Shown
+pub mod BlockDigits

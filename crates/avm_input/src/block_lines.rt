@@ -30,22 +30,14 @@ pub fn next_base(alloc: Global, lines: &mut DigitLines) -> Result<Base, Failure<
     ensures rules { IfOk result KeepsRules }
 {
     let bytes = needed_bytes(alloc, lines)?;
-    match Base::read(alloc, bytes.as_slice()) {
-        Ok(base) => Ok(base),
-        Err(Failure::Fault(fault)) => Err(Failure::Fault(Refusal::Ledger(fault))),
-        Err(Failure::Memory) => Err(Failure::Memory),
-    }
+    Base::read(alloc, bytes.as_slice()).map_err(|failure| failure.map(Refusal::Ledger))
 }
 
 fn next_block(alloc: Global, lines: &mut DigitLines) -> Result<Block, Failure<Refusal>>
     ensures { Gives (λ block. (block, lines.new)) result (first_block lines.old) }
 {
     let bytes = needed_bytes(alloc, lines)?;
-    match decode(alloc, bytes.as_slice()) {
-        Ok(block) => Ok(block),
-        Err(Failure::Fault(fault)) => Err(Failure::Fault(Refusal::Block(fault))),
-        Err(Failure::Memory) => Err(Failure::Memory),
-    }
+    decode(alloc, bytes.as_slice()).map_err(|failure| failure.map(Refusal::Block))
 }
 
 /// The bytes of the next line, which there has to be.

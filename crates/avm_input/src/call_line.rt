@@ -46,11 +46,7 @@ pub fn checked_call(alloc: Global, bytes: &[u8]) -> Result<Call, Failure<CallLin
 fn call_fields(alloc: Global, bytes: &[u8]) -> Result<CallData, Failure<CallLineFault>>
     ensures { Gives (λ fields. fields) result (on_bytes (call_at bytes.now)) }
 {
-    match CallData::read(alloc, bytes) {
-        Ok(fields) => Ok(fields),
-        Err(Failure::Fault(fault)) => Err(Failure::Fault(CallLineFault::Bytes(fault))),
-        Err(Failure::Memory) => Err(Failure::Memory),
-    }
+    CallData::read(alloc, bytes).map_err(|failure| failure.map(CallLineFault::Bytes))
 }
 
 fn call_of_fields(alloc: Global, fields: CallData) -> Result<Call, Failure<CallLineFault>>

@@ -1,20 +1,23 @@
 //! Inputs of lines of hexadecimal digits.
 
-ghost use Rattle.std.specs.Prelude.{◌≡◌, ◌∷◌, ◌<◌, length, Ok};
+ghost use Rattle.std.specs.Prelude.{◌≡◌, ◌∷◌, ◌<◌, IfOk, length, Ok};
 ghost use Rattle.std.specs.List.{list_all};
 ghost use Rattle.std.specs.Option.{option_map};
 ghost use Rattle.std.specs.Str.Lines.{lines};
 ghost use Rattle.teal_value.specs.Answer.{Gives};
 ghost use Rattle.teal_text.specs.Tokens.{is_blank};
 ghost use Rattle.avm_input.specs.DigitLines.{line_bytes, digit_lines, first_bytes, with_no_line};
-ghost use Rattle.avm_input.specs.Lines.{IsTaken};
+ghost use Rattle.avm_input.specs.Lines.{IsTaken, lines_shown};
 
 use crate::digits::decode_digits;
 use crate::refusals::Refusal;
-use std::alloc::Global;
+use std::alloc::{AllocError, Global};
 use std::marker::Model;
 use teal_text::first_line;
 use teal_value::Failure;
+
+/// A line with digits, and its number among all lines, from 1.
+pub type NumberedLine<'a> = (usize, &'a [u8]);
 
 /// The lines of an input that are still to be read. Blank lines are skipped, but counted.
 ///
@@ -55,11 +58,22 @@ impl<'a> DigitLines<'a> {
     {
         match self.next_line() {
             Some((number, digits)) => {
-                let bytes = bytes_of(alloc, number, digits)?;
+                let bytes = line_bytes(alloc, number, digits)?;
                 Ok(Some(bytes))
             }
             None => Ok(None),
         }
+    }
+
+    /// All lines that are left, as they stand: what is on them is not looked at.
+    pub fn into_lines(mut self, alloc: Global) -> Result<Vec<NumberedLine<'a>>, AllocError>
+        ensures { IfOk result (λ lines. lines_shown lines.items ≡ self.entry) }
+    {
+        let mut lines = Vec::new(alloc);
+        while let Some(line) = self.next_line() {
+            lines.push(line)?;
+        }
+        Ok(lines)
     }
 
     /// Refuses what is left, if there is a line.
@@ -73,7 +87,7 @@ impl<'a> DigitLines<'a> {
     }
 
     // The next line, with its number.
-    fn next_line(&mut self) -> Option<(usize, &'a [u8])>
+    fn next_line(&mut self) -> Option<NumberedLine<'a>>
         ensures { IsTaken result self.old self.new }
     {
         while !self.rest.is_empty() {
@@ -105,8 +119,9 @@ fn is_blank(byte: u8) -> bool
     byte == b' ' || byte == b'\t'
 }
 
+/// The bytes of a line's digits, which may be of either case.
 #[tactic(auto, using(crate::proofs::LineReading::line_read, crate::proofs::LineReading::line_refused))]
-fn bytes_of(alloc: Global, number: usize, digits: &[u8]) -> Result<Vec<u8>, Failure<Refusal>>
+pub fn line_bytes(alloc: Global, number: usize, digits: &[u8]) -> Result<Vec<u8>, Failure<Refusal>>
     ensures { Gives (λ bytes. bytes.items) result (line_bytes (record { number = number; digits = digits.now })) }
 {
     match decode_digits(alloc, digits)? {

@@ -1,14 +1,16 @@
-//! Hexadecimal digits. They are read without a branch for each, so that many are read at once.
+//! Hexadecimal digits. They are read and written without a branch for each, so that many are at once.
 
-ghost use Rattle.std.specs.Prelude.{◌≡◌, ◌≤◌, ◌<◌, ◌+◌, ◌*◌, ◌⊎◌, IfOk, None, Some, if◌then◌else◌, length, unwrap_or};
+ghost use Rattle.std.specs.Prelude.{◌≡◌, ◌≤◌, ◌<◌, ◌+◌, ◌*◌, ◌++◌, ◌⊎◌, IfOk, None, OnOk, Some, codes, if◌then◌else◌, length, unwrap_or};
+ghost use Rattle.std.specs.String.{string_bytes};
 ghost use Rattle.std.specs.Option.{option_map};
 ghost use Rattle.std.specs.Result.{result_ok};
-ghost use Rattle.hex.specs.Hex.{decode_of, decode_pairs, hex_digit_value};
+ghost use Rattle.hex.specs.Hex.{decode_of, decode_pairs, encode_lower, hex_digit_value};
+ghost use Rattle.avm_input.specs.BlockDigits.{digit_of};
 ghost use Rattle.avm_input.specs.DigitPairs.{AreNumbers, AreRead, DigitsAreWritten};
 
 use std::alloc::{AllocError, Global};
 
-/// How many bytes are written together: a fixed number, for which the compiler takes instructions that work on many at once.
+/// How many bytes are read or written together: a fixed number, for which the compiler takes instructions that work on many at once.
 const BLOCK: usize = 32;
 
 /// The bytes that digits of either case spell, where they are an even number of such digits.
@@ -123,4 +125,61 @@ fn greater(a: u8, b: u8) -> u8
     ensures one { (result ≡ a) ⊎ (result ≡ b) }
 {
     if a < b { b } else { a }
+}
+
+/// A line of the digits of bytes, in lower case, with its line feed.
+pub fn digit_line(alloc: Global, bytes: &[u8]) -> Result<String, AllocError>
+    ensures { IfOk result (λ line. string_bytes line ≡ encode_lower bytes.now ++ codes "\n") }
+{
+    let mut line = Vec::with_capacity(alloc, bytes.len().saturating_mul(2).saturating_add(1))?;
+    add_digits(&mut line, bytes)?;
+    line.push(b'\n')?;
+    match String::from_utf8(line) {
+        Ok(line) => Ok(line),
+        Err(_) => unreachable!(),
+    }
+}
+
+/// Adds the digits of bytes.
+fn add_digits(line: &mut Vec<u8>, bytes: &[u8]) -> Result<(), AllocError>
+    ensures { OnOk result (line.new.items ≡ line.old.items ++ encode_lower bytes.now) }
+{
+    let mut rest = bytes;
+    while rest.len() >= BLOCK {
+        let (front, back) = rest.split_at(BLOCK);
+        line.extend_from_slice(&block_digits(front))?;
+        rest = back;
+    }
+    while let Some((byte, back)) = rest.split_first() {
+        line.push(lower_digit(*byte / 16))?;
+        line.push(lower_digit(*byte % 16))?;
+        rest = back;
+    }
+    Ok(())
+}
+
+/// The digits of a block.
+fn block_digits(bytes: &[u8]) -> [u8; 64]
+    requires { length bytes.now ≡ 32 }
+    ensures { result ≡ encode_lower bytes.now }
+{
+    let mut digits = [0; 64];
+    'bytes: for i in 0..BLOCK {
+        let byte = bytes[i];
+        digits[2 * i] = lower_digit(byte / 16);
+        digits[2 * i + 1] = lower_digit(byte % 16);
+    }
+    digits
+}
+
+/// The digit of a number below 16.
+fn lower_digit(number: u8) -> u8
+    requires { number < 16 }
+    ensures { result ≡ digit_of number }
+{
+    if number < 10 {
+        b'0' + number
+    } else {
+        b'a' - 10 + number
+    }
 }

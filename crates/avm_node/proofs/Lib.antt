@@ -1,3 +1,3 @@
-pub mod CallsReading
+pub mod CallParts
 pub mod PoolAnswers
 pub mod NodeAnswers

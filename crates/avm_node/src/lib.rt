@@ -2,6 +2,7 @@
 //! calls by workers in threads (`specs/ProposeInputs.antt`, `specs/ProposeCommands.antt`).
 #![tactic(auto)]
 
+mod call_lines;
 mod propose_command;
 mod propose_input;
 mod running;

@@ -11,7 +11,7 @@ ghost use Rattle.avm_node.specs.WorkerSets.{AreWorkerSets};
 
 use crate::propose_input::{ProposeInput, propose_input};
 use avm_block::encode;
-use avm_input::{DONE, REFUSED, Reply, refusal_reply};
+use avm_input::{DONE, REFUSED, Reply, digit_line, refusal_reply};
 use avm_ops::{BoxedOp, Op, OpSet};
 use avm_pool::{OpenGate, PoolFault, Proposal, SharedBase, propose_on};
 use std::alloc::{AllocError, Global};
@@ -30,10 +30,9 @@ pub fn propose_reply<R: Threads + Wait + Sync>(
     requires sets { AreWorkerSets ⟦<BoxedOp as Op>⟧.opcode sets.items own.now }
     ensures { IfOk result (λ reply. IsProposeReply input.now (reply_shown reply)) }
 {
-    match propose_input(alloc, input) {
+    match propose_input(rt, alloc, sets.len(), input) {
         Ok(read) => pool_answer(rt, alloc, read, sets, own),
-        Err(Failure::Fault(refusal)) => refusal_reply(alloc, refusal),
-        Err(Failure::Memory) => Err(AllocError),
+        Err(failure) => refusal_reply(alloc, failure.into_fault()?),
     }
 }
 
@@ -68,8 +67,7 @@ fn proposal_reply(alloc: Global, proposal: &Proposal) -> Result<Reply, AllocErro
     ensures { IfOk result (λ reply. reply_shown reply ≡ proposal_reply proposal.now) }
 {
     let bytes = encode(alloc, &proposal.block)?;
-    let mut text = hex::encode(alloc, bytes.as_slice())?;
-    text.push('\n')?;
+    let mut text = digit_line(alloc, bytes.as_slice())?;
     add_left(alloc, &mut text, proposal.left.as_slice())?;
     Ok(Reply { text, status: DONE })
 }

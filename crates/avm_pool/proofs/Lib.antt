@@ -2,3 +2,4 @@ pub mod Remaining
 pub mod Marks
 pub mod Proposed
 pub mod Refused
+pub mod NumberSteps

@@ -4,3 +4,5 @@ pub mod Refusals
 pub mod Resting
 pub mod Running
 pub mod FaultNames
+pub mod NumberRule
+pub mod NumberPasses

@@ -6,6 +6,7 @@
 //! specs/Proposals.antt says so without a word about them.
 #![tactic(auto)]
 
+mod call_numbers;
 mod ends;
 mod gate;
 mod holding;
@@ -20,6 +21,7 @@ mod waiting;
 mod worker;
 mod workers;
 
+pub use call_numbers::{NumberPass, Numbers};
 pub use gate::{Gate, GateEvent, OpenGate};
 pub use mv_parts::SharedBase;
 pub use pool_fault::{PoolError, PoolFault};

@@ -9,6 +9,7 @@ ghost use Rattle.avm_pool.specs.Proposals.{IsProposal};
 ghost use Rattle.avm_pool.specs.Refusals.{IsRefusal, IsWant, MayPropose};
 ghost use Rattle.avm_block.specs.Blocks.{most_calls};
 
+use crate::call_numbers::Numbers;
 use crate::ends::ThreadEnd;
 use crate::gate::Gate;
 use crate::holding::ShardLock;
@@ -21,7 +22,6 @@ use crate::workers::{enlist_all, put_all, run_workers};
 use avm_call::Call;
 use avm_ledger::{Header, Ledger};
 use avm_ops::{BoxedOp, Op, OpSet};
-use call_numbers::Numbers;
 use mv_parts::{Journal, SharedBase, open_on};
 use mv_shards::{Held, SHARD_COUNT};
 use std::alloc::{AllocError, Global};

@@ -12,9 +12,8 @@ use crate::proposal::Proposal;
 use crate::running::Shared;
 use crate::worker::shards_of;
 use avm_call::Call;
-use avm_cpu::Cpu;
 use avm_ops::{BoxedOp, Op, OpSet};
-use avm_run::Finished;
+use avm_run::{Finished, Spare};
 use mv_parts::{BeginFault, Journal, Sealed};
 use mv_shards::{Attempt, Held};
 use std::alloc::{AllocError, Global};
@@ -49,7 +48,7 @@ fn run_once<G: Gate, R: Wait>(
     shared: &Shared<G>,
     journal: &mut Journal,
     ops: &OpSet,
-    spare: &mut Option<Cpu>,
+    spare: &mut Option<Spare>,
     call: &Call,
     number: u32,
 ) -> bool
@@ -73,7 +72,7 @@ fn run_attempt<G: Gate, R: Wait>(
     shared: &Shared<G>,
     journal: &mut Journal,
     ops: &OpSet,
-    spare: &mut Option<Cpu>,
+    spare: &mut Option<Spare>,
     call: &Call,
     mut attempt: Attempt,
 )

@@ -9,11 +9,10 @@ use crate::gate::{Gate, GateEvent};
 use crate::holding::ShardLock;
 use crate::waiting::lock_soon;
 use avm_call::Call;
-use avm_cpu::Cpu;
 use avm_items::{Item, ItemValue};
 use avm_ledger::Header;
 use avm_ops::{BoxedOp, Op, OpSet};
-use avm_run::{Advance, CallRun, Finished};
+use avm_run::{Advance, CallRun, Finished, Spare};
 use mv_shards::{Attempt, shard_of};
 use std::alloc::Global;
 use std::sync::Wait;
@@ -39,14 +38,14 @@ impl<'a, G: Gate> Shared<'a, G> {
         self.calls.get(number as usize - 1)
     }
 
-    /// Runs the call of an attempt to its end, on the spare machine, which it leaves for the next run. `tries` counts
-    /// the attempts of the call, this one too. It fails with `Again` where an item could not be read at the attempt's
+    /// Runs the call of an attempt to its end, in the spare box, which it leaves for the next run. `tries` counts the
+    /// attempts of the call, this one too. It fails with `Again` where an item could not be read at the attempt's
     /// timestamp, and with `Left` where memory was refused.
     pub fn run<R: Wait>(
         &self,
         rt: &R,
         ops: &OpSet,
-        spare: &mut Option<Cpu>,
+        spare: &mut Option<Spare>,
         call: &Call,
         attempt: &mut Attempt,
         tries: u32,

@@ -2,18 +2,17 @@
 
 ghost use Rattle.std.specs.Prelude.{◌≡◌};
 ghost use Rattle.avm_ops.specs.Objects.{IsFull};
-ghost use Rattle.call_numbers.specs.Passes.{IsWith, view};
+ghost use Rattle.avm_pool.specs.NumberPasses.{IsWith, view};
 
+use crate::call_numbers::{NumberPass, Numbers};
 use crate::ends::{AttemptEnd, ThreadEnd};
 use crate::gate::{Gate, GateEvent};
 use crate::holding::{Work, Worked, work_with};
 use crate::running::Shared;
 use crate::waiting::{lock_soon, stand_back};
 use avm_call::Call;
-use avm_cpu::Cpu;
 use avm_ops::{BoxedOp, Op, OpSet};
-use avm_run::Finished;
-use call_numbers::{NumberPass, Numbers};
+use avm_run::{Finished, Spare};
 use mv_parts::{BeginFault, Journal};
 use mv_shards::{Attempt, Held, SHARD_COUNT, shard_of};
 use std::sync::{Mutex, Wait};
@@ -88,7 +87,7 @@ fn run_call<G: Gate, R: Wait>(
     journal: &Mutex<Journal>,
     shared: &Shared<G>,
     ops: &OpSet,
-    spare: &mut Option<Cpu>,
+    spare: &mut Option<Spare>,
     number: u32,
 ) -> AttemptEnd
     requires full { IsFull ⟦<BoxedOp as Op>⟧.opcode ops.now }
@@ -115,7 +114,7 @@ fn run_attempt<G: Gate, R: Wait>(
     journal: &Mutex<Journal>,
     shared: &Shared<G>,
     ops: &OpSet,
-    spare: &mut Option<Cpu>,
+    spare: &mut Option<Spare>,
     call: &Call,
     number: u32,
     tries: u32,

@@ -1,16 +1,16 @@
 //! Workers in threads.
 
 ghost use Rattle.std.specs.Prelude.{◌≡◌, ◌≤◌, true, []};
-ghost use Rattle.call_numbers.specs.Passes.{IsWith, view};
-ghost use Rattle.call_numbers.specs.Rule.{hand};
+ghost use Rattle.avm_pool.specs.NumberPasses.{IsWith, view};
+ghost use Rattle.avm_pool.specs.NumberRule.{hand};
 ghost use Rattle.avm_block.specs.Blocks.{most_calls};
 
+use crate::call_numbers::{NumberPass, Numbers};
 use crate::ends::ThreadEnd;
 use crate::gate::Gate;
 use crate::running::Shared;
 use crate::worker::{Worker, enlist};
 use avm_ops::OpSet;
-use call_numbers::{NumberPass, Numbers};
 use mv_parts::Journal;
 use std::alloc::{AllocError, Global};
 use std::sync::{Mutex, Wait};

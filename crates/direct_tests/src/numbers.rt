@@ -1,10 +1,10 @@
 //! Numbers that are put and drawn.
 
 ghost use Rattle.std.specs.Prelude.{◌≡◌, true, []};
-ghost use Rattle.call_numbers.specs.Passes.{IsWith, view};
-ghost use Rattle.call_numbers.specs.Rule.{hand};
+ghost use Rattle.avm_pool.specs.NumberPasses.{IsWith, view};
+ghost use Rattle.avm_pool.specs.NumberRule.{hand};
 
-use call_numbers::{NumberPass, Numbers};
+use avm_pool::{NumberPass, Numbers};
 use std::sync::Wait;
 use std::test::Fail;
 use std::thread::join;

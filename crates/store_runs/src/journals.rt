@@ -9,7 +9,7 @@ use crate::said::Said;
 use crate::script::name;
 use crate::sealed::{block_text, replay_text};
 use crate::stores::{Stored, other_ledger};
-use crate::texts::{digits_of, entries_text, item_text, value_text};
+use crate::texts::{digits_of, entries_text, item_text, late_text, value_text};
 use avm_call::Call;
 use avm_items::{Item, ItemMap, ItemValue};
 use avm_ledger::Header;
@@ -185,8 +185,10 @@ impl Journals {
                 self.parts = Some(Parts { journal, held });
                 Ok(Said::Word("opened"))
             }
-            Err(Failure::Fault(fault)) => Ok(Said::Text(format!(in alloc; "{fault:?}")?)),
-            Err(Failure::Memory) => Err(AllocError),
+            Err(failure) => {
+                let fault = failure.into_fault()?;
+                Ok(Said::Text(format!(in alloc; "{fault:?}")?))
+            }
         }
     }
 
@@ -215,8 +217,7 @@ impl Journals {
                 self.keep(alloc, name, attempt)?;
                 Ok(Said::Begins(timestamp))
             }
-            Err(Failure::Fault(fault)) => Ok(Said::Word(fault.name())),
-            Err(Failure::Memory) => Err(AllocError),
+            Err(failure) => Ok(Said::Word(failure.into_fault()?.name())),
         }
     }
 
@@ -354,8 +355,7 @@ impl Journals {
                 let mut attempt = Attempt::new(alloc, 1, timestamp);
                 match shard.read(&mut attempt, item.copied()) {
                     Ok(value) => Ok(Said::Text(value_text(alloc, &value)?)),
-                    Err(Failure::Fault(fault)) => Ok(Said::Word(fault.name())),
-                    Err(Failure::Memory) => Err(AllocError),
+                    Err(failure) => Ok(Said::Word(failure.into_fault()?.name())),
                 }
             }
             _ => Ok(Said::Word("no such shard")),
@@ -507,10 +507,7 @@ fn commit(alloc: Global, parts: &mut Parts, tried: &mut Tried) -> Result<Said, A
         Err(refused) => {
             tried.attempt = Some(refused.attempt);
             tried.finished = Some(refused.finished);
-            match refused.error {
-                Failure::Fault(fault) => commit_refusal(alloc, &fault),
-                Failure::Memory => Err(AllocError),
-            }
+            commit_refusal(alloc, &refused.error.into_fault()?)
         }
     }
 }
@@ -521,10 +518,7 @@ fn commit_refusal(alloc: Global, fault: &CommitFault) -> Result<Said, AllocError
             item,
             version,
             mark,
-        } => {
-            let item = item_text(alloc, item)?;
-            Ok(Said::Text(format!(in alloc; "late: {item} version {version} mark {mark}")?))
-        }
+        } => late_text(alloc, item, *version, *mark),
         CommitFault::Moved { item } => {
             let item = item_text(alloc, item)?;
             Ok(Said::Text(format!(in alloc; "moved: {item}")?))

@@ -5,7 +5,7 @@ ghost use Rattle.avm_ops.specs.Objects.{IsFull};
 use crate::said::Said;
 use crate::script::Step;
 use crate::sealed::{block_text, replay_text};
-use crate::texts::{digits_of, entries_text, item_text, value_text};
+use crate::texts::{digits_of, entries_text, item_text, late_text, value_text};
 use avm_call::Call;
 use avm_debug::{Debugger, PastError, Source, state_of};
 use avm_items::Item;
@@ -231,8 +231,10 @@ impl Stores {
                 self.store = Some(store);
                 Ok(Said::Word("opened"))
             }
-            Err(Failure::Fault(fault)) => Ok(Said::Text(format!(in alloc; "{fault:?}")?)),
-            Err(Failure::Memory) => Err(AllocError),
+            Err(failure) => {
+                let fault = failure.into_fault()?;
+                Ok(Said::Text(format!(in alloc; "{fault:?}")?))
+            }
         }
     }
 
@@ -493,10 +495,7 @@ fn commit(
         Ok(timestamp) => Ok(Said::Commits(timestamp)),
         Err(refused) => {
             ended.finished = Some(refused.finished);
-            match refused.error {
-                Failure::Fault(fault) => commit_refusal(alloc, &fault),
-                Failure::Memory => Err(AllocError),
-            }
+            commit_refusal(alloc, &refused.error.into_fault()?)
         }
     }
 }
@@ -507,10 +506,7 @@ fn commit_refusal(alloc: Global, fault: &CommitFault) -> Result<Said, AllocError
             item,
             version,
             mark,
-        } => {
-            let item = item_text(alloc, item)?;
-            Ok(Said::Text(format!(in alloc; "late: {item} version {version} mark {mark}")?))
-        }
+        } => late_text(alloc, item, *version, *mark),
         _ => Ok(Said::Word(fault.name())),
     }
 }
@@ -542,8 +538,7 @@ fn on_store(
         StoreEvent::Entries => Ok(Said::Text(entries_text(alloc, store.entries())?)),
         StoreEvent::State(timestamp) => match store.state_at(alloc, *timestamp) {
             Ok(ledger) => Ok(Said::Text(digits_of(alloc, &ledger)?)),
-            Err(Failure::Fault(fault)) => Ok(Said::Word(fault.name())),
-            Err(Failure::Memory) => Err(AllocError),
+            Err(failure) => Ok(Said::Word(failure.into_fault()?.name())),
         },
         StoreEvent::Debug(entry, steps) => debug(alloc, ops, store, *entry, *steps),
         StoreEvent::Past(entry, timestamp) => past(alloc, ops, store, *entry, *timestamp),
@@ -554,8 +549,7 @@ fn on_store(
 fn begin(store: &mut Store, number: u32) -> Result<Said, AllocError> {
     match store.begin(number) {
         Ok(ticket) => Ok(Said::Begins(ticket.timestamp)),
-        Err(Failure::Fault(fault)) => Ok(Said::Word(fault.name())),
-        Err(Failure::Memory) => Err(AllocError),
+        Err(failure) => Ok(Said::Word(failure.into_fault()?.name())),
     }
 }
 
@@ -567,8 +561,7 @@ fn read(
 ) -> Result<Said, AllocError> {
     match store.read(ticket, item.copied()) {
         Ok(value) => Ok(Said::Text(value_text(alloc, &value)?)),
-        Err(Failure::Fault(fault)) => Ok(Said::Word(fault.name())),
-        Err(Failure::Memory) => Err(AllocError),
+        Err(failure) => Ok(Said::Word(failure.into_fault()?.name())),
     }
 }
 
@@ -576,8 +569,7 @@ fn read(
 fn reads(store: &mut Store, ticket: &Ticket, item: &Item) -> Result<Said, AllocError> {
     match store.read(ticket, item.copied()) {
         Ok(_value) => Ok(Said::Word("reads")),
-        Err(Failure::Fault(fault)) => Ok(Said::Word(fault.name())),
-        Err(Failure::Memory) => Err(AllocError),
+        Err(failure) => Ok(Said::Word(failure.into_fault()?.name())),
     }
 }
 
@@ -596,8 +588,7 @@ fn debug(
             let mut debugger = debugger;
             place_after(alloc, ops, &mut debugger, steps)
         }
-        Err(Failure::Fault(fault)) => Ok(Said::Word(fault.name())),
-        Err(Failure::Memory) => Err(AllocError),
+        Err(failure) => Ok(Said::Word(failure.into_fault()?.name())),
     }
 }
 
@@ -612,8 +603,7 @@ fn place_after(
     for _step in 0..steps {
         match debugger.step(alloc, ops) {
             Ok(()) => {}
-            Err(Failure::Fault(fault)) => return Ok(Said::Word(fault.name())),
-            Err(Failure::Memory) => return Err(AllocError),
+            Err(failure) => return Ok(Said::Word(failure.into_fault()?.name())),
         }
     }
     match debugger.view(alloc) {
@@ -637,15 +627,13 @@ fn past(
     }
     match Debugger::open(alloc, Source::Live(store), entry, ops) {
         Ok(debugger) => past_text(alloc, debugger.state(alloc, timestamp, ops)),
-        Err(Failure::Fault(fault)) => Ok(Said::Word(fault.name())),
-        Err(Failure::Memory) => Err(AllocError),
+        Err(failure) => Ok(Said::Word(failure.into_fault()?.name())),
     }
 }
 
 fn past_text(alloc: Global, past: Result<Ledger, PastError>) -> Result<Said, AllocError> {
     match past {
         Ok(ledger) => Ok(Said::Text(digits_of(alloc, &ledger)?)),
-        Err(Failure::Fault(fault)) => Ok(Said::Word(fault.name())),
-        Err(Failure::Memory) => Err(AllocError),
+        Err(failure) => Ok(Said::Word(failure.into_fault()?.name())),
     }
 }

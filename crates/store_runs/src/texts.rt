@@ -1,5 +1,6 @@
 //! Items, values and ledgers as words.
 
+use crate::said::Said;
 use avm_items::{Item, ItemValue};
 use avm_ledger::Ledger;
 use mv_parts::Entry;
@@ -29,6 +30,12 @@ pub fn item_text(alloc: Global, item: &Item) -> Result<String, AllocError> {
         }
         Item::Local(who, id) => format!(in alloc; "local {} {id}", letter(who)),
     }
+}
+
+/// A late write: its item, the version that it would follow, and that version's mark.
+pub fn late_text(alloc: Global, item: &Item, version: u64, mark: u64) -> Result<Said, AllocError> {
+    let item = item_text(alloc, item)?;
+    Ok(Said::Text(format!(in alloc; "late: {item} version {version} mark {mark}")?))
 }
 
 /// An item's value.

@@ -1,5 +1,5 @@
 use Rattle.std.proofs.Common.{◌≡◌}
-use Rattle.call_numbers.specs.Passes.{view, IsWith}
+use Rattle.avm_pool.specs.NumberPasses.{view, IsWith}
 use Rattle.avm_pool.proofs.workers.enlist_all.Given as goal
 
 abbrev pub invariant-loop-ops : goal.invariant-loop-ops

@@ -1,6 +1,6 @@
 use Rattle.std.proofs.Common.{◌≡◌, true, []}
-use Rattle.call_numbers.specs.Passes.{view, IsWith}
-use Rattle.call_numbers.specs.Rule.{hand}
+use Rattle.avm_pool.specs.NumberPasses.{view, IsWith}
+use Rattle.avm_pool.specs.NumberRule.{hand}
 use Rattle.avm_pool.proofs.workers.put_all.Given as goal
 
 abbrev pub invariant-loop-below : goal.invariant-loop-below

@@ -1,4 +1,4 @@
-use Rattle.call_numbers.specs.Passes.{IsWith}
+use Rattle.avm_pool.specs.NumberPasses.{IsWith}
 use Rattle.avm_pool.proofs.worker.Worker.work.Given as goal
 
 abbrev pub invariant-loop : goal.invariant-loop

@@ -1,0 +1,128 @@
+//! The lines of calls. They are read by as many threads as there are workers, up to four; where no thread can be made, parts
+//! are read one after another. Whoever reads a line, the first refusal in the order of the lines is the answer.
+
+ghost use Rattle.std.specs.Prelude.{◌≡◌, ◌+◌, ◌<◌, ◌^◌, length};
+ghost use Rattle.teal_value.specs.Answer.{Gives};
+ghost use Rattle.avm_input.specs.CallLines.{checked_call};
+ghost use Rattle.avm_input.specs.Lines.{line_shown, lines_shown};
+ghost use Rattle.avm_node.specs.CallParts.{GiveTogether};
+ghost use Rattle.avm_node.specs.ProposeInputs.{call_on_line, calls_on_lines, on_call};
+
+use avm_call::Call;
+use avm_input::{NumberedLine, Refusal, checked_call, line_bytes};
+use std::alloc::Global;
+use std::thread::{Threads, join};
+use teal_value::Failure;
+
+/// How few lines one thread reads alone: to make a thread for them would cost more than it saves.
+const FEW: usize = 128;
+
+/// Calls, or the first refusal of a line.
+type Calls = Result<Vec<Call>, Failure<Refusal>>;
+
+/// The calls of lines, numbered from 1.
+pub(crate) fn calls_of<R: Threads + Sync>(
+    rt: &R,
+    alloc: Global,
+    workers: usize,
+    lines: &[NumberedLine<'_>],
+) -> Calls
+    ensures { Gives (λ calls. calls.items) result (calls_on_lines 1 (lines_shown lines.now)) }
+{
+    if workers < 2 || lines.len() < FEW {
+        calls_on(alloc, 1, lines)
+    } else if workers < 4 {
+        by_two(rt, alloc, 1, lines)
+    } else {
+        by_four(rt, alloc, 1, lines)
+    }
+}
+
+/// The calls of lines, numbered from this on, by four threads.
+fn by_four<R: Threads + Sync>(
+    rt: &R,
+    alloc: Global,
+    number: usize,
+    lines: &[NumberedLine<'_>],
+) -> Calls
+    requires { number + length lines.now < 2 ^ 64 }
+    ensures { Gives (λ calls. calls.items) result (calls_on_lines number (lines_shown lines.now)) }
+{
+    let (front, back) = lines.split_at(lines.len() / 2);
+    let behind = number + front.len();
+    let (first, second) = join(
+        rt,
+        || -> Calls
+            requires { number + length front.now < 2 ^ 64 }
+            ensures { Gives (λ calls. calls.items) result (calls_on_lines number (lines_shown front.entry.now)) }
+        { by_two(rt, alloc, number, front) },
+        || -> Calls
+            requires { behind + length back.now < 2 ^ 64 }
+            ensures { Gives (λ calls. calls.items) result (calls_on_lines behind (lines_shown back.entry.now)) }
+        { by_two(rt, alloc, behind, back) },
+    );
+    together(first, second)
+}
+
+/// The calls of lines, numbered from this on, by two threads.
+fn by_two<R: Threads + Sync>(
+    rt: &R,
+    alloc: Global,
+    number: usize,
+    lines: &[NumberedLine<'_>],
+) -> Calls
+    requires { number + length lines.now < 2 ^ 64 }
+    ensures { Gives (λ calls. calls.items) result (calls_on_lines number (lines_shown lines.now)) }
+{
+    let (front, back) = lines.split_at(lines.len() / 2);
+    let behind = number + front.len();
+    let (first, second) = join(
+        rt,
+        || -> Calls
+            requires { number + length front.now < 2 ^ 64 }
+            ensures { Gives (λ calls. calls.items) result (calls_on_lines number (lines_shown front.entry.now)) }
+        { calls_on(alloc, number, front) },
+        || -> Calls
+            requires { behind + length back.now < 2 ^ 64 }
+            ensures { Gives (λ calls. calls.items) result (calls_on_lines behind (lines_shown back.entry.now)) }
+        { calls_on(alloc, behind, back) },
+    );
+    together(first, second)
+}
+
+/// The calls of both, or the first refusal.
+fn together(first: Calls, second: Calls) -> Calls
+    ensures { GiveTogether (λ calls. calls.items) first second result }
+{
+    let mut calls = first?;
+    let mut more = second?;
+    calls.append(&mut more)?;
+    Ok(calls)
+}
+
+/// The calls of lines, numbered from this on.
+fn calls_on(alloc: Global, number: usize, lines: &[NumberedLine<'_>]) -> Calls
+    requires { number + length lines.now < 2 ^ 64 }
+    ensures { Gives (λ calls. calls.items) result (calls_on_lines number (lines_shown lines.now)) }
+{
+    let mut calls = Vec::with_capacity(alloc, lines.len())?;
+    for index in 0..lines.len() {
+        calls.push(call_on(alloc, number + index, lines[index])?)?;
+    }
+    Ok(calls)
+}
+
+/// The call of a line, whose number among the calls this is.
+fn call_on(alloc: Global, number: usize, line: NumberedLine<'_>) -> Result<Call, Failure<Refusal>>
+    ensures { Gives (λ call. call) result (call_on_line number (line_shown line.entry)) }
+{
+    let bytes = line_bytes(alloc, line.0, line.1)?;
+    numbered_call(alloc, number, bytes.as_slice())
+}
+
+/// The call of this number.
+fn numbered_call(alloc: Global, number: usize, bytes: &[u8]) -> Result<Call, Failure<Refusal>>
+    ensures { Gives (λ call. call) result (on_call number (checked_call bytes.now)) }
+{
+    checked_call(alloc, bytes).map_err(|failure| failure.map(|fault| Refusal::Call(number, fault)))
+}
