@@ -16,3 +16,4 @@ pub mod TextCommands
 pub mod TextMeaning
 pub mod ShortestSpellings
 pub mod ProgramRules
+pub mod TextRelation

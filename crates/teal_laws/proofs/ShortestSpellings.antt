@@ -16,7 +16,7 @@ use Rattle.teal_code.specs.Grammar.{IsString, Each, AreImmediates, Spells}
 use Rattle.teal_code.specs.Spelling.{prefixed, immediates_spelling, instr_spelling}
 use Rattle.teal_code.specs.Reader.{read_at}
 use Rattle.teal_code.proofs.Reading.{is_read}
-use Rattle.teal_code.proofs.GoingOn.{read_anywhere}
+use Rattle.teal_code.proofs.Prefixes.{read_anywhere}
 use Rattle.teal_laws.specs.Listed.{AreUints, IsOfVersion}
 use Rattle.teal_laws.specs.ShortestSpelling.{IsShortOffset, IsShortest}
 use Rattle.teal_laws.proofs.Bytes.{AreBytes, are_each, bytes_behind}

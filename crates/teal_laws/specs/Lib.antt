@@ -4,3 +4,4 @@ pub mod AssembledListing
 pub mod ShortestSpelling
 pub mod TextCost
 pub mod ProgramRules
+pub mod TextRelation

@@ -21,6 +21,7 @@ ghost use Rattle.teal_laws.specs.ListedMeaning.{program_meaning};
 ghost use Rattle.teal_laws.specs.ProgramRules.{IsProgram};
 ghost use Rattle.teal_laws.specs.ShortestSpelling.{IsShortOffset, IsShortest};
 ghost use Rattle.teal_laws.specs.TextCost.{meant_cost};
+ghost use Rattle.teal_laws.specs.TextRelation.{IsWhatItSays};
 
 /// What `encode_into` writes of an instruction is its shortest spelling, where bytes spell it at all: so it is for one that
 /// was read, and for one of the version whose numbers are in their range.
@@ -75,4 +76,11 @@ pub fn listings_keep_the_meaning()
 pub fn assembled_programs_break_no_other_rule()
     ensures only_cost { (text bytes : List ℕ) → IsBytes bytes → assembled text ≡ Ok bytes → IfErr (checked bytes) (λ f. f ≡ Cost) }
     ensures dear { (text bytes : List ℕ) (m : Meaning) → IsBytes bytes → assembled text ≡ Ok bytes → meaning text ≡ Ok m → (checked bytes ≡ Err Cost) ↔ (most_cost < meant_cost m.instructions) }
+{}
+
+/// A text that has a meaning means what its commands say, each by itself: constants are gathered once each, in the order
+/// of first use; a branch leads to the instruction that its label stands before, which comes behind it; and there is an
+/// instruction for each command, in order.
+pub fn texts_mean_what_they_say()
+    ensures { (text : List ℕ) (m : Meaning) → meaning text ≡ Ok m → IsWhatItSays text m.version m.instructions }
 {}
