@@ -10,3 +10,4 @@ pub mod DistinctSpellings
 pub mod CheckedCalls
 pub mod BoundedCalls
 pub mod AnyOrder
+mod ReadBlocks

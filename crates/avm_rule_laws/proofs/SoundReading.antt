@@ -17,6 +17,7 @@ use Rattle.avm_ledger.proofs.LedgerKept.{ledger_kept}
 use Rattle.avm_items.specs.declared.call_data.CallData.{CallData}
 use Rattle.avm_items.specs.CallFields.{completion_number}
 use Rattle.avm_call_codec.specs.CallReader.{call_front}
+use Rattle.avm_call_codec.specs.CallRoundTrip.{HasFields}
 use Rattle.avm_call_codec.specs.CallSpelling.{address_bytes, terms_bytes, target_bytes, lists_bytes, programs_bytes, call_bytes}
 use Rattle.avm_call_codec.proofs.CallSpelled.{front_spells}
 use Rattle.avm_items.proofs.RulesKept.{empty_keeps}
@@ -29,7 +30,7 @@ abbrev joined : List ℕ → List (List ℕ) → List ℕ
 joined front [] = front
 joined front (p ∷ ps) = joined (front ++ p) ps
 
-parts : (front : List ℕ) (ps : List (List ℕ)) → AreBytes (joined front ps) → AreBytes front × AllByRecursion AreBytes ps
+pub parts : (front : List ℕ) (ps : List (List ℕ)) → AreBytes (joined front ps) → AreBytes front × AllByRecursion AreBytes ps
 parts front [] all = (all, tt)
 parts front (p ∷ ps) all =
     let rest = parts (front ++ p) ps all in
@@ -43,7 +44,7 @@ each_part spelling [] all = All-nil (λ x. AreBytes (spelling x))
 each_part spelling (x ∷ xs) all =
     All-cons (λ y. AreBytes (spelling y)) x xs (front_all (λ b. b < 256) (spelling x) (flat_map spelling xs) all) (each_part spelling xs (rest_all (λ b. b < 256) (spelling x) (flat_map spelling xs) all))
 
-counted_parts : {A : Type 0} (count : ℕ → List ℕ) (spelling : A → List ℕ) (xs : List A) → AreBytes (counted_bytes count spelling xs) → All (λ x. AreBytes (spelling x)) xs
+pub counted_parts : {A : Type 0} (count : ℕ → List ℕ) (spelling : A → List ℕ) (xs : List A) → AreBytes (counted_bytes count spelling xs) → All (λ x. AreBytes (spelling x)) xs
 counted_parts count spelling xs all = each_part spelling xs (rest_all (λ b. b < 256) (count (length xs)) (flat_map spelling xs) all)
 
 together : {A : Type 0} (P Q R : A → Type 0) (xs : List A) → ((x : A) → P x → Q x → R x) → All P xs → All Q xs → All R xs
@@ -93,17 +94,16 @@ empty_sound = record { rules = empty_keeps; of_bytes = record { applications = A
 
 -- ---- calls
 
-pub call_of_bytes : (bytes : List ℕ) (c : CallData) (rest : List ℕ) → AreBytes bytes → call_front bytes ≡ Ok (c, rest) → IsCallOfBytes c
-call_of_bytes bytes c rest all e =
-    let spelled = front_spells bytes c rest all e in
-    let whole = front_all (λ b. b < 256) (call_bytes c) rest (subst AreBytes (sym spelled.0) all) in
+-- a call whose bytes are bytes
+pub spelled_call : (c : CallData) → HasFields c → AreBytes (call_bytes c) → IsCallOfBytes c
+spelled_call c fields whole =
     let groups = parts (terms_bytes c) (target_bytes c ∷ lists_bytes c ∷ programs_bytes c ∷ []) whole in
     let terms = parts c.sender.0 (u64_bytes c.fee ∷ u64_bytes c.first_valid ∷ u64_bytes c.last_valid ∷ string_bytes c.note ∷ []) groups.0 in
     let target = parts c.lease (c.rekey_to.0 ∷ u64_bytes c.application ∷ u8_bytes (completion_number c.completion) ∷ []) groups.1.0 in
     let lists = parts (counted_bytes u8_bytes string_bytes c.arguments) (counted_bytes u8_bytes address_bytes c.accounts ∷ counted_bytes u8_bytes u64_bytes c.foreign_applications ∷ []) groups.1.1.0 in
     let programs = parts (string_bytes c.approval) (string_bytes c.clear ∷ schema_bytes c.global_schema ∷ schema_bytes c.local_schema ∷ []) groups.1.1.1.0 in
     record {
-      fields = spelled.1;
+      fields = fields;
       sender = terms.0;
       note = string_part c.note terms.1.1.1.1.0;
       lease = target.0;
@@ -113,3 +113,8 @@ call_of_bytes bytes c rest all e =
       approval = string_part c.approval programs.0;
       clear = string_part c.clear programs.1.0;
     }
+
+pub call_of_bytes : (bytes : List ℕ) (c : CallData) (rest : List ℕ) → AreBytes bytes → call_front bytes ≡ Ok (c, rest) → IsCallOfBytes c
+call_of_bytes bytes c rest all e =
+    let spelled = front_spells bytes c rest all e in
+    spelled_call c spelled.1 (front_all (λ b. b < 256) (call_bytes c) rest (subst AreBytes (sym spelled.0) all))

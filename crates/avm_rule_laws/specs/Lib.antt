@@ -2,3 +2,4 @@ pub mod Rules
 pub mod Bounds
 pub mod Spellings
 pub mod PutOrder
+pub mod ReadBlocks

@@ -1,6 +1,7 @@
 //! That calls keep the rules of ledgers, and their runs the bounds of the stack and of byte strings.
 
 ghost use Rattle.avm_rule_laws.specs.Bounds.{RunsStayWithinBounds};
+ghost use Rattle.avm_rule_laws.specs.ReadBlocks.{ReadBlocksLeadToReadableLedgers};
 ghost use Rattle.avm_rule_laws.specs.Rules.{CheckedCallsBringPrograms, EmptyIsSound, EveryCallKeepsTheRules, ReadCallsAreOfBytes, ReadLedgersAreSound, ReplayedLedgersReadBack, ReplaysKeepTheRules, WritesKeepTheRules};
 
 /// At each step of a call's program the ledger with its own writes keeps the rules: values are within 64 bits and 64 bytes,
@@ -18,6 +19,12 @@ pub fn every_call_keeps_the_rules()
 /// A ledger that calls lead to from one that keeps the rules is read back from its bytes.
 pub fn replayed_ledgers_read_back()
     ensures { ReplayedLedgersReadBack }
+{}
+
+/// The ledger that a block leads to, after all its calls or the first of them, is read back from its bytes: the block and the
+/// ledger before it were read from bytes, and nothing else is asked of them.
+pub fn read_blocks_lead_to_readable_ledgers()
+    ensures { ReadBlocksLeadToReadableLedgers }
 {}
 
 /// The first ledger keeps the rules, and so do ledgers that are read.
