@@ -1,0 +1,25 @@
+-- Which words are a command of `avm_json`, and what it answers.
+use Rattle.std.specs.Prelude.{◌≡◌, ℕ, List, [], ◌∷◌, Option, Some, None, codes, if◌then◌else◌}
+use Rattle.std.specs.Str.{bytes_eq}
+use Rattle.avm_input.specs.Replies.{Reply, usage}
+use Rattle.json_documents.specs.Replies.{lines_reply}
+use Rattle.json_views.specs.Show.{show_reply}
+use Rattle.avm_json.specs.declared.commands.JsonCommand.{JsonCommand}
+use Rattle.avm_json.specs.declared.commands.JsonCommand.TheVariants.{Lines, Show}
+
+abbrev pub command_named : List ℕ → Option JsonCommand
+command_named word = if bytes_eq word (codes "lines") then Some Lines else if bytes_eq word (codes "show") then Some Show else None
+
+-- a command stands alone
+abbrev pub command_in : List (List ℕ) → Option JsonCommand
+command_in [] = None
+command_in (word ∷ []) = command_named word
+command_in (word ∷ other ∷ more) = None
+
+abbrev pub usage_reply : Reply
+usage_reply = record { text = codes "usage: avm_json lines|show|trace\n"; status = usage }
+
+-- what a command answers to an input that is not too long
+abbrev pub IsJsonReply : JsonCommand → List ℕ → Reply → Type 0
+IsJsonReply Lines input reply = reply ≡ lines_reply input
+IsJsonReply Show input reply = reply ≡ show_reply input

@@ -1,0 +1,112 @@
+//! The commands of the program.
+
+ghost use Rattle.std.specs.Prelude.{◌≡◌, IfOk, None, map};
+ghost use Rattle.avm_input.specs.Answers.{CommandAnswers, CommandFails, IsReply};
+ghost use Rattle.avm_input.specs.Replies.{failed};
+ghost use Rattle.avm_input.specs.Shown.{reply_shown};
+ghost use Rattle.avm_json.specs.Commands.{IsJsonReply, command_in, command_named, usage_reply};
+
+use avm_input::{FAILED, INPUT_LIMIT, Reply, USAGE, input_refusal, read_input, write_reply};
+use json_documents::lines_reply;
+use json_views::show_reply;
+use std::alloc::{AllocError, Global};
+use std::io::{self, Read, Write};
+
+const USAGE_TEXT: &str = "usage: avm_json lines|show|trace\n";
+
+/// A command of the program.
+#[derive(Clone, Copy, Debug, PartialEq, Eq)]
+pub enum JsonCommand {
+    /// Makes the lines of a document that `avm propose` reads.
+    Lines,
+    /// Shows a ledger, or a ledger and a block, as a document.
+    Show,
+}
+
+/// Executes the command that the words after the program's name are, and gives the exit status.
+///
+/// A failed or interrupted read and refused memory give status 3, with nothing written; so does a failed write, before
+/// which a beginning of the answer may have been written. Words that are no command read nothing.
+pub fn answer<R: Read, W: Write>(
+    alloc: Global,
+    words: &[&str],
+    reader: &mut R,
+    writer: &mut W,
+) -> u8
+    ensures answers { CommandAnswers usage_reply IsJsonReply
+        (command_in (map (λ word. word.now) words.now))
+        (R.remaining reader.old) (W.contents writer.old) (W.contents writer.new) result }
+    ensures fails { result ≡ failed → CommandFails usage_reply IsJsonReply
+        (command_in (map (λ word. word.now) words.now))
+        (R.remaining reader.old) (W.contents writer.old)
+        (W.contents writer.new) writer.old writer.new }
+    ensures reads_nothing { command_in (map (λ word. word.now) words.now) ≡ None
+        → reader.new ≡ reader.old }
+{
+    answer_to(alloc, command_in(words), reader, writer)
+}
+
+/// Executes a command, or writes the usage line, as [`answer`] does.
+fn answer_to<R: Read, W: Write>(
+    alloc: Global,
+    command: Option<JsonCommand>,
+    reader: &mut R,
+    writer: &mut W,
+) -> u8
+    ensures answers { CommandAnswers usage_reply IsJsonReply command
+        (R.remaining reader.old) (W.contents writer.old) (W.contents writer.new) result }
+    ensures fails { result ≡ failed → CommandFails usage_reply IsJsonReply command
+        (R.remaining reader.old) (W.contents writer.old)
+        (W.contents writer.new) writer.old writer.new }
+    ensures reads_nothing { command ≡ None → reader.new ≡ reader.old }
+{
+    match command {
+        None => write_reply(writer, USAGE_TEXT, USAGE),
+        Some(command) => match reply_of(alloc, command, reader) {
+            Ok(reply) => write_reply(writer, reply.text.as_str(), reply.status),
+            Err(_) => FAILED,
+        },
+    }
+}
+
+/// The command that the words are, if they are one.
+fn command_in(words: &[&str]) -> Option<JsonCommand>
+    ensures { result ≡ command_in (map (λ word. word.now) words.now) }
+{
+    match words {
+        [word] => command_named(word),
+        _ => None,
+    }
+}
+
+fn command_named(word: &str) -> Option<JsonCommand>
+    ensures { result ≡ command_named word.now }
+{
+    match word {
+        "lines" => Some(JsonCommand::Lines),
+        "show" => Some(JsonCommand::Show),
+        _ => None,
+    }
+}
+
+/// What a command answers to its whole input.
+fn reply_of<R: Read>(alloc: Global, command: JsonCommand, reader: &mut R) -> io::Result<Reply>
+    ensures { IfOk result
+        (λ reply. IsReply (IsJsonReply command) (R.remaining reader.old) (reply_shown reply)) }
+{
+    let input = read_input(alloc, reader)?;
+    if input.len() > INPUT_LIMIT {
+        return Ok(input_refusal(alloc)?);
+    }
+    Ok(command_reply(alloc, command, input.as_slice())?)
+}
+
+/// What a command answers to an input that is not too long.
+fn command_reply(alloc: Global, command: JsonCommand, input: &[u8]) -> Result<Reply, AllocError>
+    ensures { IfOk result (λ reply. IsJsonReply command input.now (reply_shown reply)) }
+{
+    match command {
+        JsonCommand::Lines => lines_reply(alloc, input),
+        JsonCommand::Show => show_reply(alloc, input),
+    }
+}

@@ -1,0 +1,30 @@
+-- Accounts, of which the local states count.
+use Rattle.std.specs.Prelude.{ℕ, [], codes, Result}
+use Rattle.teal_value.specs.Answer.{◌>>=◌}
+use Rattle.teal_value.specs.declared.address.Address.{Address}
+use Rattle.avm_ledger.specs.LedgerReader.{local_room}
+use Rattle.avm_ledger.specs.Ledgers.{Ledger, application_at}
+use Rattle.json.specs.Json.{Json}
+use Rattle.json_fields.specs.Faults.{Fault}
+use Rattle.json_fields.specs.Members.{known, needed, optional}
+use Rattle.json_fields.specs.Arrays.{each}
+use Rattle.json_fields.specs.Plain.{address}
+use Rattle.json_documents.specs.Drafts.{opted}
+use Rattle.json_documents.specs.Ids.{id_below}
+use Rattle.json_documents.specs.States.{state}
+use Rattle.json_documents.specs.Tables.{account_names, local_names}
+
+-- an account's local state of an application, which may be gone
+abbrev pub local : ℕ → Address → Ledger → Json → Result Ledger Fault
+local end who l j = do
+  _ ← known local_names j
+  id ← needed (codes "id") (id_below end) j
+  entries ← optional (codes "key-value") (state (local_room (application_at l id))) [] j
+  opted l who id entries
+
+-- an account, beside those before it
+abbrev pub account : ℕ → Ledger → Json → Result Ledger Fault
+account end l j = do
+  _ ← known account_names j
+  who ← needed (codes "address") address j
+  optional (codes "apps-local-state") (each (local end who) l) l j

@@ -1,0 +1,15 @@
+pub mod Accounts
+pub mod Applications
+pub mod Documents
+pub mod Drafts
+pub mod Ids
+pub mod Lines
+pub mod Programs
+pub mod Reading
+pub mod Replies
+pub mod Schemas
+pub mod Shown
+pub mod Sources
+pub mod States
+pub mod Tables
+pub mod Transactions

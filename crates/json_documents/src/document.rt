@@ -1,0 +1,99 @@
+//! A document: a ledger, a header, and calls.
+
+ghost use Rattle.std.specs.Prelude.{◌≡◌, codes};
+ghost use Rattle.teal_value.specs.Answer.{Gives};
+ghost use Rattle.json.specs.Value.{value_view};
+ghost use Rattle.json_fields.specs.Arrays.{each};
+ghost use Rattle.json_fields.specs.Members.{optional};
+ghost use Rattle.json_documents.specs.Documents.{document, front, ledger};
+ghost use Rattle.json_documents.specs.Shown.{document_shown, front_shown};
+ghost use Rattle.json_documents.specs.Sources.{no_sources, with_source};
+
+use crate::accounts::Accounts;
+use crate::applications::Applications;
+use crate::ids::{NextIdForm, end_of_ids, first_next_id};
+use crate::ledger_draft::LedgerDraft;
+use crate::sources::{SourceTexts, Sources};
+use crate::tables::DOCUMENT;
+use crate::transactions::{Calls, TransactionsForm};
+use avm_ledger::{Header, Profile};
+use json::Value;
+use json_fields::{FieldError, Uint, known, optional, optional_each};
+use std::alloc::Global;
+
+/// What a document says: a ledger, the header of a block over it, and calls for the block.
+#[derive(Drop)]
+pub struct Document {
+    pub ledger: LedgerDraft,
+    pub header: Header,
+    pub calls: Calls,
+}
+
+/// The header, and the next id where it is given.
+#[derive(Clone, Copy)]
+struct Front {
+    header: Header,
+    next_id: Option<u64>,
+}
+
+/// What a document says, or its first fault.
+pub fn document_of(alloc: Global, value: &Value<'_>) -> Result<Document, FieldError>
+    ensures { Gives document_shown result (document (value_view value.now)) }
+{
+    known(alloc, &DOCUMENT, value)?;
+    let front = front_of(alloc, value)?;
+    let sources = all_sources(alloc, value)?;
+    let ledger = ledger(alloc, front.next_id, &sources, value)?;
+    let form = TransactionsForm { sources: &sources };
+    let calls = optional(alloc, &form, Calls::new(alloc), value, "txns")?;
+    sources.targets(alloc, &ledger, calls.len())?;
+    Ok(Document {
+        ledger,
+        header: front.header,
+        calls,
+    })
+}
+
+/// The members that are numbers. The defaults are those of the public network.
+fn front_of(alloc: Global, value: &Value<'_>) -> Result<Front, FieldError>
+    ensures { Gives front_shown result (front (value_view value.now)) }
+{
+    let latest_timestamp = optional(alloc, &Uint, 0, value, "latest-timestamp")?;
+    let max_life = optional(alloc, &Uint, 1000, value, "max-life")?;
+    let min_balance = optional(alloc, &Uint, 100_000, value, "min-balance")?;
+    let min_fee = optional(alloc, &Uint, 1000, value, "min-fee")?;
+    let next_id = optional(alloc, &NextIdForm, None, value, "next-id")?;
+    let round = optional(alloc, &Uint, 0, value, "round")?;
+    let header = Header {
+        profile: Profile::Three,
+        round,
+        latest_timestamp,
+        min_fee,
+        min_balance,
+        max_life,
+    };
+    Ok(Front { header, next_id })
+}
+
+/// The programs that stand as source text.
+fn all_sources(alloc: Global, value: &Value<'_>) -> Result<Sources, FieldError>
+    ensures { Gives (λ s. s) result (optional (codes "sources") (each with_source no_sources) no_sources (value_view value.now)) }
+{
+    optional_each(alloc, &SourceTexts, Sources::new(alloc), value, "sources")
+}
+
+/// The applications and the local states of accounts.
+fn ledger(
+    alloc: Global,
+    next_id: Option<u64>,
+    sources: &Sources,
+    value: &Value<'_>,
+) -> Result<LedgerDraft, FieldError>
+    ensures { Gives (λ l. l) result (ledger next_id sources.now (value_view value.now)) }
+{
+    let end = end_of_ids(next_id);
+    let bare = LedgerDraft::new(alloc, first_next_id(next_id));
+    let applications = Applications { end, sources };
+    let ledger = optional_each(alloc, &applications, bare, value, "apps")?;
+    optional_each(alloc, &Accounts { end }, ledger, value, "accounts")
+}

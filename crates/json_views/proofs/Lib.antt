@@ -1,0 +1,4 @@
+pub mod AccountRuns
+pub mod BlockEnds
+pub mod MemberRuns
+pub mod Steps

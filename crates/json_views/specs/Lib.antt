@@ -1,0 +1,10 @@
+pub mod Documents
+pub mod Writing
+pub mod States
+pub mod Applications
+pub mod Accounts
+pub mod AccountTokens
+pub mod ShownLedgers
+pub mod ShownCalls
+pub mod ShownBlocks
+pub mod Show
