@@ -10,6 +10,7 @@ mod Outcomes
 mod LiveRuns
 mod Leading
 mod Answering
+mod Executing
 mod Showing
 mod KnownItems
 pub mod FinishedCalls

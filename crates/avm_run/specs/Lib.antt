@@ -4,6 +4,8 @@ pub mod Results
 pub mod Progress
 pub mod RunState
 pub mod Advances
+pub mod Executions
+pub mod ExecutedSteps
 pub mod Showing
 pub mod Knowing
 pub mod FinishedCalls

@@ -10,11 +10,13 @@ ghost use Rattle.avm_call.specs.Calls.{call_result};
 ghost use Rattle.avm_ops.specs.Objects.{IsFull};
 ghost use Rattle.avm_run.specs.declared.call_run.State.TheVariants as state;
 ghost use Rattle.avm_run.specs.Advances.{Advances, Steps, Supplies};
+ghost use Rattle.avm_run.specs.ExecutedSteps.{AdvanceExecutes, StepExecutes};
 ghost use Rattle.avm_run.specs.FaultNames.{run_fault_name};
 ghost use Rattle.avm_run.specs.Knowing.{Knows};
 ghost use Rattle.avm_run.specs.RunState.{is_asked};
 ghost use Rattle.avm_run.specs.Showing.{Shows};
 
+use crate::executions::Executions;
 use crate::finished::Finished;
 use crate::phase::{EndedRun, PathOutcome, Phase, RunOutcome, run_on, step_on};
 use crate::running::Spare;
@@ -25,8 +27,9 @@ use avm_ledger::Header;
 use avm_ops::{BoxedOp, Op, OpSet};
 use std::alloc::{AllocError, Global};
 use std::cmp::Ordering;
-use std::marker::Model;
+use std::marker::{Brand, Model};
 use std::mem;
+use std::sync::ledger::{Blank, Ledger};
 use thiserror::Error;
 
 /// Why a run gives no answer.
@@ -250,10 +253,45 @@ impl CallRun {
 
     /// Runs on until the call ends or asks for an item that was not supplied. It goes on where it stopped; the tests
     /// before the program may be made again. A program makes no more steps than it has instructions, which cost at most 700
-    /// together (AVM specification, "Execution Environment for Smart Contracts").
+    /// together (AVM specification, "Execution Environment for Smart Contracts"). How many instructions are executed,
+    /// [`CallRun::advance_counted`] says.
     pub fn advance(&mut self, alloc: Global, ops: &OpSet) -> Result<Advance, RunFault>
         requires full { IsFull ⟦<BoxedOp as Op>⟧.opcode ops.now }
         ensures { Advances self.old self.new result }
+    {
+        self.advance_on::<Brand>(alloc, ops, Blank::new(2))
+    }
+
+    /// Runs on, and counts on a new ledger.
+    #[inline]
+    fn advance_on<L: Ledger>(
+        &mut self,
+        alloc: Global,
+        ops: &OpSet,
+        blank: Blank,
+    ) -> Result<Advance, RunFault>
+        requires full { IsFull ⟦<BoxedOp as Op>⟧.opcode ops.now }
+        requires name { blank.name ≡ L.name }
+        requires two { blank.parts ≡ 2 }
+        requires parts { blank.parts ≡ L.parts }
+        ensures { Advances self.old self.new result }
+    {
+        let mut executions = Executions::<L>::new(blank);
+        self.advance_counted(alloc, ops, &mut executions)
+    }
+
+    /// Runs on as [`CallRun::advance`] does, and counts the instructions that are executed: one for each step that the run
+    /// makes, so that none is executed again once it has made its step, however often the run asks. An instruction that
+    /// asks is executed again when the run goes on; that and a fault are counted apart.
+    pub fn advance_counted<L: Ledger>(
+        &mut self,
+        alloc: Global,
+        ops: &OpSet,
+        executions: &mut Executions<L>,
+    ) -> Result<Advance, RunFault>
+        requires full { IsFull ⟦<BoxedOp as Op>⟧.opcode ops.now }
+        ensures advances { Advances self.old self.new result }
+        ensures executes { AdvanceExecutes self.old self.new result executions.old executions.new }
     {
         match mem::replace(&mut self.state, State::Spent) {
             State::Spent => Err(RunFault::Spent),
@@ -264,7 +302,15 @@ impl CallRun {
                     phase,
                     asked: _asked,
                 } = live;
-                match run_on(alloc, ops, &call, &header, phase, &mut self.spare) {
+                match run_on(
+                    alloc,
+                    ops,
+                    &call,
+                    &header,
+                    phase,
+                    &mut self.spare,
+                    executions,
+                ) {
                     Ok(RunOutcome::Need(phase, item)) => {
                         self.state = asking(call, header, phase, &item);
                         Ok(Advance::Need(item))
@@ -286,6 +332,38 @@ impl CallRun {
         requires full { IsFull ⟦<BoxedOp as Op>⟧.opcode ops.now }
         ensures { Steps self.old self.new result }
     {
+        self.step_one_on::<Brand>(alloc, ops, Blank::new(2))
+    }
+
+    /// Makes one step, and counts on a new ledger.
+    #[inline]
+    fn step_one_on<L: Ledger>(
+        &mut self,
+        alloc: Global,
+        ops: &OpSet,
+        blank: Blank,
+    ) -> Result<Step, RunFault>
+        requires full { IsFull ⟦<BoxedOp as Op>⟧.opcode ops.now }
+        requires name { blank.name ≡ L.name }
+        requires two { blank.parts ≡ 2 }
+        requires parts { blank.parts ≡ L.parts }
+        ensures { Steps self.old self.new result }
+    {
+        let mut executions = Executions::<L>::new(blank);
+        self.step_one_counted(alloc, ops, &mut executions)
+    }
+
+    /// Makes one step as [`CallRun::step_one`] does, and counts the instruction that it executes, if any.
+    pub fn step_one_counted<L: Ledger>(
+        &mut self,
+        alloc: Global,
+        ops: &OpSet,
+        executions: &mut Executions<L>,
+    ) -> Result<Step, RunFault>
+        requires full { IsFull ⟦<BoxedOp as Op>⟧.opcode ops.now }
+        ensures steps { Steps self.old self.new result }
+        ensures executes { StepExecutes self.old result executions.old executions.new }
+    {
         match mem::replace(&mut self.state, State::Spent) {
             State::Spent => Err(RunFault::Spent),
             State::Live(live) => {
@@ -295,7 +373,15 @@ impl CallRun {
                     phase,
                     asked: _asked,
                 } = live;
-                match step_on(alloc, ops, &call, &header, phase, &mut self.spare) {
+                match step_on(
+                    alloc,
+                    ops,
+                    &call,
+                    &header,
+                    phase,
+                    &mut self.spare,
+                    executions,
+                ) {
                     Ok(PathOutcome::On(phase)) => {
                         self.state = going(call, header, phase);
                         Ok(Step::Moved)

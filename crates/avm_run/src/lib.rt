@@ -6,6 +6,7 @@
 mod admission;
 mod call_run;
 mod ending;
+mod executions;
 mod finished;
 mod known;
 pub mod laws;
@@ -15,7 +16,8 @@ mod running;
 mod shown;
 
 pub use call_run::{Advance, CallRun, RunFault, Step};
+pub use executions::Executions;
 pub use finished::Finished;
-pub use on_ledger::{call_on, call_plain};
+pub use on_ledger::{call_on, call_on_counted, call_plain};
 pub use running::Spare;
 pub use shown::Shown;

@@ -1,13 +1,18 @@
 //! Calls on a ledger.
 
-ghost use Rattle.std.specs.Prelude.{◌≡◌, IfErr, IfOk};
+ghost use Rattle.std.specs.Prelude.{◌≡◌, ◌+◌, IfErr, IfOk};
+ghost use Rattle.teal_code.specs.Limits.{most_program_bytes};
 ghost use Rattle.avm_ops.specs.Objects.{IsFull};
 ghost use Rattle.avm_items.specs.Asks.{result_over};
 ghost use Rattle.avm_items.specs.LedgerItems.{at};
 ghost use Rattle.avm_call.specs.Calls.{call_result};
+ghost use Rattle.avm_call.specs.Ends.{most_items};
 ghost use Rattle.avm_call.specs.Replay.{ledger_after, outcome_on};
+ghost use Rattle.avm_run.specs.Executions.{ExecutesAtMost};
+ghost use Rattle.avm_run.specs.ExecutedSteps.{CallExecutes};
 
 use crate::admission::first_item;
+use crate::executions::Executions;
 use crate::phase::{EndedRun, Phase, RunOutcome, run_on};
 use crate::running::Spare;
 use avm_call::{Call, Outcome};
@@ -17,6 +22,9 @@ use avm_laws::order_laws::every_call_keeps_order;
 use avm_ledger::{Header, Ledger};
 use avm_ops::{BoxedOp, Op, OpSet};
 use std::alloc::{AllocError, Global};
+use std::marker::Brand;
+use std::sync::ledger;
+use std::sync::ledger::Blank;
 
 /// Makes a call on a ledger, in place, and answers its outcome. It costs what the call touches, not what the ledger holds.
 ///
@@ -35,7 +43,52 @@ pub fn call_on(
     ensures after { IfOk result (λ _. ledger.new ≡ ledger_after ledger.old call.now header.now) }
     ensures unchanged { IfErr result (λ _. ledger.new ≡ ledger.old) }
 {
-    let closed = run_over(alloc, ledger, call, header, ops, spare)?;
+    call_on_blank::<Brand>(alloc, ledger, call, header, ops, spare, Blank::new(2))
+}
+
+/// Makes a call on a ledger, and counts on a new one of counts.
+#[inline]
+fn call_on_blank<L: ledger::Ledger>(
+    alloc: Global,
+    ledger: &mut Ledger,
+    call: &Call,
+    header: &Header,
+    ops: &OpSet,
+    spare: &mut Option<Spare>,
+    blank: Blank,
+) -> Result<Outcome, AllocError>
+    requires full { IsFull ⟦<BoxedOp as Op>⟧.opcode ops.now }
+    requires name { blank.name ≡ L.name }
+    requires two { blank.parts ≡ 2 }
+    requires parts { blank.parts ≡ L.parts }
+    ensures outcome { IfOk result (λ outcome. outcome ≡ outcome_on ledger.old call.now header.now) }
+    ensures after { IfOk result (λ _. ledger.new ≡ ledger_after ledger.old call.now header.now) }
+    ensures unchanged { IfErr result (λ _. ledger.new ≡ ledger.old) }
+{
+    let mut executions = Executions::<L>::new(blank);
+    call_on_counted(alloc, ledger, call, header, ops, spare, &mut executions)
+}
+
+/// Makes a call on a ledger as [`call_on`] does, and counts the instructions that are executed: one for each step of its
+/// program's path, and so no more than the program has, and none where no program runs. An instruction that asks for an
+/// item is executed again with it; that and a fault are counted apart.
+pub fn call_on_counted<L: ledger::Ledger>(
+    alloc: Global,
+    ledger: &mut Ledger,
+    call: &Call,
+    header: &Header,
+    ops: &OpSet,
+    spare: &mut Option<Spare>,
+    executions: &mut Executions<L>,
+) -> Result<Outcome, AllocError>
+    requires full { IsFull ⟦<BoxedOp as Op>⟧.opcode ops.now }
+    ensures outcome { IfOk result (λ outcome. outcome ≡ outcome_on ledger.old call.now header.now) }
+    ensures after { IfOk result (λ _. ledger.new ≡ ledger_after ledger.old call.now header.now) }
+    ensures unchanged { IfErr result (λ _. ledger.new ≡ ledger.old) }
+    ensures executes { IfOk result (λ outcome. CallExecutes ledger.old call.now header.now outcome executions.old executions.new) }
+    ensures few { IfErr result (λ _. ExecutesAtMost most_program_bytes (most_items + 1) executions.old executions.new) }
+{
+    let closed = run_over(alloc, ledger, call, header, ops, spare, executions)?;
     // What the call leaves is a ledger. All that it writes is put, also what is there already, which changes nothing.
     ledger.holds();
     every_call_keeps_order();
@@ -63,16 +116,19 @@ pub fn call_plain(
 }
 
 /// The run of a call that is supplied with a ledger's items.
-fn run_over(
+fn run_over<L: ledger::Ledger>(
     alloc: Global,
     ledger: &Ledger,
     call: &Call,
     header: &Header,
     ops: &OpSet,
     spare: &mut Option<Spare>,
+    executions: &mut Executions<L>,
 ) -> Result<EndedRun, AllocError>
     requires full { IsFull ⟦<BoxedOp as Op>⟧.opcode ops.now }
-    ensures { IfOk result (λ closed. (closed.outcome, closed.writes) ≡ result_over (at ledger.now) (call_result call.now header.now)) }
+    ensures result { IfOk result (λ closed. (closed.outcome, closed.writes) ≡ result_over (at ledger.now) (call_result call.now header.now)) }
+    ensures executes { IfOk result (λ closed. CallExecutes ledger.now call.now header.now closed.outcome executions.old executions.new) }
+    ensures few { IfErr result (λ _. ExecutesAtMost most_program_bytes (most_items + 1) executions.old executions.new) }
 {
     // That the call keeps the rules of calls, its type says.
     let _fields = call.fields();
@@ -80,7 +136,7 @@ fn run_over(
     let value = item_of(ledger, &first)?;
     let mut phase = Phase::Tests(ItemMap::new(alloc)).supplied(first, value)?;
     loop {
-        match run_on(alloc, ops, call, header, phase, spare)? {
+        match run_on(alloc, ops, call, header, phase, spare, executions)? {
             RunOutcome::Need(asking, item) => {
                 let value = item_of(ledger, &item)?;
                 phase = asking.supplied(item, value)?;

@@ -1,15 +1,19 @@
 //! The steps of a run: the tests before the program, the program, and what comes after it. What moves from step to step is
 //! the phase alone; the call and the header are lent.
 
-ghost use Rattle.std.specs.Prelude.{◌≡◌, Ok, Some, IfOk, IsTrue};
+ghost use Rattle.std.specs.Prelude.{◌≡◌, ◌-◌, Ok, Some, IfErr, IfOk, IsTrue};
+ghost use Rattle.teal_code.specs.Limits.{most_program_bytes};
 ghost use Rattle.avm_call.specs.CallPaths.{outcome_of};
 ghost use Rattle.avm_call.specs.Ends.{has_programs};
 ghost use Rattle.avm_ops.specs.Objects.{IsFull};
+ghost use Rattle.avm_run.specs.Executions.{ExecutesAtMost};
+ghost use Rattle.avm_run.specs.ExecutedSteps.{GoExecutes, RunExecutes, steps_made};
 ghost use Rattle.avm_run.specs.Progress.{ClosesAs, EndsRun, Follows, GoesTo, IsSupplied, RunsTo, TestsTo, reads_of, steps_of};
 ghost use Rattle.avm_run.specs.Standing.{BeginsRun};
 
 use crate::admission::{AdmissionStop, Admitted, admit};
 use crate::ending::{cleared, end_call};
+use crate::executions::Executions;
 use crate::running::{Running, Spare, StepsOutcome, begin, make_steps};
 use avm_call::{Call, Cause, Ended, Outcome};
 use avm_items::{Env, Item, ItemMap, ItemValue};
@@ -17,6 +21,7 @@ use avm_ledger::Header;
 use avm_ops::{BoxedOp, Op, OpSet};
 use std::alloc::{AllocError, Global};
 use std::mem;
+use std::sync::ledger::Ledger;
 
 /// How far a run has come.
 #[derive(Drop)]
@@ -106,49 +111,55 @@ fn keeps_programs(value: &ItemValue)
 
 /// Runs on to the end of the call, or to an item that was not supplied. A program begins in the spare box, where there is
 /// one, and leaves its own there at its end.
-pub(crate) fn run_on(
+pub(crate) fn run_on<L: Ledger>(
     alloc: Global,
     ops: &OpSet,
     call: &Call,
     header: &Header,
     phase: Phase,
     spare: &mut Option<Spare>,
+    executions: &mut Executions<L>,
 ) -> Result<RunOutcome, AllocError>
     requires full { IsFull ⟦<BoxedOp as Op>⟧.opcode ops.now }
     requires follows { Follows call.now header.now phase }
-    ensures { IfOk result (λ ran. RunsTo call.now header.now (reads_of phase) ran) }
+    ensures runs { IfOk result (λ ran. RunsTo call.now header.now (reads_of phase) ran) }
+    ensures executes { IfOk result (λ ran. RunExecutes call.now header.now (reads_of phase) (steps_of phase) ran executions.old executions.new) }
+    ensures few { IfErr result (λ _. ExecutesAtMost (most_program_bytes - steps_made (steps_of phase)) 1 executions.old executions.new) }
 {
     match phase {
         Phase::Tests(items) => match run_tests(alloc, call, header, items, spare)? {
             AdmissionOutcome::Begins(running) => run_program(
-                alloc, ops, call, header, running, spare,
+                alloc, ops, call, header, running, spare, executions,
             ),
             AdmissionOutcome::Stops(ran) => Ok(ran),
         },
-        Phase::Runs(running) => run_program(alloc, ops, call, header, running, spare),
+        Phase::Runs(running) => run_program(alloc, ops, call, header, running, spare, executions),
     }
 }
 
 /// Makes the next step of the path of the call's program. The first leads to the start of the program. The spare box is used
 /// as by [`run_on`].
-pub(crate) fn step_on(
+pub(crate) fn step_on<L: Ledger>(
     alloc: Global,
     ops: &OpSet,
     call: &Call,
     header: &Header,
     phase: Phase,
     spare: &mut Option<Spare>,
+    executions: &mut Executions<L>,
 ) -> Result<PathOutcome, AllocError>
     requires full { IsFull ⟦<BoxedOp as Op>⟧.opcode ops.now }
     requires follows { Follows call.now header.now phase }
-    ensures { IfOk result (λ went. GoesTo call.now header.now (reads_of phase) (steps_of phase) went) }
+    ensures goes { IfOk result (λ went. GoesTo call.now header.now (reads_of phase) (steps_of phase) went) }
+    ensures executes { IfOk result (λ went. GoExecutes call.now header.now (reads_of phase) (steps_of phase) went executions.old executions.new) }
+    ensures few { IfErr result (λ _. ExecutesAtMost 0 1 executions.old executions.new) }
 {
     match phase {
         Phase::Tests(items) => match run_tests(alloc, call, header, items, spare)? {
             AdmissionOutcome::Begins(running) => Ok(PathOutcome::On(Phase::Runs(running))),
             AdmissionOutcome::Stops(ran) => Ok(PathOutcome::Stops(ran)),
         },
-        Phase::Runs(running) => step_program(alloc, ops, call, header, running),
+        Phase::Runs(running) => step_program(alloc, ops, call, header, running, executions),
     }
 }
 
@@ -191,19 +202,22 @@ fn run_tests(
 }
 
 /// Makes one step of the program's path.
-fn step_program(
+fn step_program<L: Ledger>(
     alloc: Global,
     ops: &OpSet,
     call: &Call,
     header: &Header,
     running: Box<Running>,
+    executions: &mut Executions<L>,
 ) -> Result<PathOutcome, AllocError>
     requires full { IsFull ⟦<BoxedOp as Op>⟧.opcode ops.now }
     requires begun { BeginsRun call.now header.now running.value.env.reads running.value }
-    ensures { IfOk result (λ went. GoesTo call.now header.now running.value.env.reads (Some running.value.steps) went) }
+    ensures goes { IfOk result (λ went. GoesTo call.now header.now running.value.env.reads (Some running.value.steps) went) }
+    ensures executes { IfOk result (λ went. GoExecutes call.now header.now running.value.env.reads (Some running.value.steps) went executions.old executions.new) }
+    ensures few { IfErr result (λ _. ExecutesAtMost 0 1 executions.old executions.new) }
 {
     let mut running = running;
-    match make_steps(alloc, ops, &mut running, 1)? {
+    match make_steps(alloc, ops, &mut running, 1, executions)? {
         StepsOutcome::Made => Ok(PathOutcome::On(Phase::Runs(running))),
         StepsOutcome::Need(item) => Ok(PathOutcome::Stops(RunOutcome::Need(
             Phase::Runs(running),
@@ -214,20 +228,23 @@ fn step_program(
 }
 
 /// Runs the program on to its end, or to an item that was not supplied.
-fn run_program(
+fn run_program<L: Ledger>(
     alloc: Global,
     ops: &OpSet,
     call: &Call,
     header: &Header,
     running: Box<Running>,
     spare: &mut Option<Spare>,
+    executions: &mut Executions<L>,
 ) -> Result<RunOutcome, AllocError>
     requires full { IsFull ⟦<BoxedOp as Op>⟧.opcode ops.now }
     requires begun { BeginsRun call.now header.now running.value.env.reads running.value }
-    ensures { IfOk result (λ ran. RunsTo call.now header.now running.value.env.reads ran) }
+    ensures runs { IfOk result (λ ran. RunsTo call.now header.now running.value.env.reads ran) }
+    ensures executes { IfOk result (λ ran. RunExecutes call.now header.now running.value.env.reads (Some running.value.steps) ran executions.old executions.new) }
+    ensures few { IfErr result (λ _. ExecutesAtMost (most_program_bytes - running.value.steps) 1 executions.old executions.new) }
 {
     let mut running = running;
-    match make_steps(alloc, ops, &mut running, u16::MAX) {
+    match make_steps(alloc, ops, &mut running, u16::MAX, executions) {
         // No path has so many.
         Ok(StepsOutcome::Made) => unreachable!(),
         Ok(StepsOutcome::Need(item)) => Ok(RunOutcome::Need(

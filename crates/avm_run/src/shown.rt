@@ -11,6 +11,7 @@ use crate::phase::Phase;
 use crate::running::Running;
 use avm_cpu::Cpu;
 use avm_items::ItemMap;
+use teal_check::Program;
 use teal_code::Instr;
 
 /// Where the program of a run stands: before the instruction that comes next, or at the program's end.
@@ -18,6 +19,8 @@ use teal_code::Instr;
 pub struct Shown<'a> {
     /// The id of the application that runs.
     pub application: u64,
+    /// The program.
+    pub program: &'a Program,
     /// The place of the instruction that comes next, or the program's length at its end.
     pub place: u16,
     /// That instruction, if one is left.
@@ -41,10 +44,11 @@ impl Running {
     }
 
     fn shown_at<'a>(&'a self, place: u16, instruction: Option<&'a Instr>) -> Shown<'a>
-        ensures { sight_of result ≡ record { application = self.now.env.current; place = place; instruction = option_copied instruction.entry; machine = self.now.cpu; writes = self.now.env.writes } }
+        ensures { sight_of result ≡ record { application = self.now.env.current; program = self.now.program; place = place; instruction = option_copied instruction.entry; machine = self.now.cpu; writes = self.now.env.writes } }
     {
         Shown {
             application: self.env.current(),
+            program: &self.program,
             place,
             instruction,
             machine: &self.cpu,

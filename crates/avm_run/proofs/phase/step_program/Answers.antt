@@ -1,19 +1,21 @@
 use Rattle.std.proofs.Common.{◌≡◌, ◌+◌, None, Some, Ok, refl, sym, ap, ◌∙◌, subst}
 use Rattle.avm_run.specs.declared.running.Running.{Running}
+use Rattle.avm_run.specs.Executions.{Executes}
 use Rattle.avm_run.specs.Standing.{AsksThere, BeginsRun, EndsThere, StopsWithin}
 use Rattle.avm_run.specs.Progress.{HasStep}
 use Rattle.avm_run.proofs.Leading.{asks_behind, begins_there, path_over_items, still_runs, still_there, stops_there}
+use Rattle.avm_run.proofs.Executing.{runs_program, stays}
 use Rattle.avm_run.proofs.phase.step_program.Goals as goal
 
-pub returns-in-Made : goal.returns-in-Made
-returns-in-Made g c =
+pub returns-in-Made-clause-goes : goal.returns-in-Made-clause-goes
+returns-in-Made-clause-goes g c =
     let call = c.args.call.now in
     let header = c.args.header.now in
     let old = c.deref_mut.result.now in
     let new = c.make_steps.new.running in
     let items = c.args.running.value.env.reads in
     let begun = subst (BeginsRun call header items) (sym c.deref_mut.ensures.value) c.requires.begun in
-    let made = rw c.in-Made.is at c.in_ok-make_steps.ensures in
+    let made = rw c.in-Made.is at c.in_ok-make_steps.ensures.stops in
     let runs = still_runs call header items old new begun made.same made.stands in
     let counted : new.steps ≡ c.args.running.value.steps + 1 = made.counted ∙ ap (λ (r : Running). r.steps + 1) c.deref_mut.ensures.value in
     record {
@@ -23,15 +25,15 @@ returns-in-Made g c =
       there = subst (HasStep call header items) counted (begins_there call header items new runs);
     }
 
-pub returns-in-Need : goal.returns-in-Need
-returns-in-Need g c =
+pub returns-in-Need-clause-goes : goal.returns-in-Need-clause-goes
+returns-in-Need-clause-goes g c =
     let call = c.args.call.now in
     let header = c.args.header.now in
     let old = c.deref_mut.result.now in
     let new = c.make_steps.new.running in
     let items = c.args.running.value.env.reads in
     let begun = subst (BeginsRun call header items) (sym c.deref_mut.ensures.value) c.requires.begun in
-    let stops = subst (λ x. StopsWithin 1 old (λ before. AsksThere before new x)) (sym c.into_inner.ensures) (rw c.in-Need.is at c.in_ok-make_steps.ensures) in
+    let stops = subst (λ x. StopsWithin 1 old (λ before. AsksThere before new x)) (sym c.into_inner.ensures) (rw c.in-Need.is at c.in_ok-make_steps.ensures.stops) in
     let asks = asks_behind call header items 1 old new c.into_inner.result begun stops in (
       record {
         same_reads = asks.runs.same_items;
@@ -42,15 +44,15 @@ returns-in-Need g c =
       ap Some (stops.stops.counted ∙ still_there old _ stops ∙ ap (λ (r : Running). r.steps) c.deref_mut.ensures.value),
     )
 
-pub returns-in-Ended : goal.returns-in-Ended
-returns-in-Ended g c =
+pub returns-in-Ended-clause-goes : goal.returns-in-Ended-clause-goes
+returns-in-Ended-clause-goes g c =
     let call = c.args.call.now in
     let header = c.args.header.now in
     let old = c.deref_mut.result.now in
     let new = c.make_steps.new.running in
     let items = c.args.running.value.env.reads in
     let begun = subst (BeginsRun call header items) (sym c.deref_mut.ensures.value) c.requires.begun in
-    let stops = rw c.in-Ended.is at c.in_ok-make_steps.ensures in
+    let stops = rw c.in-Ended.is at c.in_ok-make_steps.ensures.stops in
     let end = stops.stops in
     let there = stops_there call header items 1 old (λ before. EndsThere before new c.in-Ended.ended) begun stops in
     let runs = still_runs call header items stops.before new there end.same end.stands in
@@ -67,3 +69,32 @@ returns-in-Ended g c =
         next = path_over_items call header items stops.before (stops.before.steps + 1) (Ok (Some (end.position, Some c.in-Ended.ended))) there end.next;
       };
     }
+
+pub returns-in-Made-clause-executes : goal.returns-in-Made-clause-executes
+returns-in-Made-clause-executes g c =
+    let made = rw c.in-Made.is at c.in_ok-make_steps.ensures.stops in
+    let executes = rw c.in-Made.is at c.in_ok-make_steps.ensures.executes in
+    let counted : c.make_steps.new.running.steps ≡ c.args.running.value.steps + 1 = made.counted ∙ ap (λ (r : Running). r.steps + 1) c.deref_mut.ensures.value in
+    subst (λ n. Executes c.args.running.value.steps n 0 c.args.executions.now c.make_steps.new.executions) counted
+    (subst (λ (r : Running). Executes r.steps c.make_steps.new.running.steps 0 c.args.executions.now c.make_steps.new.executions) c.deref_mut.ensures.value executes)
+
+pub returns-in-Need-clause-executes : goal.returns-in-Need-clause-executes
+returns-in-Need-clause-executes g c =
+    let old = c.deref_mut.result.now in
+    let new = c.make_steps.new.running in
+    let stops = rw c.in-Need.is at c.in_ok-make_steps.ensures.stops in
+    let executes = rw c.in-Need.is at c.in_ok-make_steps.ensures.executes in
+    stays old.steps new.steps 1 c.args.executions.now c.make_steps.new.executions (stops.stops.counted ∙ still_there old _ stops) executes
+
+pub returns-in-Ended-clause-executes : goal.returns-in-Ended-clause-executes
+returns-in-Ended-clause-executes g c =
+    let call = c.args.call.now in
+    let header = c.args.header.now in
+    let old = c.deref_mut.result.now in
+    let new = c.make_steps.new.running in
+    let items = c.args.running.value.env.reads in
+    let begun = subst (BeginsRun call header items) (sym c.deref_mut.ensures.value) c.requires.begun in
+    let stops = rw c.in-Ended.is at c.in_ok-make_steps.ensures.stops in
+    let executes = rw c.in-Ended.is at c.in_ok-make_steps.ensures.executes in
+    let counted = stops.stops.counted ∙ still_there old (λ before. EndsThere before new c.in-Ended.ended) stops in
+    record { program = old.program; runs = runs_program call header items old begun; executes = stays old.steps new.steps _ c.args.executions.now c.make_steps.new.executions counted executes }
