@@ -70,7 +70,7 @@ module _ (j : Journal) (places : Places) (slots : CallSlots) (n t place : ℕ) (
   may_shown : parts.MayCommit j places a f → MayCommit s n a.timestamp f
   may_shown may = record {
     own = own_shown may.own;
-    in_time = in_time_here j.base j.header j.calls j.world places slots k.kept n a p.above p.within own_place j.index indexed.holds k.marks f.writes may.write.in_time;
+    in_time = in_time_here j.base j.header j.calls j.world places slots k.kept n a p.above p.within own_place j.index indexed.marks k.marks f.writes may.write.in_time;
   }
 
   -- ---- refusals
@@ -101,7 +101,7 @@ module _ (j : Journal) (places : Places) (slots : CallSlots) (n t place : ℕ) (
   refused_by (failure.Fault (parts_fault.Late x version mark)) (live, own, rest) r is =
       subst (IsCommitRefusal s n t f) (same_Some _ _ (sym is))
       (subst (λ u. IsCommitRefusal s n u f (failure.Fault (fault.Late x version mark))) p.time
-      (own_shown own, late_shown j.base j.header j.calls j.world places slots k.kept n a p.above p.within own_place j.index indexed.holds k.marks f.writes x version mark rest.2))
+      (own_shown own, late_shown j.base j.header j.calls j.world places slots k.kept n a p.above p.within own_place j.index indexed.marks k.marks f.writes x version mark rest.2))
 
   pub store_refused : (error : Failure PartsFault) → IsRefusedFor j places (get_or slots place None) f error → (r : Failure CommitFault) → Some r ≡ store_error error → IsCommitRefusal s n t f r
   store_refused error refused r is = refused_by error (subst (λ o. IsRefusedFor j places o f error) p.found refused) r is
@@ -147,5 +147,5 @@ module _ (j : Journal) (places : Places) (slots : CallSlots) (n t place : ℕ) (
       marks =
           below_commit j.base j.world.entries k.kept.store.consistent.journal.rising (entry_of a.timestamp n f) (positive j.base j.header j.calls j.world places slots k.kept n a p.above p.within own_place)
           (fresh j.base j.header j.calls j.world places slots k.kept n a p.above p.within own_place) j.world.low (versions_indexed j) (versions_for places) (versions_indexed new) (versions_for new_places)
-          (from j.base j.header j.calls j.world places slots k.kept n a p.above p.within own_place) indexed.holds k.kept.store.holds index_is
+          (from j.base j.header j.calls j.world places slots k.kept n a p.above p.within own_place) indexed.store.holds k.kept.store.holds index_is
           (versions_new j.base j.header j.calls j.world places slots k.kept n a p.above p.within own_place f fin may.own (may_shown may).in_time new_places done.shards) k.marks

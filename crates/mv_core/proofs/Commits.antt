@@ -28,7 +28,7 @@ use Rattle.mv_history.proofs.Attempts.{all_without, found_attempt}
 use Rattle.mv_history.proofs.Lists.{Compared, less, not_less, compared, Equals, equal, unequal, equals}
 use Rattle.mv_history.proofs.SameWorlds.{version_below-monotone}
 use Rattle.mv_history.proofs.Versions.{all_with, next_below}
-use Rattle.mv_agreement.specs.Stores.{HoldEntries, IsStore, after_entry, marks_of}
+use Rattle.mv_agreement.specs.Stores.{IsStore, after_entry, marks_of}
 use Rattle.mv_agreement.proofs.Agreements.{every_write_follows_the_version_below_lem, no_version_is_at_a_fresh_timestamp_lem}
 use Rattle.mv_agreement.proofs.Stores.{every_commit_leaves_a_store_lem}
 use Rattle.mv_calls.specs.CallHistory.{CallAttempt, CallEntry, CallWorld, call_of, meaning_of, same_item}
@@ -39,8 +39,10 @@ use Rattle.mv_shards.specs.Indexes.{shard_of}
 use Rattle.mv_shards.specs.Helds.{Places}
 use Rattle.mv_shards.specs.Shards.{Shard, versions_held}
 use Rattle.mv_shards.specs.Writing.{AreWritten, IsLowAt, NoneForeign, committed_versions, has_timestamp, has_write_at, is_foreign, versions_for, versions_or_none}
-use Rattle.mv_parts.specs.Commits.{IsOwnCall, later, late_or, lateness_in, lateness_of, moved_item, no_version}
+use Rattle.mv_parts.specs.Commits.{IsOwnCall, late_after, late_or, lateness_by, lateness_in, lateness_of, later, moved_item, no_version}
 use Rattle.mv_parts.specs.Commits as parts
+use Rattle.mv_parts.specs.Journals.{AreMarkedByEntries, greatest_reader}
+use Rattle.mv_parts.proofs.Readers.{commit_mark, mark_after}
 use Rattle.mv_parts.proofs.Commits.{held_all, low_over, over_written, versions_written}
 use Rattle.mv_parts.specs.declared.commit_fault.CommitFault.{CommitFault as PartsFault}
 use Rattle.mv_parts.specs.declared.commit_fault.CommitFault.TheVariants as parts_fault
@@ -53,7 +55,6 @@ use Rattle.mv_core.specs.Stores.{CallSlots, IsKeptStore, marks_in, store_shown}
 use Rattle.mv_core.proofs.Attempts.{attempt_here, live_ended, places_ended}
 use Rattle.mv_core.proofs.Events.{marks_are, once}
 use Rattle.mv_core.proofs.Held.{marks_of_places}
-use Rattle.mv_core.proofs.MarksBelow.{commit_mark, mark_after}
 
 -- ---- of lists alone
 
@@ -69,12 +70,8 @@ none_at t (v ∷ vs) h = by (v.timestamp == t) (equals v.timestamp t) (none_at t
     by b (equal e) rest = absurd (h.0 e)
     by b (unequal e) rest = rest
 
--- a lateness by the version that is followed and its mark
-abbrev late_by : ℕ → ℕ → ℕ → Option LateVersion
-late_by t version mark = if nat_lt t mark then Some (record { version = version; mark = mark }) else None
-
 -- of two marks of one version the greater decides
-later_of : (t v m n : ℕ) → m ≤ n → later (late_by t v m) (late_by t v n) ≡ late_by t v n
+later_of : (t v m n : ℕ) → m ≤ n → later (late_after t v m) (late_after t v n) ≡ late_after t v n
 later_of t v m n h = by (nat_lt t m) (nat_lt t n) (compared t m) (compared t n)
   where
     both : (c : Bool) → Compared m n c → t < m
@@ -152,22 +149,22 @@ module _ (base : Ledger) (header : Header) (calls : List CallData) (w : CallWorl
   abbrev followed : Item → ℕ
   followed x = (version_below same_item (at base) w.entries (suc a.timestamp) x).0
 
-  found_late : (all : Places) (low : ℕ) → HoldEntries (λ value. value) same_item (at base) low w.entries (versions_for all) → low ≤ a.timestamp → (x : Item) → lateness_in all a.timestamp x ≡ late_by a.timestamp (followed x) (mark_in (followed x) (versions_for all x))
-  found_late all low holds below x =
-      let time : (newest_at a.timestamp (versions_for all x) no_version).timestamp ≡ followed x = ((holds x).found a.timestamp no_version below).timestamp in
-      let mark : (newest_at a.timestamp (versions_for all x) no_version).mark ≡ mark_in (followed x) (versions_for all x) = every_write_follows_the_version_below_lem Item ItemValue Outcome ItemValue (λ value. value) same_item (at base) low w.entries x (versions_for all x) (holds x) a.timestamp no_version below in
-      λ i. late_by a.timestamp (time i) (mark i)
+  found_late : (x : Item) → lateness_in places a.timestamp x ≡ late_after a.timestamp (followed x) (mark_in (followed x) (versions_for places x))
+  found_late x =
+      let time : (newest_at a.timestamp (versions_for places x) no_version).timestamp ≡ followed x = ((k.store.holds x).found a.timestamp no_version from).timestamp in
+      let mark : (newest_at a.timestamp (versions_for places x) no_version).mark ≡ mark_in (followed x) (versions_for places x) = every_write_follows_the_version_below_lem Item ItemValue Outcome ItemValue (λ value. value) same_item (at base) w.low w.entries x (versions_for places x) (k.store.holds x) a.timestamp no_version from in
+      λ i. late_after a.timestamp (time i) (mark i)
 
-  module _ (index : Places) (holds_index : HoldEntries (λ value. value) same_item (at base) 0 w.entries (versions_for index)) (below : AreMarksBelow base w.low w.entries (versions_for index) (versions_for places)) where
+  module _ (index : Places) (read : AreMarkedByEntries base w.entries (versions_for index)) (below : AreMarksBelow base w.low w.entries (versions_for index) (versions_for places)) where
     -- the mark that decides is the world's
-    late_here : (x : Item) → lateness_of index places a.timestamp x ≡ late_by a.timestamp (followed x) (greatest_mark same_item (marks_in places) x (followed x))
+    late_here : (x : Item) → lateness_of base w.entries places a.timestamp x ≡ late_after a.timestamp (followed x) (greatest_mark same_item (marks_in places) x (followed x))
     late_here x =
         let reached : (version_below same_item (at base) w.entries (suc w.low) x).0 ≤ followed x = version_below-monotone same_item (at base) (suc w.low) (suc a.timestamp) w.entries x (omega (arith, from)) k.store.consistent.journal.rising in
-        (λ i. later (found_late index 0 holds_index (omega arith) x i) (found_late places w.low k.store.holds from x i))
-        ∙ later_of a.timestamp (followed x) (mark_in (followed x) (versions_for index x)) (mark_in (followed x) (versions_for places x)) (below x (followed x) reached)
-        ∙ ap (late_by a.timestamp (followed x)) (sym (marks_are base header calls w places slots k x (followed x)))
+        ap (later (lateness_by base w.entries a.timestamp x)) (found_late x)
+        ∙ later_of a.timestamp (followed x) (greatest_reader base w.entries x (followed x)) (mark_in (followed x) (versions_for places x)) (subst (λ m. m ≤ mark_in (followed x) (versions_for places x)) (read x (followed x)) (below x (followed x) reached))
+        ∙ ap (late_after a.timestamp (followed x)) (sym (marks_are base header calls w places slots k x (followed x)))
 
-    late_same : (writes : ItemMap) → parts.late_write index places a.timestamp writes ≡ option_map as_parts (late_write (store_shown base header calls w places slots) a.timestamp writes)
+    late_same : (writes : ItemMap) → parts.late_write (lateness_of base w.entries places a.timestamp) writes ≡ option_map as_parts (late_write (store_shown base header calls w places slots) a.timestamp writes)
     late_same [] = refl
     late_same (e ∷ es) =
         (λ i. late_or e.0 (late_here e.0 i) (late_same es i))
@@ -180,14 +177,14 @@ module _ (base : Ledger) (header : Header) (calls : List CallData) (w : CallWorl
         by true rest = refl
         by false rest = refl
 
-    pub in_time_here : (writes : ItemMap) → parts.late_write index places a.timestamp writes ≡ None → late_write (store_shown base header calls w places slots) a.timestamp writes ≡ None
+    pub in_time_here : (writes : ItemMap) → parts.late_write (lateness_of base w.entries places a.timestamp) writes ≡ None → late_write (store_shown base header calls w places slots) a.timestamp writes ≡ None
     in_time_here writes none = by (late_write (store_shown base header calls w places slots) a.timestamp writes) (sym (late_same writes) ∙ none)
       where
         by : (o : Option CommitFault) → option_map as_parts o ≡ None → o ≡ None
         by None h = refl
         by (Some f) h = absurd cc
 
-    pub late_shown : (writes : ItemMap) (x : Item) (version mark : ℕ) → parts.late_write index places a.timestamp writes ≡ Some (parts_fault.Late x version mark)
+    pub late_shown : (writes : ItemMap) (x : Item) (version mark : ℕ) → parts.late_write (lateness_of base w.entries places a.timestamp) writes ≡ Some (parts_fault.Late x version mark)
         → late_write (store_shown base header calls w places slots) a.timestamp writes ≡ Some (fault.Late x version mark)
     late_shown writes x version mark is = by (late_write (store_shown base header calls w places slots) a.timestamp writes) (sym (late_same writes) ∙ is)
       where
@@ -279,6 +276,6 @@ module _ (base : Ledger) (header : Header) (calls : List CallData) (w : CallWorl
         same_marks : (x : Item) (m : ℕ) → greatest_mark same_item (marks_in new) x m ≡ greatest_mark same_item (marks_in places) x m
         same_marks x m =
             marks_of_places new (λ y. (store_new.holds y).chain) x m ∙ ap (mark_in m) (versions_new x)
-            ∙ commit_mark base w.entries k.store.consistent.journal.rising e positive fresh w.low (versions_for places) k.store.holds from x m
+            ∙ commit_mark base w.entries k.store.consistent.journal.rising e fresh positive w.low (versions_for places) k.store.holds from x m
             ∙ ap (λ reads. mark_after (lookup (same_item x) reads) (followed x) a.timestamp m (mark_in m (versions_for places x))) own.reads ∙ marked_read x a.reads marked m
             ∙ sym (marks_are base header calls w places slots k x m)

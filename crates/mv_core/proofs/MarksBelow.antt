@@ -6,17 +6,16 @@ use Rattle.avm_ledger.specs.Ledgers.{Ledger}
 use Rattle.avm_items.specs.declared.item.Item.{Item}
 use Rattle.avm_items.specs.declared.item_value.ItemValue.{ItemValue}
 use Rattle.avm_items.specs.LedgerItems.{at}
-use Rattle.avm_call.specs.declared.outcome.Outcome.{Outcome}
 use Rattle.mv_chain.specs.declared.Version.{Version}
 use Rattle.mv_chain.specs.Versions.{IsChain, mark_in, newest_at, oldest_timestamp, versions_read_at}
-use Rattle.mv_chain.proofs.Marks.{every_install_keeps_marks_lem, every_read_raises_one_mark_lem}
+use Rattle.mv_chain.proofs.Marks.{every_read_raises_one_mark_lem}
 use Rattle.mv_history.specs.History.{IsRising, entries_with, version_below}
 use Rattle.mv_history.proofs.SameWorlds.{version_below-grows}
-use Rattle.mv_agreement.specs.Agreement.{HoldsVersions}
-use Rattle.mv_agreement.specs.Stores.{HoldEntries, after_entry, after_item_read, marked_where, written_where}
-use Rattle.mv_agreement.proofs.Agreements.{every_read_keeps_agreement_lem, no_version_is_at_a_fresh_timestamp_lem}
+use Rattle.mv_agreement.specs.Stores.{HoldEntries, after_entry, after_item_read}
 use Rattle.mv_calls.specs.CallHistory.{CallEntry, same_item}
 use Rattle.mv_calls.proofs.SerialCalls.{items_have_an_equality}
+use Rattle.mv_parts.specs.Commits.{version_followed}
+use Rattle.mv_parts.proofs.Readers.{commit_mark, mark_after}
 use Rattle.mv_core.specs.Calls.{AreMarksBelow}
 
 -- ---- a read
@@ -46,11 +45,6 @@ below_read base low t es index all new x chain old is below y n counts = by (sam
 
 -- ---- a commit
 
--- a version's mark after a commit at a timestamp, by the version that is found there
-abbrev pub mark_after : Option ItemValue → ℕ → ℕ → ℕ → ℕ → ℕ
-mark_after None found t n m = m
-mark_after (Some value) found t n m = if found == n then max m t else m
-
 more_after : (o : Option ItemValue) (found t n a b : ℕ) → a ≤ b → mark_after o found t n a ≤ mark_after o found t n b
 more_after None found t n a b h = h
 more_after (Some value) found t n a b h = by (found == n)
@@ -60,41 +54,13 @@ more_after (Some value) found t n a b h = by (found == n)
     by false = h
 
 module _ (base : Ledger) (es : List CallEntry) (rising : IsRising 0 es) (e : CallEntry) (positive : 0 < e.timestamp) (fresh : AllByRecursion (λ f. f.timestamp ≢ e.timestamp) es) where
-  abbrev found_at : Item → ℕ
-  found_at x = (version_below same_item (at base) es (suc e.timestamp) x).0
-
-  module _ (from : ℕ) (all : Item → List (Version ItemValue)) (holds : HoldEntries (λ value. value) same_item (at base) from es all) (above : from ≤ e.timestamp) where
-    absent : (x : Item) (vs : List (Version ItemValue)) → HoldsVersions (λ value. value) same_item (at base) from es x vs → AllByRecursion (λ v. v.timestamp ≢ e.timestamp) vs
-    absent x vs h = no_version_is_at_a_fresh_timestamp_lem Item ItemValue Outcome ItemValue (λ value. value) same_item (at base) from es x vs h rising e.timestamp positive fresh
-
-    read_mark : (x : Item) (n : ℕ) (o : Option ItemValue) → mark_in n (marked_where o e.timestamp (all x)) ≡ mark_after o (found_at x) e.timestamp n (mark_in n (all x))
-    read_mark x n None = refl
-    read_mark x n (Some value) =
-        let d : Version ItemValue = record { timestamp = 0; mark = 0; value = value } in
-        every_read_raises_one_mark_lem ItemValue e.timestamp n (all x) d (holds x).chain (let old : oldest_timestamp (all x) ≤ from = (holds x).old_enough in omega (arith, old, above))
-        ∙ ap (λ m. if m == n then max (mark_in n (all x)) e.timestamp else mark_in n (all x)) ((holds x).found e.timestamp d above).timestamp
-
-    still_absent : (x : Item) (o : Option ItemValue) → AllByRecursion (λ v. v.timestamp ≢ e.timestamp) (marked_where o e.timestamp (all x))
-    still_absent x None = absent x (all x) (holds x)
-    still_absent x (Some value) = absent x (versions_read_at e.timestamp (all x)) (every_read_keeps_agreement_lem Item ItemValue Outcome ItemValue (λ v. v) same_item (at base) from es x (all x) (holds x) e.timestamp above)
-
-    write_mark : (x : Item) (n : ℕ) (o : Option ItemValue) (vs : List (Version ItemValue)) → AllByRecursion (λ v. v.timestamp ≢ e.timestamp) vs → mark_in n (written_where (λ value. value) o e.timestamp vs) ≡ mark_in n vs
-    write_mark x n None vs none = refl
-    write_mark x n (Some value) vs none = every_install_keeps_marks_lem ItemValue e.timestamp n value vs none
-
-    -- a commit raises the marks of what it read
-    pub commit_mark : (x : Item) (n : ℕ) → mark_in n (after_entry (λ value. value) same_item e all x) ≡ mark_after (lookup (same_item x) e.reads) (found_at x) e.timestamp n (mark_in n (all x))
-    commit_mark x n =
-        write_mark x n (lookup (same_item x) e.writes) (marked_where (lookup (same_item x) e.reads) e.timestamp (all x)) (still_absent x (lookup (same_item x) e.reads))
-        ∙ read_mark x n (lookup (same_item x) e.reads)
-
   pub below_commit : (low : ℕ) (index all new_index new : Item → List (Version ItemValue)) → low ≤ e.timestamp → HoldEntries (λ value. value) same_item (at base) 0 es index → HoldEntries (λ value. value) same_item (at base) low es all
       → ((x : Item) → new_index x ≡ after_entry (λ value. value) same_item e index x) → ((x : Item) → new x ≡ after_entry (λ value. value) same_item e all x)
       → AreMarksBelow base low es index all → AreMarksBelow base low (entries_with e es) new_index new
   below_commit low index all new_index new above holds_index holds is_index is below x n counts =
-      let index_mark : mark_in n (new_index x) ≡ mark_after (lookup (same_item x) e.reads) (found_at x) e.timestamp n (mark_in n (index x)) = ap (mark_in n) (is_index x) ∙ commit_mark 0 index holds_index (omega arith) x n in
-      let mark : mark_in n (new x) ≡ mark_after (lookup (same_item x) e.reads) (found_at x) e.timestamp n (mark_in n (all x)) = ap (mark_in n) (is x) ∙ commit_mark low all holds above x n in
+      let index_mark : mark_in n (new_index x) ≡ mark_after (lookup (same_item x) e.reads) (version_followed base es e.timestamp x) e.timestamp n (mark_in n (index x)) = ap (mark_in n) (is_index x) ∙ commit_mark base es rising e fresh positive 0 index holds_index (omega arith) x n in
+      let mark : mark_in n (new x) ≡ mark_after (lookup (same_item x) e.reads) (version_followed base es e.timestamp x) e.timestamp n (mark_in n (all x)) = ap (mark_in n) (is x) ∙ commit_mark base es rising e fresh positive low all holds above x n in
       let grows : (version_below same_item (at base) es (suc low) x).0 ≤ (version_below same_item (at base) (entries_with e es) (suc low) x).0 = version_below-grows same_item (at base) e (suc low) es x rising in
-      let more : mark_after (lookup (same_item x) e.reads) (found_at x) e.timestamp n (mark_in n (index x)) ≤ mark_after (lookup (same_item x) e.reads) (found_at x) e.timestamp n (mark_in n (all x)) =
-      more_after (lookup (same_item x) e.reads) (found_at x) e.timestamp n (mark_in n (index x)) (mark_in n (all x)) (below x n (omega (arith, grows, counts))) in
+      let more : mark_after (lookup (same_item x) e.reads) (version_followed base es e.timestamp x) e.timestamp n (mark_in n (index x)) ≤ mark_after (lookup (same_item x) e.reads) (version_followed base es e.timestamp x) e.timestamp n (mark_in n (all x)) =
+      more_after (lookup (same_item x) e.reads) (version_followed base es e.timestamp x) e.timestamp n (mark_in n (index x)) (mark_in n (all x)) (below x n (omega (arith, grows, counts))) in
       omega (arith, index_mark, mark, more)

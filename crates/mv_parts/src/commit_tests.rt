@@ -6,7 +6,7 @@ ghost use Rattle.mv_chain.specs.Versions.{newest_at};
 ghost use Rattle.mv_calls.specs.CallHistory.{call_of};
 ghost use Rattle.mv_shards.specs.Helds.{AreHeld, IsHeld};
 ghost use Rattle.mv_shards.specs.Writing.{AreLow, versions_for};
-ghost use Rattle.mv_parts.specs.Commits.{IsOwnCall, late_write, lateness_of, later as later_of, moved_item, no_version};
+ghost use Rattle.mv_parts.specs.Commits.{IsOwnCall, late_write, lateness_in_both, later as later_of, moved_item, no_version};
 
 use crate::commit_fault::CommitFault;
 use avm_call::Call;
@@ -83,7 +83,7 @@ pub(crate) fn late(
     requires low { AreLow timestamp versions.now }
     requires held { AreHeld held.now writes.now }
     requires held_low { AreLow timestamp held.now }
-    ensures { result ≡ late_write versions.now held.now timestamp writes.now }
+    ensures { result ≡ late_write (lateness_in_both versions.now held.now timestamp) writes.now }
 {
     for (item, _value) in writes.as_slice() {
         if let Some(late) = late_at(versions, held, item, timestamp) {
@@ -103,7 +103,7 @@ fn late_at(versions: &Held, held: &Held, item: &Item, timestamp: u64) -> Option<
     requires low { AreLow timestamp versions.now }
     requires held { IsHeld held.now item.now }
     requires held_low { AreLow timestamp held.now }
-    ensures { result ≡ lateness_of versions.now held.now timestamp item.now }
+    ensures { result ≡ lateness_in_both versions.now held.now timestamp item.now }
 {
     later(versions.late(item, timestamp), held.late(item, timestamp))
 }

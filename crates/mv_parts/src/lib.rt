@@ -29,7 +29,7 @@ pub use begin_fault::{BeginError, BeginFault};
 pub use commit_fault::{CommitError, CommitFault, RefusedCommit};
 pub use entry::Entry;
 pub use journal::Journal;
-pub use laws::every_call_keeps_agreement;
+pub use laws::{every_call_keeps_agreement, every_read_above_the_low_mark_is_marked};
 pub use open_fault::{OpenError, OpenFault};
 pub use opening::{open_on, open_parts};
 pub use seal_fault::{RefusedSeal, SealError, SealFault};
