@@ -58,7 +58,7 @@ module _ (l : Ledger) (call : CallData) (header : Header) where
 
   -- ---- one step more
 
-  go_on : (n : ℕ) → CanGo l call header n → HasNext l call header n → CanGo l call header (n + 1)
+  pub go_on : (n : ℕ) → CanGo l call header n → HasNext l call header n → CanGo l call header (n + 1)
   go_on n can next m lt =
       elim (cases_lt m n) [
         | inl below ↦ can m below
@@ -89,11 +89,11 @@ module _ (l : Ledger) (call : CallData) (header : Header) where
   made_by steps (Some f) n after counted can over (inl moved) = absurd (over (subst (HasNext l call header) counted moved.instruction))
   made_by steps (Some f) n after counted can over (inr faulted) = absurd (over (subst (HasNext l call header) counted faulted.instruction))
 
-  made_more : (n : ℕ) (now after : Option Debugged) → HasMade l call header n now → StepsTo now after (Ok tt) → HasMade l call header (n + 1) after
+  pub made_more : (n : ℕ) (now after : Option Debugged) → HasMade l call header n now → StepsTo now after (Ok tt) → HasMade l call header (n + 1) after
   made_more n now after h steps = made_by h.steps h.fault n after h.counted h.can_go h.over (subst (λ m. StepsTo m after (Ok tt)) h.is steps)
 
   -- no step is made where no instruction comes next
-  ended_there : (n : ℕ) (now after : Option Debugged) → HasMade l call header n now → StepsTo now after (Err (failure.Fault fault.Ended)) → HasNext l call header n → ⊥
+  pub ended_there : (n : ℕ) (now after : Option Debugged) → HasMade l call header n now → StepsTo now after (Err (failure.Fault fault.Ended)) → HasNext l call header n → ⊥
   ended_there n now after h steps =
       let refused = subst (λ m. StepsTo m after (Err (failure.Fault fault.Ended))) h.is steps in
       subst (λ m. HasNext l call header m → ⊥) h.counted refused.0

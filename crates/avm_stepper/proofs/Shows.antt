@@ -2,6 +2,7 @@
 use Rattle.std.proofs.Common.{◌≡◌, ℕ, ◌+◌, eqb, false, List, length, Option, None, Some, Result, Ok, Err, refl, sym, ap, subst, ◌∙◌}
 use Rattle.teal_value.specs.declared.fault.Fault.{Fault}
 use Rattle.teal_code.specs.declared.instr.Instr.{Instr}
+use Rattle.teal_check.specs.WellFormed.{WellFormed}
 use Rattle.avm_ledger.specs.declared.application.Application.{Application}
 use Rattle.avm_ledger.specs.declared.header.Header.{Header}
 use Rattle.avm_ledger.specs.Ledgers.{Ledger, application_at}
@@ -20,13 +21,15 @@ use Rattle.avm_call.specs.Views as views
 use Rattle.avm_run.specs.RunState.{Progress}
 use Rattle.avm_run.specs.Showing.{Shows, ShowsAt, ShowsPath, Sight, sight_of}
 use Rattle.avm_run.specs.declared.shown.Shown.{Shown}
+use Rattle.avm_stepper.specs.declared.view.MachineView.{MachineView}
 use Rattle.avm_stepper.specs.declared.view.View.{View}
 use Rattle.avm_stepper.specs.Changes.{global_entries, local_changes_along}
 use Rattle.avm_stepper.specs.Scratch.{set_places}
 use Rattle.avm_stepper.specs.Starting.{HasBegun}
-use Rattle.avm_stepper.specs.Debugging.{debug_view, steps_shown}
+use Rattle.avm_stepper.specs.Debugging.{Debugged, debug_view, steps_shown}
 use Rattle.avm_stepper.specs.DebugRuns.{ArePrepared, FaultIs, IsDebugged, IsPreparedFor, IsKeptDebug, seen, steps_made}
-use Rattle.avm_stepper.specs.Shown.{IsShown, next_by, view_by, view_seen}
+use Rattle.avm_stepper.specs.Opening.{row_of_target}
+use Rattle.avm_stepper.specs.Shown.{IsLedgerOf, IsMachineShown, IsProgramShown, IsShown, machine_of, machine_seen, next_by, view_by, view_seen}
 use Rattle.avm_stepper.specs.Stepping.{LeadsTo, ShowsWrites, WritesAt}
 use Rattle.avm_stepper.proofs.PathSteps.{path_there}
 use Rattle.avm_stepper.proofs.ViewsThere.{ShowsOver, next_faulted, next_is, next_of, position_of, shows_over, view_there}
@@ -137,14 +140,38 @@ always_shows l fault (Some p) o kept shows is = subst (λ n. ShowsAt p.call p.he
 seen_run : (l : Ledger) (fault : Option Fault) (p : Progress) (steps : ℕ) → p.steps ≡ Some steps → debug_view (record { ledger = l; call = p.call; header = p.header; steps = steps_made p.steps; fault = fault }) ≡ view_after l p.call p.header (steps_shown steps fault)
 seen_run l fault p steps counted = ap (λ n. view_after l p.call p.header (steps_shown (steps_made n) fault)) counted
 
-pub shown_view : (l : Ledger) (items : ItemMap) (fault : Option Fault) (run : Option Progress) (s : Sight) (v : View) → KeptShows l fault run s → IsPreparedFor l items (Some run) → view_seen v ≡ view_by l items fault s
-    → IsShown (seen l fault (Some run)) (Ok v)
-shown_view l items fault run s v k prepared is =
+abbrev pub IsViewBy : Option Debugged → views.View → Type 0
+IsViewBy (Some d) w = debug_view d ≡ Some w
+IsViewBy None w = ⊥
+
+pub kept_view : (l : Ledger) (items : ItemMap) (fault : Option Fault) (run : Option Progress) (s : Sight) → KeptShows l fault run s → IsPreparedFor l items (Some run)
+    → IsViewBy (seen l fault (Some run)) (view_by l items fault s)
+kept_view l items fault run s k prepared =
     let p = k.progress in
     let of_p = subst (λ m. IsPreparedFor l items (Some m)) k.is prepared in
     let items_are = of_p (record { id = s.application; row = Some k.over.row }) k.over.admits in
-    subst (λ m. IsShown (seen l fault (Some m)) (Ok v)) (sym k.is)
-    (seen_run l fault p k.kept.steps k.kept.counted ∙ view_by_fault l p.call p.header k.kept.steps s items fault k.over k.kept.faulted items_are ∙ ap (λ w. Some w) (sym is))
+    subst (λ m. IsViewBy (seen l fault (Some m)) (view_by l items fault s)) (sym k.is)
+    (seen_run l fault p k.kept.steps k.kept.counted ∙ view_by_fault l p.call p.header k.kept.steps s items fault k.over k.kept.faulted items_are)
+
+pub shown_view : (m : Option Debugged) (w : views.View) (v : View) → IsViewBy m w → view_seen v ≡ w → IsShown m (Ok v)
+shown_view None w v by is = absurd by
+shown_view (Some d) w v by is = by ∙ ap (λ u. Some u) (sym is)
+
+pub shown_machine : (m : Option Debugged) (w : views.View) (v : MachineView) → IsViewBy m w → machine_seen v ≡ machine_of w → IsMachineShown m (Ok v)
+shown_machine None w v by is = absurd by
+shown_machine (Some d) w v by is = (w, by, is)
+
+-- ---- the ledger and the program
+
+pub ledger_kept : (l : Ledger) (fault : Option Fault) (run : Option (Option Progress)) → IsLedgerOf (seen l fault run) l
+ledger_kept l fault None = tt
+ledger_kept l fault (Some None) = tt
+ledger_kept l fault (Some (Some p)) = refl
+
+pub shown_program : (l : Ledger) (fault : Option Fault) (run : Option Progress) (s : Sight) (program : WellFormed) → KeptShows l fault run s → program ≡ s.program → IsProgramShown (seen l fault (Some run)) (Some program)
+shown_program l fault run s program k is =
+    subst (λ m. IsProgramShown (seen l fault (Some m)) (Some program)) (sym k.is)
+    (record { row = k.over.row; there = ap row_of_target k.over.admits; program = k.over.kept ∙ ap (λ p. Ok p) (sym is) })
 
 -- ---- the items prepared, at the start
 

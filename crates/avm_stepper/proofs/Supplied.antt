@@ -26,6 +26,7 @@ shows_more : (call : CallData) (header : Header) (reads more : ItemMap) (steps :
 shows_more call header reads more steps s with shows = record {
   row = shows.row;
   admits = result_with_more (value_in reads) (value_in more) with (admitted call) _ shows.admits;
+  kept = shows.kept;
   passed = shows.passed;
   comes = result_with_more (value_in reads) (value_in more) with (call_path call header steps) _ shows.comes;
   uints = shows.uints;

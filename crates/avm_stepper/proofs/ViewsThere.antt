@@ -4,6 +4,7 @@ use Rattle.std.specs.Prelude.{option_map}
 use Rattle.std.proofs.lemmas.Bool.Decides.{nat_tests}
 use Rattle.teal_value.specs.declared.fault.Fault.{Fault}
 use Rattle.teal_code.specs.declared.instr.Instr.{Instr}
+use Rattle.teal_check.specs.WellFormed.{checked}
 use Rattle.avm_ledger.specs.declared.application.Application.{Application}
 use Rattle.avm_ledger.specs.declared.header.Header.{Header}
 use Rattle.avm_ledger.specs.Ledgers.{Ledger}
@@ -72,6 +73,7 @@ pub record ShowsOver (l : Ledger) (call : CallData) (header : Header) (steps : �
   pub row : Application
   pub passed : List ℕ
   pub admits : result_over (at l) (admitted call) ≡ Ok (record { id = s.application; row = Some row })
+  pub kept : checked (program_of call.completion row) ≡ Ok s.program
   pub comes : result_over (at l) (call_path call header steps) ≡ Some (position_of s passed, None)
   pub uints : s.machine.uint_constants ≡ uint_constants_at (program_of call.completion row) passed
   pub strings : s.machine.byte_constants ≡ byte_constants_at (program_of call.completion row) passed
@@ -82,6 +84,7 @@ shows_over l call header reads steps s agrees shows = record {
   row = shows.row;
   passed = shows.passed;
   admits = result_on_ledger (value_in reads) (at l) (admitted call) _ agrees shows.admits;
+  kept = shows.kept;
   comes = result_on_ledger (value_in reads) (at l) (call_path call header steps) _ agrees shows.comes;
   uints = shows.uints;
   strings = shows.strings;

@@ -19,5 +19,8 @@ mod viewing;
 
 pub use faults::{OpenError, OpenFault, StepError, StepFault};
 pub use laws::ledgers_before_are_replays;
+pub use opening::entry_of;
 pub use stepper::Stepper;
-pub use view::{KeyChange, LocalChange, Next, ScratchPlace, View, ViewError, ViewFault};
+pub use view::{
+    KeyChange, LocalChange, MachineView, Next, ScratchPlace, View, ViewError, ViewFault,
+};

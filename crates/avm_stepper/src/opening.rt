@@ -31,7 +31,7 @@ pub(crate) enum StartOutcome {
 }
 
 /// The entry of a number, counted from 1.
-pub(crate) fn entry_of(entries: &[Entry], number: usize) -> Option<&Entry>
+pub fn entry_of(entries: &[Entry], number: usize) -> Option<&Entry>
     ensures { option_copied result ≡ entry_numbered entries.now number }
 {
     if number == 0 {

@@ -1,17 +1,18 @@
 //! Calls that are stepped through.
 
 ghost use Rattle.std.specs.Prelude.{◌≡◌, IfErr, IfOk, None, Some};
+ghost use Rattle.std.specs.Option.{option_copied};
 ghost use Rattle.avm_ops.specs.Objects.{IsFull};
 ghost use Rattle.avm_stepper.specs.DebugSteps.{StepsTo};
-ghost use Rattle.avm_stepper.specs.Shown.{IsShown};
+ghost use Rattle.avm_stepper.specs.Shown.{IsLedgerOf, IsMachineShown, IsProgramShown, IsShown};
 ghost use Rattle.avm_stepper.specs.Opening.{HasProgram, IsDebugRefusal, IsOpened, IsStartRefusal};
 
 use crate::faults::{OpenError, OpenFault, StepError, StepFault};
 use crate::opening::{entry_of, ledger_before, start_over};
 use crate::prepared::writes_of;
 use crate::stepping::{comes_next, step_over};
-use crate::view::{View, ViewError, ViewFault};
-use crate::viewing::view_at;
+use crate::view::{MachineView, View, ViewError, ViewFault};
+use crate::viewing::{machine_at, view_at};
 use avm_block::Block;
 use avm_call::Call;
 use avm_items::ItemMap;
@@ -20,6 +21,7 @@ use avm_ops::{BoxedOp, Op, OpSet};
 use avm_run::CallRun;
 use std::alloc::{AllocError, Global};
 use std::marker::Model;
+use teal_check::Program;
 use teal_value::{Failure, Fault};
 
 /// A call that is stepped through over the ledger that it met, which contracts see as that ledger, the call and its
@@ -122,6 +124,42 @@ impl Stepper {
                 Ok(())
             }
             Err(AllocError) => Err(Failure::Memory),
+        }
+    }
+
+    /// The ledger that the call met.
+    pub fn ledger(&self) -> &Ledger
+        ensures { IsLedgerOf self.now result.now }
+    {
+        &self.ledger
+    }
+
+    /// The program that the call runs; none where a step was refused memory.
+    pub fn program(&self) -> Option<&Program>
+        ensures { IsProgramShown self.now (option_copied result) }
+    {
+        match &self.run {
+            Some(run) => match run.shown() {
+                Some(shown) => Some(shown.program),
+                None => unreachable!(),
+            },
+            None => None,
+        }
+    }
+
+    /// What the machine holds where the program stands. It costs what the machine holds, and nothing of the ledger.
+    pub fn machine_view(&self, alloc: Global) -> Result<MachineView<'_>, ViewError>
+        ensures { IsMachineShown self.now result }
+    {
+        match &self.run {
+            Some(run) => match run.shown() {
+                Some(shown) => match machine_at(alloc, self.fault, shown) {
+                    Ok(view) => Ok(view),
+                    Err(AllocError) => Err(Failure::Memory),
+                },
+                None => unreachable!(),
+            },
+            None => Err(Failure::Fault(ViewFault::Spent)),
         }
     }
 

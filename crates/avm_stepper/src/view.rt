@@ -42,6 +42,18 @@ pub struct LocalChange {
     pub now: Option<Value>,
 }
 
+/// What the machine holds at a place of a program, before the instruction that comes next.
+#[derive(Drop)]
+pub struct MachineView<'a> {
+    /// The place of the next instruction, of the one that has faulted, or the program's length at its end.
+    pub place: u16,
+    pub next: Next<'a>,
+    /// The values on the stack, the top last.
+    pub stack: &'a [Value],
+    /// By rising index.
+    pub scratch: Vec<ScratchPlace>,
+}
+
 /// What stands at a place of a program, before the instruction that comes next.
 #[derive(Drop)]
 pub struct View<'a> {

@@ -3,12 +3,12 @@
 ghost use Rattle.std.specs.Prelude.{◌≡◌, IfOk, length};
 ghost use Rattle.std.specs.Option.{option_copied};
 ghost use Rattle.avm_run.specs.Showing.{sight_of};
-ghost use Rattle.avm_stepper.specs.Shown.{next_by, next_seen, view_by, view_seen};
+ghost use Rattle.avm_stepper.specs.Shown.{machine_by, machine_seen, next_by, next_seen, view_by, view_seen};
 
 use crate::changes::{global_changes, local_changes};
 use crate::prepared::{ledger_with, ledger_with_both};
 use crate::scratch::scratch_places;
-use crate::view::{Next, View};
+use crate::view::{MachineView, Next, View};
 use avm_items::ItemMap;
 use avm_ledger::Ledger;
 use avm_run::Shown;
@@ -26,6 +26,23 @@ fn next_of<'a>(fault: Option<Fault>, instruction: Option<&'a Instr>) -> Next<'a>
     }
 }
 
+/// What the machine holds where a program stands.
+pub(crate) fn machine_at<'a>(
+    alloc: Global,
+    fault: Option<Fault>,
+    shown: Shown<'a>,
+) -> Result<MachineView<'a>, AllocError>
+    requires { length (sight_of shown).machine.scratch ≡ 256 }
+    ensures { IfOk result (λ machine. machine_seen machine ≡ machine_by fault (sight_of shown.entry)) }
+{
+    Ok(MachineView {
+        place: shown.place,
+        next: next_of(fault, shown.instruction),
+        stack: shown.machine.values(),
+        scratch: scratch_places(alloc, shown.machine)?,
+    })
+}
+
 /// What stands where a program stands, and what has changed since the items prepared for it were put into the ledger.
 pub(crate) fn view_at<'a>(
     alloc: Global,
@@ -39,13 +56,18 @@ pub(crate) fn view_at<'a>(
 {
     let before = ledger_with(alloc, ledger, prepared)?;
     let after = ledger_with_both(alloc, ledger, prepared, shown.writes)?;
-    let scratch = scratch_places(alloc, shown.machine)?;
     let global_changes = global_changes(alloc, &before, &after, shown.application)?;
     let local_changes = local_changes(alloc, &before, &after, shown.application)?;
+    let MachineView {
+        place,
+        next,
+        stack,
+        scratch,
+    } = machine_at(alloc, fault, shown)?;
     Ok(View {
-        place: shown.place,
-        next: next_of(fault, shown.instruction),
-        stack: shown.machine.values(),
+        place,
+        next,
+        stack,
         scratch,
         uint_constants: shown.machine.uint_constants(),
         byte_constants: shown.machine.byte_constants(),

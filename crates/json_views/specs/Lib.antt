@@ -2,6 +2,7 @@ pub mod Documents
 pub mod Writing
 pub mod States
 pub mod Applications
+pub mod ByAccount
 pub mod Accounts
 pub mod AccountTokens
 pub mod ShownLedgers

@@ -8,10 +8,12 @@
 mod accounts;
 mod applications;
 mod block;
+pub mod by_account;
 mod call;
 mod ledger;
 mod show;
 mod states;
-mod writing;
+pub mod writing;
 
 pub use show::show_reply;
+pub use states::put_value;

@@ -46,7 +46,8 @@ fn put_entry(
     end_object(out)
 }
 
-fn put_value(alloc: Global, out: &mut Pretty, value: &Value) -> Result<(), AllocError>
+/// A value: its type, and its bytes or its number, each beside an empty other one.
+pub fn put_value(alloc: Global, out: &mut Pretty, value: &Value) -> Result<(), AllocError>
     ensures { OnOk result (Adds out.old out.new (json_tokens (shown_value value.now))) }
 {
     begin_object(out)?;

@@ -86,7 +86,7 @@ pub no_labels : (placed : List Placed) (labels : List (Option ℕ)) → labels �
 unfolding targets_before
 no_labels placed labels e = rw e (record { count = refl; last = refl; few = omega arith; each = λ n lt. absurd (omega arith) })
 
-one_more : (placed : List Placed) (n : ℕ) → targets_before placed (n + 1) ≡ targets_before placed n + cond (is_target placed n) 1 0
+pub one_more : (placed : List Placed) (n : ℕ) → targets_before placed (n + 1) ≡ targets_before placed n + cond (is_target placed n) 1 0
 unfolding targets_before
 one_more placed n = let next : n + 1 ≡ suc n = omega arith in rw next refl
 
@@ -103,7 +103,7 @@ next_label placed labels now number last after label l counted most is pushed =
       ] refl;
     })
 
-mark_is : (placed : List Placed) (marks : List Bool) (number : ℕ) (b : Bool) → AreMarks placed marks → number < length marks → get_or marks number false ≡ b → is_target placed number ≡ b
+pub mark_is : (placed : List Placed) (marks : List Bool) (number : ℕ) (b : Bool) → AreMarks placed marks → number < length marks → get_or marks number false ≡ b → is_target placed number ≡ b
 mark_is placed marks number b m lt at = sym (m.each number (omega (arith, m.count))) ∙ at
 
 pub labels_target : (placed : List Placed) (marks : List Bool) (labels now : List (Option ℕ)) (number last after : ℕ) → AreMarks placed marks → LabelsOn placed labels number last → number < length marks → get_or marks number false ≡ true

@@ -1,4 +1,5 @@
 pub mod Labelling
+pub mod LineNumbers
 pub mod Listings
 pub mod Targets
 pub mod Rows

@@ -117,3 +117,9 @@ listing_lines p = pragma_line p.version ∷ listing_from p.placed 0 p.placed
 
 abbrev pub listing : WellFormed → List ℕ
 listing p = text_of_lines (listing_lines p)
+
+-- ---- lines, counted from 0: the version stands on the first, and a label on a line of its own
+
+-- the line of the instruction with a number; behind the last one, how many lines there are
+abbrev pub line_number : List Placed → ℕ → ℕ
+line_number placed n = 1 + n + targets_before placed (n + 1)

@@ -1,7 +1,7 @@
 -- Words and labels of the program, without where they lie in memory.
 use Rattle.std.specs.Prelude.{◌≡◌, ℕ, ◌+◌, ◌≤◌, if◌then◌else◌, Bool, false, List, [], ◌∷◌, ◌++◌, codes, decimal, length, map, String, string_bytes, slice_index_or, Option, Some, None}
 use Rattle.teal_check.specs.declared.program.Placed.{Placed}
-use Rattle.teal_dis.specs.Listing.{Word, is_target, targets_before}
+use Rattle.teal_dis.specs.Listing.{Word, is_target, line_number, targets_before}
 
 abbrev pub texts : {A : Type 0} → List (String A) → List Word
 texts words = map string_bytes words
@@ -33,3 +33,8 @@ lines_of_label (Some k) = ((label (Some k) ++ codes ":") ∷ []) ∷ []
 abbrev pub label_in : List (Option ℕ) → Option ℕ → Word
 label_in labels None = []
 label_in labels (Some target) = label (slice_index_or labels target None)
+
+-- the lines of all instructions, and how many lines there are
+pub record AreLineNumbers (placed : List Placed) (numbers : List ℕ) : Type 0 where
+  pub count : length numbers ≡ length placed + 1
+  pub each : (n : ℕ) → n ≤ length placed → slice_index_or numbers n 0 ≡ line_number placed n

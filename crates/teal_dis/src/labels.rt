@@ -28,8 +28,8 @@ pub(crate) fn labels_of(alloc: Global, program: &Program) -> Result<Vec<Option<u
     Ok(labels)
 }
 
-// Whether a branch leads to each instruction, and to the end.
-fn marks_of(alloc: Global, program: &Program) -> Result<Vec<bool>, AllocError>
+/// Whether a branch leads to each instruction, and to the end.
+pub(crate) fn marks_of(alloc: Global, program: &Program) -> Result<Vec<bool>, AllocError>
     requires { length program.now.placed ≤ most_program_bytes }
     ensures { IfOk result (λ marks. AreMarks program.now.placed marks.items) }
 {

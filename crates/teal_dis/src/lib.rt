@@ -6,7 +6,9 @@
 mod labels;
 mod lines;
 mod listing;
+mod numbering;
 mod operands;
 
 pub use lines::line;
 pub use listing::list;
+pub use numbering::line_numbers;

@@ -1,9 +1,9 @@
-use Rattle.std.proofs.Common.{Ok, Option, sym, ap, subst, ◌∙◌}
+use Rattle.std.proofs.Common.{Ok, Option, Some, sym, ap, subst, ◌∙◌}
 use Rattle.avm_run.specs.Showing.{sight_of}
 use Rattle.avm_stepper.specs.Debugging.{Debugged}
 use Rattle.avm_stepper.specs.DebugRuns.{IsKeptDebug, IsPreparedFor, seen}
-use Rattle.avm_stepper.specs.Shown.{IsShown}
-use Rattle.avm_stepper.proofs.Shows.{KeptShows, kept_shows, shown_view}
+use Rattle.avm_stepper.specs.Shown.{IsShown, view_by}
+use Rattle.avm_stepper.proofs.Shows.{KeptShows, kept_shows, kept_view, shown_view}
 use Rattle.avm_stepper.proofs.ViewsThere.{space_over}
 use Rattle.avm_stepper.proofs.stepper.Stepper.view.Goals as goal
 
@@ -22,4 +22,4 @@ returns-in-Ok c =
     let s = sight_of c.in-Some-shown.shown in
     let k : KeptShows l fault c.in-Some.run' s = kept_shows l fault c.in-Some.run' c.shown.result c.in-Some-shown.shown (subst (IsKeptDebug l fault) c.in-Some.is c.self.invariant.0) c.shown.ensures c.in-Some-shown.is in
     let prepared = subst (IsPreparedFor l c.self.inside.prepared) c.in-Some.is c.self.invariant.1 in
-    subst (λ (m : Option Debugged). IsShown m (Ok c.in-Ok.view)) (sym (ap (seen l fault) c.in-Some.is) ∙ c.self.view_is) (shown_view l c.self.inside.prepared fault c.in-Some.run' s c.in-Ok.view k prepared c.in-Ok.ensures)
+    subst (λ (m : Option Debugged). IsShown m (Ok c.in-Ok.view)) (sym (ap (seen l fault) c.in-Some.is) ∙ c.self.view_is) (shown_view (seen l fault (Some c.in-Some.run')) (view_by l c.self.inside.prepared fault s) c.in-Ok.view (kept_view l c.self.inside.prepared fault c.in-Some.run' s k prepared) c.in-Ok.ensures)

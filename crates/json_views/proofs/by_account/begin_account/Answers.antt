@@ -1,5 +1,5 @@
 use Rattle.json_views.proofs.Steps.{last, ◌then◌}
-use Rattle.json_views.proofs.accounts.begin_account.Goals as goal
+use Rattle.json_views.proofs.by_account.begin_account.Goals as goal
 
 pub returns : goal.returns
 returns c =
