@@ -9,7 +9,7 @@ use Rattle.json_fields.specs.Faults.{Fault}
 use Rattle.json_fields.specs.Members.{known, needed, optional}
 use Rattle.json_fields.specs.Arrays.{each}
 use Rattle.json_fields.specs.Plain.{address}
-use Rattle.json_documents.specs.Drafts.{opted}
+use Rattle.json_documents.specs.Drafts.{add_local_state}
 use Rattle.json_documents.specs.Ids.{id_below}
 use Rattle.json_documents.specs.States.{state}
 use Rattle.json_documents.specs.Tables.{account_names, local_names}
@@ -20,7 +20,7 @@ local end who l j = do
   _ ← known local_names j
   id ← needed (codes "id") (id_below end) j
   entries ← optional (codes "key-value") (state (local_room (application_at l id))) [] j
-  opted l who id entries
+  add_local_state l who id entries
 
 -- an account, beside those before it
 abbrev pub account : ℕ → Ledger → Json → Result Ledger Fault

@@ -12,7 +12,7 @@ use Rattle.json_fields.specs.Faults.{Fault}
 use Rattle.json_fields.specs.Members.{known, needed, optional}
 use Rattle.json_fields.specs.Plain.{address}
 use Rattle.json_documents.specs.declared.sources.SourceField.TheVariants as field
-use Rattle.json_documents.specs.Drafts.{stored}
+use Rattle.json_documents.specs.Drafts.{add_application}
 use Rattle.json_documents.specs.Ids.{id_below}
 use Rattle.json_documents.specs.Programs.{given_or, program}
 use Rattle.json_documents.specs.Schemas.{schema}
@@ -54,4 +54,4 @@ application end sources l j = do
   _ ← known application_names j
   id ← needed (codes "id") (id_below end) j
   app ← needed (codes "params") (params sources id) j
-  stored l id app
+  add_application l id app

@@ -15,11 +15,11 @@ if_checked code (Ok w) = Ok code
 if_checked code (Err f) = Err (here (what.Program f))
 
 -- bytes that keep the rules of programs
-abbrev pub kept : List ℕ → Result (List ℕ) Fault
-kept code = if_checked code (checked code)
+abbrev pub checked_code : List ℕ → Result (List ℕ) Fault
+checked_code code = if_checked code (checked code)
 
 abbrev pub program : Json → Result (List ℕ) Fault
-program j = bytes j >>= kept
+program j = bytes j >>= checked_code
 
 abbrev pub on_source : Result (List ℕ) AsmFault → Result (List ℕ) Fault
 on_source (Ok code) = Ok code
@@ -27,7 +27,7 @@ on_source (Err f) = Err (here (what.Source f))
 
 -- the program that a source text spells
 abbrev pub program_of_source : List ℕ → Result (List ℕ) Fault
-program_of_source text = on_source (assembled text) >>= kept
+program_of_source text = on_source (assembled text) >>= checked_code
 
 -- a program that a source gives, and else what the member says, which is not looked at where there is a source
 abbrev pub given_or : Option (List ℕ) → Result (List ℕ) Fault → Result (List ℕ) Fault

@@ -8,6 +8,7 @@ use Rattle.avm_states.specs.Schemas.{most_global_entries, most_local_entries, no
 use Rattle.avm_items.specs.declared.call_data.Completion.{Completion}
 use Rattle.avm_items.specs.declared.call_data.Completion.TheVariants as completion
 use Rattle.avm_items.specs.declared.call_data.CallData.{CallData}
+use Rattle.avm_block.specs.Blocks.{most_calls}
 use Rattle.avm_call.specs.declared.call_fault.CallFault.{CallFault}
 use Rattle.avm_call.specs.declared.call_fault.CallFault.TheVariants as call
 use Rattle.avm_call.specs.CallRules.{call_fault}
@@ -149,18 +150,19 @@ unless_broken c None = Ok c
 unless_broken c (Some f) = Err (here (call_what f))
 
 -- fields that make a call
-abbrev pub rightful : CallData → Result CallData Fault
-rightful c = unless_broken c (call_fault c)
+abbrev pub checked_call : CallData → Result CallData Fault
+checked_call c = unless_broken c (call_fault c)
 
 -- ---- transactions
 
--- A call alone, and no other transaction; this is tested before the names.
-abbrev pub alone : Json → Result (Unit {0}) Fault
-alone j = if is_some (member (codes "grp") j) then in_step (at_name (codes "grp")) (Err (here what.Group)) else Ok tt
+-- a transaction that is in no group
+abbrev pub ungrouped : Json → Result (Unit {0}) Fault
+ungrouped j = if is_some (member (codes "grp") j) then in_step (at_name (codes "grp")) (Err (here what.Group)) else Ok tt
 
+-- a call of an application that is in no group; this is tested before the names
 abbrev pub lone_call : Json → Result (Unit {0}) Fault
 lone_call j =
-    if is_some (as_object j) then (needed (codes "type") call_type j >>= λ _. alone j) else Err (here what.NotObject)
+    if is_some (as_object j) then (needed (codes "type") call_type j >>= λ _. ungrouped j) else Err (here what.NotObject)
 
 -- the transaction with this index
 abbrev pub transaction : Sources → ℕ → Json → Result CallData Fault
@@ -169,7 +171,7 @@ transaction sources i j = do
   _ ← known transaction_names j
   of ← target sources i j
   by ← terms j
-  rightful (fields of by)
+  checked_call (fields of by)
 
 -- a transaction with its signatures, behind those before it
 abbrev pub with_signed : Sources → List CallData → Json → Result (List CallData) Fault
@@ -177,9 +179,6 @@ with_signed sources calls j = do
   _ ← known signed_names j
   c ← needed (codes "txn") (transaction sources (length calls)) j
   Ok (calls ++ c ∷ [])
-
-abbrev pub most_calls : ℕ
-most_calls = 4096
 
 abbrev pub transactions : Sources → Json → Result (List CallData) Fault
 transactions sources j = if is_some (at most_calls j) then Err (here what.TooMany) else each (with_signed sources) [] j

@@ -7,7 +7,7 @@ ghost use Rattle.avm_ledger.specs.LedgerReader.{local_room};
 ghost use Rattle.avm_ledger.specs.Ledgers.{application_at};
 ghost use Rattle.json.specs.Value.{value_view};
 ghost use Rattle.json_fields.specs.Members.{optional};
-ghost use Rattle.json_documents.specs.Drafts.{opted};
+ghost use Rattle.json_documents.specs.Drafts.{add_local_state};
 ghost use Rattle.json_documents.specs.States.{state};
 
 use crate::ids::{Id, IdForm};
@@ -43,7 +43,7 @@ impl Gather for LocalStates {
         known(alloc, &LOCAL, element)?;
         let id = needed(alloc, &IdForm { end: self.end }, element, "id")?;
         let state = key_values(alloc, &so_far, id, element)?;
-        opted(alloc, so_far, self.who, id, state)
+        add_local_state(alloc, so_far, self.who, id, state)
     }
 }
 
@@ -71,14 +71,14 @@ fn local_form(application: Option<&ApplicationDraft>) -> StateForm
 }
 
 /// The ledger with a local state. One that stands twice has to be the same.
-fn opted(
+fn add_local_state(
     alloc: Global,
     ledger: LedgerDraft,
     who: Address,
     id: Id,
     state: State,
 ) -> Result<LedgerDraft, FieldError>
-    ensures { Gives (λ l. l) result (opted ledger who id state) }
+    ensures { Gives (λ l. l) result (add_local_state ledger who id state) }
 {
     match ledger.local_state(who, id.number()) {
         None => Ok(ledger.with_local_state(who, id, state)?),

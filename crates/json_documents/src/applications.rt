@@ -8,7 +8,7 @@ ghost use Rattle.json_fields.specs.Members.{needed, optional};
 ghost use Rattle.json_documents.specs.declared.sources.SourceField.TheVariants as field;
 ghost use Rattle.avm_states.specs.Schemas.{no_entries};
 ghost use Rattle.json_documents.specs.Applications.{limits};
-ghost use Rattle.json_documents.specs.Drafts.{stored};
+ghost use Rattle.json_documents.specs.Drafts.{add_application};
 ghost use Rattle.json_documents.specs.Programs.{given_or, program};
 ghost use Rattle.json_documents.specs.Schemas.{schema};
 ghost use Rattle.json_documents.specs.Shown.{limits_shown};
@@ -18,18 +18,15 @@ ghost use Rattle.json_documents.specs.States.{state};
 use crate::ids::{Id, IdForm};
 use crate::ledger_draft::{ApplicationDraft, LedgerDraft};
 use crate::programs::ProgramForm;
-use crate::schemas::SchemaForm;
+use crate::schemas::{NO_ENTRIES, SchemaForm};
 use crate::sources::{SourceField, Sources};
 use crate::states::{StateForm, optional_state};
 use crate::tables::{APPLICATION, PARAMS};
-use avm_states::{Schema, State};
+use avm_states::{MAX_GLOBAL_ENTRIES, MAX_LOCAL_ENTRIES, Schema, State};
 use json::Value;
 use json_fields::{Fault, FieldError, Form, Gather, PlainAddress, What, known, needed, optional};
 use std::alloc::Global;
 use teal_value::ByteString;
-
-/// A schema that allows no entries.
-pub(crate) const NO_ENTRIES: Schema = Schema { uints: 0, bytes: 0 };
 
 /// What an application is made with, which has this id.
 #[derive(Clone, Copy)]
@@ -91,8 +88,13 @@ struct ReadLimits {
 fn limits(alloc: Global, params: &Value<'_>) -> Result<ReadLimits, FieldError>
     ensures { Gives limits_shown result (limits (value_view params.now)) }
 {
-    let global_schema = schema(alloc, 64, params, "global-state-schema")?;
-    let local_schema = schema(alloc, 16, params, "local-state-schema")?;
+    let global_schema = schema(
+        alloc,
+        MAX_GLOBAL_ENTRIES as u8,
+        params,
+        "global-state-schema",
+    )?;
+    let local_schema = schema(alloc, MAX_LOCAL_ENTRIES as u8, params, "local-state-schema")?;
     let state = global_state(alloc, global_schema, params)?;
     Ok(ReadLimits {
         global_schema,
@@ -149,18 +151,18 @@ impl Gather for Applications<'_> {
             id: id.number(),
         };
         let application = needed(alloc, &params, element, "params")?;
-        stored(alloc, so_far, id, application)
+        add_application(alloc, so_far, id, application)
     }
 }
 
 /// The ledger with an application. One that stands twice has to be the same.
-fn stored(
+fn add_application(
     alloc: Global,
     ledger: LedgerDraft,
     id: Id,
     application: ApplicationDraft,
 ) -> Result<LedgerDraft, FieldError>
-    ensures { Gives (λ l. l) result (stored ledger id application) }
+    ensures { Gives (λ l. l) result (add_application ledger id application) }
 {
     match ledger.application(id.number()) {
         None => Ok(ledger.with_application(id, application)?),

@@ -23,7 +23,7 @@ use std::alloc::Global;
 
 /// What a document says: a ledger, the header of a block over it, and calls for the block.
 #[derive(Drop)]
-pub struct Document {
+pub(crate) struct Document {
     pub ledger: LedgerDraft,
     pub header: Header,
     pub calls: Calls,
@@ -37,7 +37,7 @@ struct Front {
 }
 
 /// What a document says, or its first fault.
-pub fn document_of(alloc: Global, value: &Value<'_>) -> Result<Document, FieldError>
+pub(crate) fn document_of(alloc: Global, value: &Value<'_>) -> Result<Document, FieldError>
     ensures { Gives document_shown result (document (value_view value.now)) }
 {
     known(alloc, &DOCUMENT, value)?;

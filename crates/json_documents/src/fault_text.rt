@@ -33,39 +33,7 @@ fn rest_text(alloc: Global, what: &What) -> Result<String, AllocError>
         What::Unknown(name) => unknown_text(alloc, name.as_str()),
         What::Program(fault) => program_text(alloc, *fault),
         What::Source(fault) => source_text(alloc, *fault),
-        What::Syntax => nothing(alloc),
-        What::NotObject => nothing(alloc),
-        What::NotArray => nothing(alloc),
-        What::NotText => nothing(alloc),
-        What::NotUint => nothing(alloc),
-        What::Missing => nothing(alloc),
-        What::BadBase64 => nothing(alloc),
-        What::BadAddress => nothing(alloc),
-        What::BadChecksum => nothing(alloc),
-        What::IdRange => nothing(alloc),
-        What::SchemaSize => nothing(alloc),
-        What::KeyLength => nothing(alloc),
-        What::TooLong => nothing(alloc),
-        What::ValueType => nothing(alloc),
-        What::OtherKind => nothing(alloc),
-        What::Twice => nothing(alloc),
-        What::Schema => nothing(alloc),
-        What::Differs => nothing(alloc),
-        What::FieldName => nothing(alloc),
-        What::NoTarget => nothing(alloc),
-        What::TooMany => nothing(alloc),
-        What::TxnType => nothing(alloc),
-        What::Group => nothing(alloc),
-        What::Completion => nothing(alloc),
-        What::LeaseLength => nothing(alloc),
-        What::Accounts => nothing(alloc),
-        What::Args => nothing(alloc),
-        What::ArgBytes => nothing(alloc),
-        What::Foreign => nothing(alloc),
-        What::Note => nothing(alloc),
-        What::ProgramsMissing => nothing(alloc),
-        What::ProgramsGiven => nothing(alloc),
-        What::ClearOnCreate => nothing(alloc),
+        _ => nothing(alloc),
     }
 }
 
@@ -90,7 +58,7 @@ fn quoted(alloc: Global, name: &str) -> Result<String, AllocError>
     writer.string(name)?;
     match String::from_utf8(writer.into_inner()) {
         Ok(text) => Ok(text),
-        Err(_) => Err(AllocError),
+        Err(_) => unreachable!(),
     }
 }
 

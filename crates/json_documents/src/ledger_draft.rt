@@ -4,7 +4,8 @@ ghost use Rattle.std.specs.Prelude.{◌≡◌, ◌++◌, IfOk, OnOk};
 ghost use Rattle.std.specs.Option.{option_copied};
 ghost use Rattle.avm_ledger.specs.Ledgers.{application_at, empty_ledger, local_state_at, with_application, with_local_state};
 ghost use Rattle.avm_ledger.specs.Spellings.{application_bytes, counted_bytes, ledger_bytes, local_state_bytes, u32_bytes};
-ghost use Rattle.json_documents.specs.Drafts.{has_same_programs, has_same_schemas, is_same_application, is_same_schema, is_same_state, raised};
+ghost use Rattle.avm_items.specs.SameValues.{is_same_application, is_same_schema};
+ghost use Rattle.json_documents.specs.Drafts.{is_same_stored, raised};
 
 use crate::ids::Id;
 use avm_ledger::spelling::{put_long_count, put_schema, put_state, put_string, put_u64};
@@ -42,27 +43,20 @@ impl ApplicationDraft {
         self.local_schema
     }
 
-    /// Whether two applications are the same.
+    /// Whether two applications are the same, with their states.
     pub fn is_same(&self, other: &ApplicationDraft) -> bool
-        ensures { result ≡ is_same_application self.now other.now }
+        ensures { result ≡ is_same_stored self.now other.now }
+    {
+        self.has_same_row(other) && self.state == other.state
+    }
+
+    fn has_same_row(&self, other: &ApplicationDraft) -> bool
+        ensures { result ≡ is_same_application self.now.row other.now.row }
     {
         self.creator.0.as_slice() == other.creator.0.as_slice()
-            && self.has_same_programs(other)
-            && self.has_same_schemas(other)
-            && self.state == other.state
-    }
-
-    fn has_same_programs(&self, other: &ApplicationDraft) -> bool
-        ensures { result ≡ has_same_programs self.now other.now }
-    {
-        self.approval.as_slice() == other.approval.as_slice()
+            && self.approval.as_slice() == other.approval.as_slice()
             && self.clear.as_slice() == other.clear.as_slice()
-    }
-
-    fn has_same_schemas(&self, other: &ApplicationDraft) -> bool
-        ensures { result ≡ has_same_schemas self.now other.now }
-    {
-        is_same_schema(self.global_schema, other.global_schema)
+            && is_same_schema(self.global_schema, other.global_schema)
             && is_same_schema(self.local_schema, other.local_schema)
     }
 
@@ -89,7 +83,7 @@ fn is_same_schema(schema: Schema, other: Schema) -> bool
 /// A ledger that is being put together, which contracts see as one. Each application and each local state raises the next id
 /// above its own.
 #[derive(Drop)]
-pub struct LedgerDraft {
+pub(crate) struct LedgerDraft {
     next_id: u64,
     applications: BTreeMap<u64, ApplicationDraft>,
     local_states: BTreeMap<(Address, u64), State>,
@@ -105,7 +99,7 @@ impl Model for LedgerDraft {
 
 impl LedgerDraft {
     /// No applications and no local states, with this next id. It takes no memory.
-    pub(crate) fn new(alloc: Global, next_id: u64) -> LedgerDraft
+    pub fn new(alloc: Global, next_id: u64) -> LedgerDraft
         ensures { result ≡ record empty_ledger { next_id = next_id } }
     {
         LedgerDraft {
@@ -116,43 +110,35 @@ impl LedgerDraft {
     }
 
     /// The application of an id.
-    pub(crate) fn application(&self, id: u64) -> Option<&ApplicationDraft>
+    pub fn application(&self, id: u64) -> Option<&ApplicationDraft>
         ensures { option_copied result ≡ application_at self.now id }
     {
         self.applications.get(&id)
     }
 
     /// An account's local state of an application.
-    pub(crate) fn local_state(&self, who: Address, id: u64) -> Option<&State>
+    pub fn local_state(&self, who: Address, id: u64) -> Option<&State>
         ensures { option_copied result ≡ local_state_at self.now who id }
     {
         self.local_states.get(&(who, id))
     }
 
     /// The ledger with an application.
-    pub(crate) fn with_application(
+    pub fn with_application(
         self,
         id: Id,
         application: ApplicationDraft,
     ) -> Result<LedgerDraft, AllocError>
         ensures { IfOk result (λ l. l ≡ raised id (with_application self id application)) }
     {
-        let LedgerDraft {
-            next_id,
-            applications,
-            local_states,
-        } = self;
-        let mut applications = applications;
-        applications.insert(id.number(), application)?;
-        Ok(LedgerDraft {
-            next_id: next_id.max(id.next()),
-            applications,
-            local_states,
-        })
+        let mut ledger = self;
+        ledger.applications.insert(id.number(), application)?;
+        ledger.next_id = ledger.next_id.max(id.next());
+        Ok(ledger)
     }
 
     /// The ledger with an account's local state of an application.
-    pub(crate) fn with_local_state(
+    pub fn with_local_state(
         self,
         who: Address,
         id: Id,
@@ -160,18 +146,10 @@ impl LedgerDraft {
     ) -> Result<LedgerDraft, AllocError>
         ensures { IfOk result (λ l. l ≡ raised id (with_local_state self who id state)) }
     {
-        let LedgerDraft {
-            next_id,
-            applications,
-            local_states,
-        } = self;
-        let mut local_states = local_states;
-        local_states.insert((who, id.number()), state)?;
-        Ok(LedgerDraft {
-            next_id: next_id.max(id.next()),
-            applications,
-            local_states,
-        })
+        let mut ledger = self;
+        ledger.local_states.insert((who, id.number()), state)?;
+        ledger.next_id = ledger.next_id.max(id.next());
+        Ok(ledger)
     }
 
     /// The ledger's one spelling.

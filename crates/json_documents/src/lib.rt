@@ -24,7 +24,4 @@ mod states;
 mod tables;
 mod transactions;
 
-pub use document::{Document, document_of};
-pub use lines::lines_text;
-pub use reading::read_document;
 pub use replies::lines_reply;

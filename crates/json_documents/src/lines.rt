@@ -9,11 +9,12 @@ use crate::document::Document;
 use crate::transactions::SharedCall;
 use avm_block::header_codec::put_header;
 use avm_call_codec::CallCodec;
+use avm_input::digit_line;
 use avm_items::CallData;
 use std::alloc::{AllocError, Global};
 
 /// What `propose` reads: a line for the ledger, one for the header, and one for each call.
-pub fn lines_text(alloc: Global, document: &Document) -> Result<String, AllocError>
+pub(crate) fn lines_text(alloc: Global, document: &Document) -> Result<String, AllocError>
     ensures { IfOk result (λ text. string_bytes text ≡ lines_text (document_shown document.now)) }
 {
     let mut text = String::new(alloc);
@@ -48,7 +49,6 @@ fn push_call(alloc: Global, text: &mut String, call: &CallData) -> Result<(), Al
 fn push_line(alloc: Global, text: &mut String, bytes: &[u8]) -> Result<(), AllocError>
     ensures { OnOk result (string_bytes text.new ≡ string_bytes text.old ++ line bytes.now) }
 {
-    let digits = hex::encode(alloc, bytes)?;
-    text.push_str(digits.as_str())?;
-    text.push('\n')
+    let line = digit_line(alloc, bytes)?;
+    text.push_str(line.as_str())
 }

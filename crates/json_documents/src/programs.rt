@@ -3,7 +3,7 @@
 ghost use Rattle.std.specs.Prelude.{◌≡◌, Ok};
 ghost use Rattle.std.specs.Option.{option_copied};
 ghost use Rattle.teal_value.specs.Answer.{Gives};
-ghost use Rattle.json_documents.specs.Programs.{kept, on_source, program_of_source};
+ghost use Rattle.json_documents.specs.Programs.{checked_code, on_source, program_of_source};
 ghost use Rattle.teal_asm.specs.Program.{assembled};
 
 use json::Value;
@@ -11,7 +11,7 @@ use json_fields::{Bytes, Fault, FieldError, Form, What};
 use std::alloc::Global;
 use teal_asm::assemble;
 use teal_check::check;
-use teal_value::{ByteString, Failure};
+use teal_value::ByteString;
 
 /// The bytes of a program that keeps the rules of programs.
 #[derive(Clone, Copy)]
@@ -26,18 +26,17 @@ impl Form for ProgramForm {
 
     fn read(&self, alloc: Global, value: &Value<'_>) -> Result<ByteString, FieldError> {
         let code = Bytes.read(alloc, value)?;
-        kept(alloc, code)
+        checked_code(alloc, code)
     }
 }
 
 /// The bytes, where they keep the rules of programs.
-fn kept(alloc: Global, code: ByteString) -> Result<ByteString, FieldError>
-    ensures { Gives (λ c. c) result (kept code) }
+fn checked_code(alloc: Global, code: ByteString) -> Result<ByteString, FieldError>
+    ensures { Gives (λ c. c) result (checked_code code) }
 {
     match check(alloc, code.as_slice()) {
         Ok(_program) => Ok(code),
-        Err(Failure::Fault(fault)) => Err(Fault::here(alloc, What::Program(fault))),
-        Err(Failure::Memory) => Err(Failure::Memory),
+        Err(failure) => Err(failure.map(|fault| Fault::of(alloc, What::Program(fault)))),
     }
 }
 
@@ -46,7 +45,7 @@ pub(crate) fn program_of_source(alloc: Global, text: &str) -> Result<ByteString,
     ensures { Gives (λ c. c) result (program_of_source text.now) }
 {
     let code = code_of_source(alloc, text)?;
-    kept(alloc, code)
+    checked_code(alloc, code)
 }
 
 fn code_of_source(alloc: Global, text: &str) -> Result<ByteString, FieldError>
@@ -54,7 +53,6 @@ fn code_of_source(alloc: Global, text: &str) -> Result<ByteString, FieldError>
 {
     match assemble(alloc, text) {
         Ok(code) => Ok(ByteString::from_vec(code)),
-        Err(Failure::Fault(fault)) => Err(Fault::here(alloc, What::Source(fault))),
-        Err(Failure::Memory) => Err(Failure::Memory),
+        Err(failure) => Err(failure.map(|fault| Fault::of(alloc, What::Source(fault)))),
     }
 }

@@ -21,7 +21,7 @@ use std::alloc::{AllocError, Global};
 const MOST_NESTED: usize = 127;
 
 /// The document that a text is, or its first fault.
-pub fn read_document(alloc: Global, text: &str) -> Result<Document, FieldError>
+pub(crate) fn read_document(alloc: Global, text: &str) -> Result<Document, FieldError>
     ensures { Gives document_shown result (document_of_text text.now) }
 {
     let mut scratch = Scratch::new(alloc);

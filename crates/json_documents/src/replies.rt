@@ -14,7 +14,6 @@ use avm_input::{DONE, REFUSED, Reply, input_refusal};
 use json_fields::Fault;
 use std::alloc::{AllocError, Global};
 use std::str;
-use teal_value::Failure;
 
 /// What `lines` answers to an input that is not too long: the lines that `propose` reads, or the first fault.
 pub fn lines_reply(alloc: Global, input: &[u8]) -> Result<Reply, AllocError>
@@ -31,8 +30,7 @@ fn text_reply(alloc: Global, text: &str) -> Result<Reply, AllocError>
 {
     match read_document(alloc, text) {
         Ok(document) => document_reply(alloc, &document),
-        Err(Failure::Fault(fault)) => fault_reply(alloc, &fault),
-        Err(Failure::Memory) => Err(AllocError),
+        Err(failure) => fault_reply(alloc, &failure.into_fault()?),
     }
 }
 

@@ -9,6 +9,9 @@ use json::Value;
 use json_fields::{Fault, FieldError, Form, Uint, What, known, optional};
 use std::alloc::Global;
 
+/// A schema that allows no entries.
+pub(crate) const NO_ENTRIES: Schema = Schema { uints: 0, bytes: 0 };
+
 /// A schema of at most so many entries, with the names of its two members.
 #[derive(Clone, Copy)]
 pub(crate) struct SchemaForm {

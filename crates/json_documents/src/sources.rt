@@ -1,9 +1,9 @@
 //! Programs as source text, which stand apart from the applications and the transactions that they are for.
 
-ghost use Rattle.std.specs.Prelude.{◌≡◌, ◌++◌, ◌∷◌, [], IfOk};
+ghost use Rattle.std.specs.Prelude.{◌≡◌, IfOk};
 ghost use Rattle.std.specs.Option.{option_copied};
 ghost use Rattle.teal_value.specs.Answer.{Gives};
-ghost use Rattle.json_documents.specs.Sources.{field_named, index_of, is_there, no_sources, only_source, program_at, targets, targets_from, with_program, with_source_at};
+ghost use Rattle.json_documents.specs.Sources.{field_named, index_of, is_there, no_sources, only_source, program_at, targets, targets_from, with_source_at};
 
 use crate::ledger_draft::LedgerDraft;
 use crate::programs::program_of_source;
@@ -20,7 +20,7 @@ use teal_value::ByteString;
 
 /// Which program a source is.
 #[derive(Clone, Copy)]
-pub enum SourceField {
+pub(crate) enum SourceField {
     /// The approval program of an application.
     Approval,
     /// The clear state program of an application.
@@ -108,44 +108,15 @@ impl Sources {
     fn with(self, field: SourceField, index: u64, code: ByteString) -> Result<Sources, AllocError>
         ensures { IfOk result (λ s. s ≡ with_source_at self field index code) }
     {
-        let Sources {
-            places,
-            approvals,
-            clears,
-            call_approvals,
-            call_clears,
-        } = self;
-        let places = with_place(places, field, index)?;
+        let mut sources = self;
+        sources.places.push((field, index))?;
         match field {
-            SourceField::Approval => Ok(Sources {
-                places,
-                approvals: with_program(approvals, index, code)?,
-                clears,
-                call_approvals,
-                call_clears,
-            }),
-            SourceField::Clear => Ok(Sources {
-                places,
-                approvals,
-                clears: with_program(clears, index, code)?,
-                call_approvals,
-                call_clears,
-            }),
-            SourceField::CallApproval => Ok(Sources {
-                places,
-                approvals,
-                clears,
-                call_approvals: with_program(call_approvals, index, code)?,
-                call_clears,
-            }),
-            SourceField::CallClear => Ok(Sources {
-                places,
-                approvals,
-                clears,
-                call_approvals,
-                call_clears: with_program(call_clears, index, code)?,
-            }),
-        }
+            SourceField::Approval => sources.approvals.insert(index, code)?,
+            SourceField::Clear => sources.clears.insert(index, code)?,
+            SourceField::CallApproval => sources.call_approvals.insert(index, code)?,
+            SourceField::CallClear => sources.call_clears.insert(index, code)?,
+        };
+        Ok(sources)
     }
 
     /// Refuses the first source whose target is not in the document, of which these are the ledger and the count of calls.
@@ -157,42 +128,16 @@ impl Sources {
     ) -> Result<(), FieldError>
         ensures { Gives (λ x. x) result (targets self.now ledger.now calls) }
     {
-        match first_stray(alloc, ledger, calls, &self.places) {
+        match check_targets(alloc, ledger, calls, &self.places) {
             Ok(()) => Ok(()),
             Err(failure) => Err(in_member(failure, "sources")),
         }
     }
 }
 
-/// The places with one more.
-fn with_place(
-    places: Vec<(SourceField, u64)>,
-    field: SourceField,
-    index: u64,
-) -> Result<Vec<(SourceField, u64)>, AllocError>
-    ensures { IfOk result (λ all. all.items ≡ places.items ++ (field, index) ∷ []) }
-{
-    let mut places = places;
-    places.push((field, index))?;
-    Ok(places)
-}
-
-/// The programs with one more.
-fn with_program(
-    programs: BTreeMap<u64, ByteString>,
-    index: u64,
-    code: ByteString,
-) -> Result<BTreeMap<u64, ByteString>, AllocError>
-    ensures { IfOk result (λ all. all.entries ≡ with_program programs.entries index code) }
-{
-    let mut programs = programs;
-    programs.insert(index, code)?;
-    Ok(programs)
-}
-
 /// Refuses the first of the places that is not in the document.
 #[tactic(auto, unfolding(crate::specs::Sources::targets_from))]
-fn first_stray(
+fn check_targets(
     alloc: Global,
     ledger: &LedgerDraft,
     calls: usize,

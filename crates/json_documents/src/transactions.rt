@@ -8,18 +8,19 @@ ghost use Rattle.json_fields.specs.Members.{optional};
 ghost use Rattle.json_fields.specs.Plain.{bytes};
 ghost use Rattle.json_documents.specs.Programs.{given_or};
 ghost use Rattle.json_documents.specs.Sources.{program_at};
-ghost use Rattle.json_documents.specs.Transactions.{alone, call_what, lone_call, rightful, target, terms};
+ghost use Rattle.json_documents.specs.Transactions.{call_what, checked_call, lone_call, target, terms, ungrouped};
 
-use crate::applications::NO_ENTRIES;
 use crate::call_parts::{Target, Terms, fields};
 use crate::call_values::{
     Arguments, CallAccounts, CompletionForm, ForeignApplications, LeaseForm, TypeForm,
 };
-use crate::schemas::SchemaForm;
+use crate::schemas::{NO_ENTRIES, SchemaForm};
 use crate::sources::{SourceField, Sources};
 use crate::tables::{SIGNED, TRANSACTION};
+use avm_block::MAX_ENTRIES;
 use avm_call::{Call, CallFault};
 use avm_items::{Addresses, CallData, Completion};
+use avm_states::{MAX_GLOBAL_ENTRIES, MAX_LOCAL_ENTRIES};
 use json::Value;
 use json_fields::{
     Bytes, Fault, FieldError, Form, Gather, PlainAddress, Uint, What, each, in_member, known,
@@ -28,10 +29,7 @@ use json_fields::{
 use std::alloc::{AllocError, Global};
 use std::marker::Model;
 use std::sync::Arc;
-use teal_value::{Address, ByteString, ByteStrings, Failure, Uints};
-
-/// The most transactions of a document, this project's own limit.
-const MOST_CALLS: usize = 4096;
+use teal_value::{Address, ByteString, ByteStrings, Uints};
 
 /// The fields of a call, which contracts see as such. The programs that it brings are not kept decoded.
 #[derive(Drop)]
@@ -68,7 +66,7 @@ impl SharedCall {
 
 /// Calls, which contracts see as the list of their fields.
 #[derive(Drop)]
-pub struct Calls {
+pub(crate) struct Calls {
     calls: Vec<SharedCall>,
 }
 
@@ -83,7 +81,7 @@ impl Model for Calls {
 
 impl Calls {
     /// No calls. They take no memory.
-    pub(crate) fn new(alloc: Global) -> Calls
+    pub fn new(alloc: Global) -> Calls
         ensures { result ≡ [] }
     {
         Calls {
@@ -99,7 +97,7 @@ impl Calls {
     }
 
     /// The calls, lent.
-    pub(crate) fn as_slice(&self) -> &[SharedCall]
+    pub fn as_slice(&self) -> &[SharedCall]
         ensures { result.now ≡ self.now }
     {
         self.calls.as_slice()
@@ -134,7 +132,7 @@ impl Form for TransactionForm<'_> {
         known(alloc, &TRANSACTION, value)?;
         let target = self.target(alloc, value)?;
         let terms = terms(alloc, value)?;
-        rightful(alloc, fields(target, terms))
+        checked_call(alloc, fields(target, terms))
     }
 }
 
@@ -157,10 +155,10 @@ impl TransactionForm<'_> {
             txn,
             "apfa",
         )?;
-        let global = SchemaForm::of_call(64);
+        let global = SchemaForm::of_call(MAX_GLOBAL_ENTRIES as u8);
         let global_schema = optional(alloc, &global, NO_ENTRIES, txn, "apgs")?;
         let application = optional(alloc, &Uint, 0, txn, "apid")?;
-        let local = SchemaForm::of_call(16);
+        let local = SchemaForm::of_call(MAX_LOCAL_ENTRIES as u8);
         let local_schema = optional(alloc, &local, NO_ENTRIES, txn, "apls")?;
         let clear = self.program(alloc, SourceField::CallClear, txn, "apsu")?;
         Ok(Target {
@@ -223,7 +221,7 @@ fn lone_call(alloc: Global, txn: &Value<'_>) -> Result<(), FieldError>
         return Err(Fault::here(alloc, What::NotObject));
     }
     needed(alloc, &TypeForm, txn, "type")?;
-    alone(alloc, txn)
+    ungrouped(alloc, txn)
 }
 
 fn is_object(value: &Value<'_>) -> bool
@@ -232,8 +230,8 @@ fn is_object(value: &Value<'_>) -> bool
     matches!(value, Value::Object(_))
 }
 
-fn alone(alloc: Global, txn: &Value<'_>) -> Result<(), FieldError>
-    ensures { Gives (λ x. x) result (alone (value_view txn.now)) }
+fn ungrouped(alloc: Global, txn: &Value<'_>) -> Result<(), FieldError>
+    ensures { Gives (λ x. x) result (ungrouped (value_view txn.now)) }
 {
     match member(txn, "grp") {
         Some(_) => Err(in_member(Fault::here(alloc, What::Group), "grp")),
@@ -242,15 +240,12 @@ fn alone(alloc: Global, txn: &Value<'_>) -> Result<(), FieldError>
 }
 
 /// The fields, where they make a call.
-fn rightful(alloc: Global, fields: CallData) -> Result<SharedCall, FieldError>
-    ensures { Gives (λ c. c) result (rightful fields) }
+fn checked_call(alloc: Global, fields: CallData) -> Result<SharedCall, FieldError>
+    ensures { Gives (λ c. c) result (checked_call fields) }
 {
     match Call::check(alloc, fields) {
         Ok(call) => Ok(SharedCall::of(&call)?),
-        Err((error, _fields)) => match error {
-            Failure::Fault(fault) => Err(Fault::here(alloc, call_what(fault))),
-            Failure::Memory => Err(Failure::Memory),
-        },
+        Err((failure, _fields)) => { Err(failure.map(|fault| Fault::of(alloc, call_what(fault)))) }
     }
 }
 
@@ -309,7 +304,7 @@ impl Form for TransactionsForm<'_> {
     ghost meaning = { λ f. transactions f.sources.now };
 
     fn read(&self, alloc: Global, value: &Value<'_>) -> Result<Calls, FieldError> {
-        if value.at(MOST_CALLS).is_some() {
+        if value.at(MAX_ENTRIES).is_some() {
             return Err(Fault::here(alloc, What::TooMany));
         }
         let signed = Signed {

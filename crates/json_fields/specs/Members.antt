@@ -49,17 +49,17 @@ lesser name None = Some name
 lesser name (Some other) = if is_below name other then Some name else Some other
 
 -- the least name, by its bytes, that is not among these
-unfoldable pub least_stranger : List (List ℕ) → Members → Option (List ℕ)
-least_stranger names no_members = None
-least_stranger names (member_of name j ms) = if is_among names name then least_stranger names ms else lesser name (least_stranger names ms)
+unfoldable pub least_unknown : List (List ℕ) → Members → Option (List ℕ)
+least_unknown names no_members = None
+least_unknown names (member_of name j ms) = if is_among names name then least_unknown names ms else lesser name (least_unknown names ms)
 
-abbrev pub unless_strange : Option (List ℕ) → Result (Unit {0}) Fault
-unless_strange None = Ok tt
-unless_strange (Some name) = Err (here (Unknown name))
+abbrev pub unless_unknown : Option (List ℕ) → Result (Unit {0}) Fault
+unless_unknown None = Ok tt
+unless_unknown (Some name) = Err (here (Unknown name))
 
 abbrev pub known_in : List (List ℕ) → Option Members → Result (Unit {0}) Fault
 known_in names None = Err (here NotObject)
-known_in names (Some ms) = unless_strange (least_stranger names ms)
+known_in names (Some ms) = unless_unknown (least_unknown names ms)
 
 -- an object whose names are among these
 abbrev pub known : List (List ℕ) → Json → Result (Unit {0}) Fault

@@ -36,7 +36,7 @@ pub trait Gather {
 }
 
 /// The elements of an array.
-pub fn array_of<'v, 'a>(value: &'v Value<'a>) -> Option<&'v [Value<'a>]>
+fn array_of<'v, 'a>(value: &'v Value<'a>) -> Option<&'v [Value<'a>]>
     ensures { option_map (λ items. items_view items.now) result ≡ as_array (value_view value.now) }
 {
     match value {
@@ -47,7 +47,7 @@ pub fn array_of<'v, 'a>(value: &'v Value<'a>) -> Option<&'v [Value<'a>]>
 
 /// Gathers elements from a start on.
 #[tactic(auto, unfolding(crate::specs::Arrays::gathered))]
-pub fn gather_items<G: Gather>(
+fn gather_items<G: Gather>(
     alloc: Global,
     gatherer: &G,
     start: G::Gathered,

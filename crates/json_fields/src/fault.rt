@@ -29,18 +29,25 @@ impl Model for Fault {
     ghost view = { λ f. record { path = steps_shown f.path.items; what = f.what } };
 }
 
-/// A [`Fault`], or want of memory.
+/// A [`Fault`], or a refused allocation.
 pub type FieldError = Failure<Fault>;
 
 impl Fault {
     /// The fault of the value itself. It takes no memory.
+    pub fn of(alloc: Global, what: What) -> Fault
+        ensures { result ≡ here what }
+    {
+        Fault {
+            path: Vec::new(alloc),
+            what,
+        }
+    }
+
+    /// The failure with the fault of the value itself.
     pub fn here(alloc: Global, what: What) -> FieldError
         ensures { result ≡ failure.Fault (here what) }
     {
-        Failure::Fault(Fault {
-            path: Vec::new(alloc),
-            what,
-        })
+        Failure::Fault(Fault::of(alloc, what))
     }
 
     /// What is wrong with the value.

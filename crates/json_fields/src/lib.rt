@@ -14,7 +14,7 @@ mod step;
 mod text;
 mod what;
 
-pub use arrays::{Gather, array_of, each, gather_items, optional_each};
+pub use arrays::{Gather, each, optional_each};
 pub use fault::{Fault, FieldError, in_item, in_member};
 pub use members::{Form, known, member, needed, optional};
 pub use plain::{Bytes, PlainAddress, PlainText, Uint, text_of};

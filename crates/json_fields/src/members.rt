@@ -5,7 +5,7 @@ ghost use Rattle.std.specs.Option.{option_map};
 ghost use Rattle.teal_value.specs.Answer.{Fails, Gives};
 ghost use Rattle.json.specs.Find.{as_object};
 ghost use Rattle.json.specs.Value.{members_view, value_view};
-ghost use Rattle.json_fields.specs.Members.{is_among, is_below, known, least_stranger, lesser, member, needed, optional, unless_strange};
+ghost use Rattle.json_fields.specs.Members.{is_among, is_below, known, least_unknown, lesser, member, needed, optional, unless_unknown};
 ghost use Rattle.json_fields.specs.Shown.{names_shown};
 
 use crate::fault::{Fault, FieldError, in_member};
@@ -97,7 +97,7 @@ pub fn known(alloc: Global, names: &[&str], object: &Value<'_>) -> Result<(), Fi
     let Some(members) = object_of(object) else {
         return Err(Fault::here(alloc, What::NotObject));
     };
-    match least_stranger(names, members) {
+    match least_unknown(names, members) {
         None => Ok(()),
         Some(name) => Err(unknown(alloc, name)),
     }
@@ -105,7 +105,7 @@ pub fn known(alloc: Global, names: &[&str], object: &Value<'_>) -> Result<(), Fi
 
 /// The fault of an object that has a member of this name.
 fn unknown(alloc: Global, name: &str) -> FieldError
-    ensures { Fails result (unless_strange (Some name.now)) }
+    ensures { Fails result (unless_unknown (Some name.now)) }
 {
     match Text::of(alloc, name) {
         Ok(name) => Fault::here(alloc, What::Unknown(name)),
@@ -114,9 +114,9 @@ fn unknown(alloc: Global, name: &str) -> FieldError
 }
 
 /// The least name, by its bytes, that is not among these.
-#[tactic(auto, unfolding(crate::specs::Members::least_stranger))]
-fn least_stranger<'a>(names: &[&str], members: &[(&'a str, Value<'a>)]) -> Option<&'a str>
-    ensures { option_map (λ name. name.now) result ≡ least_stranger (names_shown names.now) (members_view members.now) }
+#[tactic(auto, unfolding(crate::specs::Members::least_unknown))]
+fn least_unknown<'a>(names: &[&str], members: &[(&'a str, Value<'a>)]) -> Option<&'a str>
+    ensures { option_map (λ name. name.now) result ≡ least_unknown (names_shown names.now) (members_view members.now) }
 {
     let mut least = None;
     let mut left = members.len();

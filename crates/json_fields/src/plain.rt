@@ -79,11 +79,10 @@ impl Form for PlainAddress {
 
     fn read(&self, alloc: Global, value: &Value<'_>) -> Result<Address, FieldError> {
         let text = text_of(alloc, value)?;
-        match address_of_text(alloc, text) {
-            Ok(who) => Ok(who),
-            Err(Failure::Fault(fault)) => Err(Fault::here(alloc, address_what(fault))),
-            Err(Failure::Memory) => Err(Failure::Memory),
-        }
+        address_of_text(alloc, text).map_err(|failure| failure.map(|fault| Fault::of(
+            alloc,
+            address_what(fault),
+        )))
     }
 }
 

@@ -1,6 +1,6 @@
 use Rattle.std.proofs.Common.{◌≡◌, drop}
 use Rattle.json_documents.specs.Sources.{targets_from}
-use Rattle.json_documents.proofs.sources.first_stray.Given as goal
+use Rattle.json_documents.proofs.sources.check_targets.Given as goal
 
 -- what is asked of the places from here on is asked of all
 abbrev pub invariant-places : goal.invariant-places
