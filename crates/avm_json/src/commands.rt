@@ -1,13 +1,17 @@
 //! The commands of the program.
 
 ghost use Rattle.std.specs.Prelude.{◌≡◌, IfOk, None, map};
+ghost use Rattle.avm_ops.specs.Objects.{IsFull};
 ghost use Rattle.avm_input.specs.Answers.{CommandAnswers, CommandFails, IsReply};
 ghost use Rattle.avm_input.specs.Replies.{failed};
 ghost use Rattle.avm_input.specs.Shown.{reply_shown};
-ghost use Rattle.avm_json.specs.Commands.{IsJsonReply, command_in, command_named, usage_reply};
+ghost use Rattle.avm_input.specs.CommandLine.{u64_of};
+ghost use Rattle.avm_json.specs.Commands.{IsJsonReply, command_in, command_named, trace_of, usage_reply};
 
 use avm_input::{FAILED, INPUT_LIMIT, Reply, USAGE, input_refusal, read_input, write_reply};
+use avm_ops::{BoxedOp, Op, OpSet};
 use json_documents::lines_reply;
+use json_traces::trace_reply;
 use json_views::show_reply;
 use std::alloc::{AllocError, Global};
 use std::io::{self, Read, Write};
@@ -21,6 +25,8 @@ pub enum JsonCommand {
     Lines,
     /// Shows a ledger, or a ledger and a block, as a document.
     Show,
+    /// Shows what each instruction of an entry's call did. Entries are numbered from 1.
+    Trace(u64),
 }
 
 /// Executes the command that the words after the program's name are, and gives the exit status.
@@ -32,7 +38,9 @@ pub fn answer<R: Read, W: Write>(
     words: &[&str],
     reader: &mut R,
     writer: &mut W,
+    ops: &OpSet,
 ) -> u8
+    requires full { IsFull ⟦<BoxedOp as Op>⟧.opcode ops.now }
     ensures answers { CommandAnswers usage_reply IsJsonReply
         (command_in (map (λ word. word.now) words.now))
         (R.remaining reader.old) (W.contents writer.old) (W.contents writer.new) result }
@@ -43,7 +51,7 @@ pub fn answer<R: Read, W: Write>(
     ensures reads_nothing { command_in (map (λ word. word.now) words.now) ≡ None
         → reader.new ≡ reader.old }
 {
-    answer_to(alloc, command_in(words), reader, writer)
+    answer_to(alloc, command_in(words), reader, writer, ops)
 }
 
 /// Executes a command, or writes the usage line, as [`answer`] does.
@@ -52,7 +60,9 @@ fn answer_to<R: Read, W: Write>(
     command: Option<JsonCommand>,
     reader: &mut R,
     writer: &mut W,
+    ops: &OpSet,
 ) -> u8
+    requires full { IsFull ⟦<BoxedOp as Op>⟧.opcode ops.now }
     ensures answers { CommandAnswers usage_reply IsJsonReply command
         (R.remaining reader.old) (W.contents writer.old) (W.contents writer.new) result }
     ensures fails { result ≡ failed → CommandFails usage_reply IsJsonReply command
@@ -62,7 +72,7 @@ fn answer_to<R: Read, W: Write>(
 {
     match command {
         None => write_reply(writer, USAGE_TEXT, USAGE),
-        Some(command) => match reply_of(alloc, command, reader) {
+        Some(command) => match reply_of(alloc, command, reader, ops) {
             Ok(reply) => write_reply(writer, reply.text.as_str(), reply.status),
             Err(_) => FAILED,
         },
@@ -75,6 +85,7 @@ fn command_in(words: &[&str]) -> Option<JsonCommand>
 {
     match words {
         [word] => command_named(word),
+        [word, option, number] => trace_of(word, option, number),
         _ => None,
     }
 }
@@ -89,8 +100,31 @@ fn command_named(word: &str) -> Option<JsonCommand>
     }
 }
 
+/// `trace` with the number of an entry.
+fn trace_of(word: &str, option: &str, number: &str) -> Option<JsonCommand>
+    ensures { result ≡ trace_of word.now option.now number.now }
+{
+    if word != "trace" || option != "--entry" {
+        return None;
+    }
+    Some(JsonCommand::Trace(number_in(number)?))
+}
+
+/// The number below 2^64 that decimal digits write, behind a plus or none.
+fn number_in(digits: &str) -> Option<u64>
+    ensures { result ≡ u64_of digits.now }
+{
+    digits.parse::<u64>().ok()
+}
+
 /// What a command answers to its whole input.
-fn reply_of<R: Read>(alloc: Global, command: JsonCommand, reader: &mut R) -> io::Result<Reply>
+fn reply_of<R: Read>(
+    alloc: Global,
+    command: JsonCommand,
+    reader: &mut R,
+    ops: &OpSet,
+) -> io::Result<Reply>
+    requires full { IsFull ⟦<BoxedOp as Op>⟧.opcode ops.now }
     ensures { IfOk result
         (λ reply. IsReply (IsJsonReply command) (R.remaining reader.old) (reply_shown reply)) }
 {
@@ -98,15 +132,22 @@ fn reply_of<R: Read>(alloc: Global, command: JsonCommand, reader: &mut R) -> io:
     if input.len() > INPUT_LIMIT {
         return Ok(input_refusal(alloc)?);
     }
-    Ok(command_reply(alloc, command, input.as_slice())?)
+    Ok(command_reply(alloc, command, input.as_slice(), ops)?)
 }
 
 /// What a command answers to an input that is not too long.
-fn command_reply(alloc: Global, command: JsonCommand, input: &[u8]) -> Result<Reply, AllocError>
+fn command_reply(
+    alloc: Global,
+    command: JsonCommand,
+    input: &[u8],
+    ops: &OpSet,
+) -> Result<Reply, AllocError>
+    requires full { IsFull ⟦<BoxedOp as Op>⟧.opcode ops.now }
     ensures { IfOk result (λ reply. IsJsonReply command input.now (reply_shown reply)) }
 {
     match command {
         JsonCommand::Lines => lines_reply(alloc, input),
         JsonCommand::Show => show_reply(alloc, input),
+        JsonCommand::Trace(entry) => trace_reply(alloc, entry, input, ops),
     }
 }

@@ -5,6 +5,7 @@
 mod commands;
 
 use avm_input::FAILED;
+use avm_objects::filled_set;
 use commands::answer;
 use std::alloc::AllocError;
 use std::env;
@@ -18,11 +19,16 @@ fn main(rt: HostRuntime) -> ExitCode {
     let Ok(texts) = texts_of(&rt, &words) else {
         return ExitCode::from(FAILED);
     };
+    let ops = filled_set!(rt.alloc(), ExitCode::from(FAILED));
+    if ops.missing().is_some() {
+        return ExitCode::from(FAILED);
+    }
     let status = answer(
         rt.alloc(),
         texts.as_slice(),
         &mut rt.stdin(),
         &mut rt.stdout(),
+        &ops,
     );
     ExitCode::from(status)
 }
