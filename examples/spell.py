@@ -1,21 +1,22 @@
 #!/usr/bin/env python3
-"""Spells the calls and the block of an example from a description of them.
+"""Spells the calls and the block of an example from its document, a second time and without the programs.
 
     python3 spell.py NAME.json           writes NAME.calls and NAME.block, and NAME.forged
-                                         where the description has a forged block
+                                         where expected.json has a forged block
     python3 spell.py --check NAME.json   compares these files with what it would write
     python3 spell.py NAME.code           prints the digits of a program
 
 No program runs here. How each call ends, and the ledger after, are worked out by hand in
-the description; the bytes of a program, with their places, stand in its .code file. All is
-put together by the formats of docs/MACHINE.md ("Bytes", "Blocks"), with SHA-256.
+expected.json; the bytes of a program, with their places, stand in the .code file beside the
+source. Of documents it reads what the examples have: an application with its state, sources
+and transactions. All is put together by the formats of docs/MACHINE.md ("Bytes", "Blocks").
 """
+import base64
 import hashlib
 import json
 import sys
 from pathlib import Path
 
-COMPLETIONS = ["NoOp", "OptIn", "CloseOut", "ClearState", "UpdateApplication", "DeleteApplication"]
 # Faults and refusals are numbered from 1 (crates/avm_call/specs/OutcomeSpelling.antt).
 FAULTS = ["Err", "Underflow", "WrongType", "Compare", "Overflow", "Negative", "DivZero", "TooLong",
           "Range", "BtoiLength", "StackFull", "NoConstant", "BadField", "NoTxn", "NoArg", "NoAccount",
@@ -35,6 +36,22 @@ def string(s): return u16(len(s)) + s
 def listed(count, spellings): return count(len(spellings)) + b"".join(spellings)
 
 
+def address(text):
+    """The 32 bytes of an address; 4 more are their checksum."""
+    return base64.b32decode(text + "=" * 6)[:32]
+
+
+def state(entries):
+    """A state, from its keys with numbers or byte strings."""
+    spelled = (short_string(key) + (u8(1) + u64(value) if isinstance(value, int) else u8(2) + short_string(value))
+               for key, value in sorted(entries.items()))
+    return listed(u8, list(spelled))
+
+
+def schema(members, uints, strings):
+    return u8(members.get(uints, 0)) + u8(members.get(strings, 0))
+
+
 def program(path):
     """The bytes of a .code file: lines of a place, bytes, and after two spaces an explanation."""
     code = b""
@@ -49,92 +66,111 @@ def program(path):
 
 
 class Spelling:
-    """The spellings of one description. Its application has the number 1."""
+    """The spellings of one document."""
 
     def __init__(self, path):
         self.path = path
         self.told = json.loads(path.read_text())
+        self.expected = json.loads((path.parent / "expected.json").read_text())
 
-    def address(self, name):
-        """An account's address is one byte, 32 times over."""
-        return bytes.fromhex(self.told["accounts"][name]) * 32
+    def source(self, field, index, number):
+        """The program whose source the document gives for a place."""
+        for source in self.told["sources"]:
+            if source["field-name"] == field and source.get(index, 0) == number:
+                return self.program_of(source["source"])
+        return b""
 
-    def bytes_of(self, text):
-        """`@NAME` is the address of an account, other text stands for itself."""
-        return self.address(text[1:]) if text.startswith("@") else text.encode()
-
-    def value(self, value):
-        if isinstance(value, int):
-            return u8(1) + u64(value)
-        return u8(2) + short_string(self.bytes_of(value))
-
-    def state(self, state):
-        entries = sorted((key.encode(), value) for key, value in state.items())
-        return listed(u8, [short_string(key) + self.value(value) for key, value in entries])
-
-    def programs_and_schemas(self):
-        app = self.told["application"]
-        codes = [string(program(self.path.parent / app[name])) for name in ("approval", "clear")]
-        schemas = [u8(app[name]["uints"]) + u8(app[name]["byte strings"])
-                   for name in ("global schema", "local schema")]
-        return b"".join(codes + schemas)
-
-    def ledger(self, ledger):
-        apps = []
-        if "creator" in ledger:
-            apps = [u64(1) + self.address(ledger["creator"]) + self.programs_and_schemas()
-                    + self.state(ledger["global state"])]
-        local = sorted((self.address(name), state) for name, state in ledger["local states"].items())
-        locals_ = [address + u64(1) + self.state(state) for address, state in local]
-        return u64(ledger["next id"]) + listed(u32, apps) + listed(u32, locals_)
+    def program_of(self, text):
+        """The bytes of the .code file beside the source file with this text."""
+        for code in [*self.path.parent.glob("*.code"), *self.path.parent.parent.glob("*.code")]:
+            if code.with_suffix(".teal").read_text() == text:
+                return program(code)
+        sys.exit(f"{self.path}: no file has the source {text[:60]!r}")
 
     def header(self):
-        header = self.told["header"]
-        names = ["round", "latest timestamp", "min fee", "min balance", "max life"]
-        return b"".join(u64(header[name]) for name in names)
+        names = {"round": 0, "latest-timestamp": 0, "min-fee": 1000, "min-balance": 100000, "max-life": 1000}
+        return b"".join(u64(self.told.get(name, default)) for name, default in names.items())
 
-    def argument(self, argument):
-        return u64(argument) if isinstance(argument, int) else self.bytes_of(argument)
+    def of_application(self, app):
+        """The programs and the schemas of an application."""
+        codes = [self.source(field, "app-index", app["id"]) for field in ("approv", "clearp")]
+        schemas = [schema(app["params"].get(name, {}), "num-uint", "num-byte-slice")
+                   for name in ("global-state-schema", "local-state-schema")]
+        return b"".join([*map(string, codes), *schemas])
 
-    def call(self, call):
-        header = self.told["header"]
-        creates = call.get("creates", False)
-        first = call.get("first valid", header["round"])
+    def of_call(self, index, txn):
+        """The programs and the schemas that a call brings."""
+        codes = [self.source(field, "txn-index", index) for field in ("apap", "apsu")]
+        schemas = [schema(txn.get(name, {}), "nui", "nbs") for name in ("apgs", "apls")]
+        return b"".join([*map(string, codes), *schemas])
+
+    def application(self, app):
+        def value(told):
+            return told["uint"] if told["type"] == 2 else base64.b64decode(told["bytes"])
+        entries = {base64.b64decode(one["key"]): value(one["value"]) for one in app["params"]["global-state"]}
+        return u64(app["id"]) + address(app["params"]["creator"]) + self.of_application(app) + state(entries)
+
+    def before(self):
+        apps = self.told.get("apps", [])
+        next_id = 1 + max((app["id"] for app in apps), default=0)
+        return u64(next_id) + listed(u32, [self.application(app) for app in apps]) + listed(u32, [])
+
+    def call(self, index, txn):
         return b"".join([
-            self.address(call["sender"]),
-            u64(call.get("fee", header["min fee"])),
-            u64(first),
-            u64(call.get("last valid", first + header["max life"])),
-            string(call.get("note", "").encode()),
+            address(txn["snd"]),
+            *(u64(txn[name]) for name in ("fee", "fv", "lv")),
+            string(base64.b64decode(txn.get("note", ""))),
             bytes(32),  # no lease
             bytes(32),  # no new key
-            u64(0 if creates else 1),
-            u8(COMPLETIONS.index(call.get("completion", "NoOp"))),
-            listed(u8, [string(self.argument(a)) for a in call.get("arguments", [])]),
-            listed(u8, [self.address(name) for name in call.get("accounts", [])]),
+            u64(txn.get("apid", 0)),
+            u8(txn.get("apan", 0)),
+            listed(u8, [string(base64.b64decode(argument)) for argument in txn.get("apaa", [])]),
+            listed(u8, [address(account) for account in txn.get("apat", [])]),
             listed(u8, []),  # no foreign applications
-            self.programs_and_schemas() if creates else string(b"") + string(b"") + bytes(4),
+            self.of_call(index, txn),
         ])
+
+    def calls(self):
+        return [self.call(index, one["txn"]) for index, one in enumerate(self.told["txns"])]
+
+    # What is expected, where an account's address is one byte, 32 times over.
+
+    def who(self, name):
+        return bytes.fromhex(self.expected["accounts"][name]) * 32
+
+    def named(self, entries):
+        """A state; the value `@NAME` is the address of an account, other text stands for itself."""
+        def value(told):
+            return told if isinstance(told, int) else self.who(told[1:]) if told.startswith("@") else told.encode()
+        return state({key.encode(): value(told) for key, told in entries.items()})
+
+    def after(self, told):
+        """The ledger after: application 1, which was there or which the first call made."""
+        apps = self.told.get("apps")
+        made = self.of_application(apps[0]) if apps else self.of_call(0, self.told["txns"][0]["txn"])
+        app = u64(1) + self.who(told["creator"]) + made + self.named(told["global state"])
+        local = sorted((self.who(name), entries) for name, entries in told["local states"].items())
+        locals_ = [who + u64(1) + self.named(entries) for who, entries in local]
+        return u64(told["next id"]) + listed(u32, [app]) + listed(u32, locals_)
 
     def block(self, ends, after):
         """A block of profile 3, as `propose` makes it; the i-th call has the timestamp i."""
-        entries = [u64(i) + self.call(call) + outcome(end)
-                   for i, (call, end) in enumerate(zip(self.told["calls"], ends), 1)]
-        body = (b"AVMB" + u8(2) + u8(3) + digest(self.ledger(self.told["before"])) + self.header()
-                + listed(u32, entries) + digest(self.ledger(after)))
+        entries = [u64(i) + call + outcome(end)
+                   for i, (call, end) in enumerate(zip(self.calls(), ends, strict=True), 1)]
+        body = (b"AVMB" + u8(2) + u8(3) + digest(self.before()) + self.header()
+                + listed(u32, entries) + digest(self.after(after)))
         return body + digest(body)
 
     def files(self):
         """Each file's name and its lines, as bytes."""
-        told, name = self.told, self.path.with_suffix("")
-        before = self.ledger(told["before"])
-        ends = [call["ends"] for call in told["calls"]]
-        yield f"{name}.calls", [before, self.header()] + [self.call(call) for call in told["calls"]]
-        yield f"{name}.block", [before, self.block(ends, told["after"])]
-        if "forged" in told:
-            forged = told["forged"]
-            ends[forged["entry"] - 1] = forged["ends"]
-            yield f"{name}.forged", [before, self.block(ends, forged["after"])]
+        expected, name = self.expected, self.path.with_suffix("")
+        ends = [end["outcome"] for end in expected["ends"]]
+        yield f"{name}.calls", [self.before(), self.header(), *self.calls()]
+        yield f"{name}.block", [self.before(), self.block(ends, expected["after"])]
+        if "forged" in expected:
+            forged = expected["forged"]
+            ends[forged["entry"] - 1] = forged["outcome"]
+            yield f"{name}.forged", [self.before(), self.block(ends, forged["after"])]
 
 
 def outcome(words):

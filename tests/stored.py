@@ -1,5 +1,5 @@
-"""The rows of crates/rows and crates/store_runs, whose answers were worked out outside the programs, and how the tests of this
-folder run programs."""
+"""The rows of crates/rows and crates/store_runs, and the cases of tests/json_cases, whose answers were worked out outside the
+programs, and how the tests of this folder run programs."""
 
 import os
 import re
@@ -105,6 +105,39 @@ def store_runs():
     if len(found) != len(SCENARIOS):
         sys.exit(f"crates/store_runs/stdin has not each of the headings {', '.join(SCENARIOS)}")
     return found
+
+
+def repeated(line):
+    """The text of a line of a case: {*N TEXT*} in it is the text N times."""
+    return re.sub(r"\{\*(\d+) (.*?)\*\}", lambda repeat: int(repeat[1]) * repeat[2], line)
+
+
+def json_cases():
+    """The cases of tests/json_cases, whose form tests/json says: the name, the words, the input, what is printed, and the status."""
+    printed, folder = {}, os.path.join(TOP, "tests", "json_cases")
+    for path in sorted(os.listdir(folder), reverse=True):
+        with open(os.path.join(folder, path), encoding="utf-8") as file:
+            cases = re.split(r"^# ", file.read(), flags=re.M)[1:]
+        for case in cases:
+            name, given, answer = re.split(": |\n", case)[0], b"", ""
+            for line in case.split("\n")[1:]:
+                mark, _, rest = line.partition(" ")
+                if mark == "$":
+                    words = rest.split()
+                elif mark == "<x":
+                    given = bytes.fromhex(rest)
+                elif mark == "<=":
+                    given = printed[rest]
+                elif mark in ("<", "<."):
+                    given += (repeated(rest) + ("\n" if mark == "<" else "")).encode()
+                elif mark == ">":
+                    answer += repeated(rest) + "\n"
+                elif mark == "=":
+                    status = int(rest)
+                elif line:
+                    sys.exit(f"{path}, {name}: {line}")
+            printed[name] = answer.encode()
+            yield name, words, given, answer.encode(), status
 
 
 def digits(*parts):
