@@ -2,7 +2,7 @@
 
 ghost use Rattle.std.specs.Prelude.{IfOk, Ok};
 ghost use Rattle.teal_value.specs.Answer.{Gives};
-ghost use Rattle.avm_ops.specs.Objects.{IsFull};
+ghost use Rattle.avm_ops.specs.OpSets.{IsFull};
 ghost use Rattle.avm_c.specs.BlockAnswers.{block_of, ledger_and_block, ledger_of, past_ledger};
 ghost use Rattle.avm_c.specs.Findings.{IsFinding};
 

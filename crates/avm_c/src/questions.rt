@@ -1,7 +1,7 @@
 //! Questions that want an object of every opcode.
 
 ghost use Rattle.std.specs.Prelude.{IfOk};
-ghost use Rattle.avm_ops.specs.Objects.{IsFull};
+ghost use Rattle.avm_ops.specs.OpSets.{IsFull};
 
 use avm_objects::filled_set;
 use avm_ops::{BoxedOp, Op, OpSet};

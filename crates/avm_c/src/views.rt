@@ -1,7 +1,7 @@
 //! What is answered of a call of a block, so many steps on.
 
 ghost use Rattle.std.specs.Prelude.{◌≡◌, IfOk, Ok};
-ghost use Rattle.avm_ops.specs.Objects.{IsFull};
+ghost use Rattle.avm_ops.specs.OpSets.{IsFull};
 ghost use Rattle.avm_c.specs.Shown.{answer_shown};
 ghost use Rattle.avm_c.specs.ViewAnswers.{IsViewAnswer, view_status};
 

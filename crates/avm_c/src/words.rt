@@ -1,7 +1,7 @@
 //! What is answered to words of the command line.
 
 ghost use Rattle.std.specs.Prelude.{◌≡◌, IfOk, map};
-ghost use Rattle.avm_ops.specs.Objects.{IsFull};
+ghost use Rattle.avm_ops.specs.OpSets.{IsFull};
 ghost use Rattle.avm_input.specs.CommandLine.{command_in};
 ghost use Rattle.avm_c.specs.Shown.{answer_shown};
 ghost use Rattle.avm_c.specs.WordAnswers.{IsCommandAnswer, words_in};

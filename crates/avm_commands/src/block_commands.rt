@@ -2,7 +2,7 @@
 
 ghost use Rattle.std.specs.Prelude.{◌≡◌, IfOk, Ok};
 ghost use Rattle.teal_value.specs.Answer.{Gives};
-ghost use Rattle.avm_ops.specs.Objects.{IsFull};
+ghost use Rattle.avm_ops.specs.OpSets.{IsFull};
 ghost use Rattle.avm_replay.specs.declared.verdict.Verdict.TheVariants as verdict;
 ghost use Rattle.avm_commands.specs.BlockCommands.{IsReplayReply, IsVerdictReply, agrees_reply, ledger_reply, past_ledger_at, state_reply, verdict_reply};
 ghost use Rattle.avm_input.specs.Replies.{refused};

@@ -3,7 +3,7 @@
 ghost use Rattle.std.specs.Prelude.{◌≡◌, IfOk, IfSome, IsSome, None, Some, map};
 ghost use Rattle.avm_input.specs.Answers.{CommandAnswers, CommandFails, IsReply};
 ghost use Rattle.avm_commands.specs.Answers.{IsCommandReply};
-ghost use Rattle.avm_ops.specs.Objects.{IsFull};
+ghost use Rattle.avm_ops.specs.OpSets.{IsFull};
 ghost use Rattle.avm_input.specs.CommandLine.{command_in, workers_of};
 ghost use Rattle.avm_input.specs.Replies.{failed, usage_reply};
 ghost use Rattle.avm_input.specs.Shown.{reply_shown};

@@ -1,7 +1,7 @@
 //! The command `debug`, whose input is that of `replay`: the ledger before a block, and the block.
 
 ghost use Rattle.std.specs.Prelude.{ℕ, IfErr, IfOk, Ok, string_bytes};
-ghost use Rattle.avm_ops.specs.Objects.{IsFull};
+ghost use Rattle.avm_ops.specs.OpSets.{IsFull};
 ghost use Rattle.avm_stepper.specs.Opening.{IsOpened};
 ghost use Rattle.avm_commands.specs.DebugCommands.{FindsText, IsDebugReply, IsFoundReply, OneFinding};
 ghost use Rattle.avm_commands.specs.DebugRuns.{HasCome, IsDebugRefused, ShowsText};

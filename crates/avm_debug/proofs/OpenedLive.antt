@@ -4,7 +4,7 @@ use Rattle.teal_value.specs.declared.failure.Failure.{Failure}
 use Rattle.avm_ledger.specs.declared.header.Header.{Header}
 use Rattle.avm_ledger.specs.Ledgers.{Ledger}
 use Rattle.avm_items.specs.declared.call_data.CallData.{CallData}
-use Rattle.mv_core.specs.Stores.{Store}
+use Rattle.mv_core.specs.SeenStores.{Store}
 use Rattle.avm_stepper.specs.declared.faults.OpenFault.{OpenFault}
 use Rattle.avm_stepper.specs.Debugging.{Debugged}
 use Rattle.avm_debug.specs.LiveOpening.{IsOpenedLive, ledger_of_store, met_live}

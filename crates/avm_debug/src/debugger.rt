@@ -2,7 +2,7 @@
 
 ghost use Rattle.std.specs.Prelude.{◌≡◌, ◌↔◌, IfErr, IfOk, IsErrOf};
 ghost use Rattle.teal_value.specs.declared.failure.Failure.TheVariants.{Fault};
-ghost use Rattle.avm_ops.specs.Objects.{IsFull};
+ghost use Rattle.avm_ops.specs.OpSets.{IsFull};
 ghost use Rattle.avm_debug.specs.declared.faults.PastFault.TheVariants.{Pruned, WrongBase};
 ghost use Rattle.avm_stepper.specs.DebugSteps.{StepsTo};
 ghost use Rattle.avm_stepper.specs.Shown.{IsShown};

@@ -1,7 +1,7 @@
 //! The commands of the program.
 
 ghost use Rattle.std.specs.Prelude.{◌≡◌, IfOk, None, map};
-ghost use Rattle.avm_ops.specs.Objects.{IsFull};
+ghost use Rattle.avm_ops.specs.OpSets.{IsFull};
 ghost use Rattle.avm_input.specs.Answers.{CommandAnswers, CommandFails, IsReply};
 ghost use Rattle.avm_input.specs.Replies.{failed};
 ghost use Rattle.avm_input.specs.Shown.{reply_shown};

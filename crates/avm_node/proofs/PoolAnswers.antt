@@ -9,7 +9,7 @@ use Rattle.avm_ledger.specs.declared.header.Profile.TheVariants as profile
 use Rattle.avm_items.specs.declared.call_data.CallData.{CallData}
 use Rattle.avm_call.specs.CallRules.{needed_profile}
 use Rattle.avm_block.specs.AcceptedCalls.{first_beyond, fits_in}
-use Rattle.avm_ops.specs.Objects.{IsFull, IsLeastMissing, Slots}
+use Rattle.avm_ops.specs.OpSets.{IsFull, IsLeastMissing, Slots}
 use Rattle.avm_pool.specs.declared.pool_fault.PoolFault.{PoolFault}
 use Rattle.avm_pool.specs.declared.pool_fault.PoolFault.TheVariants as fault
 use Rattle.avm_pool.specs.Refusals.{AreFull, HasWorkers, IsFirstMissing, IsRefusal}

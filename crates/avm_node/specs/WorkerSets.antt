@@ -2,7 +2,7 @@
 use Rattle.std.specs.Prelude.{◌≡◌, ◌<◌, ◌≤◌, List, length}
 use Rattle.std.specs.List.{AllByRecursion}
 use Rattle.teal_table.specs.declared.opcode.Opcode.{Opcode}
-use Rattle.avm_ops.specs.Objects.{IsFull, Slots}
+use Rattle.avm_ops.specs.OpSets.{IsFull, Slots}
 use Rattle.avm_pool.specs.Refusals.{AreFull}
 
 -- one for each of 8 workers, and one for the thread that is called; each has an object of every opcode

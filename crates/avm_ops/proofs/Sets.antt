@@ -6,7 +6,7 @@ use Rattle.std.proofs.lemmas.Bool.{ltb-true}
 use Rattle.teal_table.specs.declared.opcode.Opcode.{Opcode}
 use Rattle.teal_table.specs.Table.{row_of, opcodes, code_of, opcode_at}
 use Rattle.teal_table.proofs.Codes.{opcode_at-code_of}
-use Rattle.avm_ops.specs.Objects.{Slots, Has, IsOf, object_at}
+use Rattle.avm_ops.specs.OpSets.{Slots, Has, IsOf, object_at}
 
 the_same : (o p : Opcode) → Some o ≡ Some p → o ≡ p
 the_same o p e = cc

@@ -8,6 +8,7 @@ pub mod States
 pub mod Effect
 pub mod Steps
 pub mod Objects
+pub mod OpSets
 pub mod TakenOperands
 pub mod LeftValues
 pub mod FaultNames

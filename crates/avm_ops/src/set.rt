@@ -5,7 +5,7 @@ ghost use Rattle.std.specs.Option.{option_copied};
 ghost use Rattle.teal_table.specs.declared.opcode.Opcode.{Opcode};
 ghost use Rattle.teal_table.specs.Table.{code_of};
 ghost use Rattle.avm_ops.specs.FaultNames.{push_fault_name};
-ghost use Rattle.avm_ops.specs.Objects.{Has, IsFull, IsLeastMissing, object_at, with_object};
+ghost use Rattle.avm_ops.specs.OpSets.{Has, IsFull, IsLeastMissing, object_at, with_object};
 
 use crate::op::{BoxedOp, Op};
 use std::alloc::{AllocError, Global};
@@ -21,7 +21,7 @@ pub struct Ops<O> {
 
 impl<O> Model for Ops<O> {
     ghost use Rattle.std.specs.Prelude.{◌≡◌, length};
-    ghost use Rattle.avm_ops.specs.Objects.{Slots};
+    ghost use Rattle.avm_ops.specs.OpSets.{Slots};
 
     ghost Value = { Slots O };
 

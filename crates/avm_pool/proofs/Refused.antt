@@ -7,7 +7,7 @@ use Rattle.teal_value.specs.declared.failure.Failure.TheVariants as failure
 use Rattle.teal_table.specs.declared.opcode.Opcode.{Opcode}
 use Rattle.avm_ledger.specs.declared.header.Header.{Header}
 use Rattle.avm_items.specs.declared.call_data.CallData.{CallData}
-use Rattle.avm_ops.specs.Objects.{IsFull, Slots}
+use Rattle.avm_ops.specs.OpSets.{IsFull, Slots}
 use Rattle.avm_block.specs.Blocks.{most_calls}
 use Rattle.avm_block.specs.AcceptedCalls.{first_beyond}
 use Rattle.mv_parts.specs.declared.open_fault.OpenFault.TheVariants.{Profile, TooMany}

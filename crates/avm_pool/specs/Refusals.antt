@@ -5,7 +5,7 @@ use Rattle.teal_value.specs.declared.failure.Failure.TheVariants as failure
 use Rattle.teal_table.specs.declared.opcode.Opcode.{Opcode}
 use Rattle.avm_ledger.specs.declared.header.Header.{Header}
 use Rattle.avm_items.specs.declared.call_data.CallData.{CallData}
-use Rattle.avm_ops.specs.Objects.{IsFull, IsLeastMissing, Slots}
+use Rattle.avm_ops.specs.OpSets.{IsFull, IsLeastMissing, Slots}
 use Rattle.avm_block.specs.AcceptedCalls.{first_beyond}
 use Rattle.avm_pool.specs.declared.pool_fault.PoolFault.{PoolFault}
 use Rattle.avm_pool.specs.declared.pool_fault.PoolFault.TheVariants as fault

@@ -2,7 +2,7 @@
 
 ghost use Rattle.std.specs.Prelude.{◌≡◌, ◌≤◌, true, [], IfErr, IfOk, None, OnOk, length};
 ghost use Rattle.std.specs.Arc.{arc_value};
-ghost use Rattle.avm_ops.specs.Objects.{IsFull};
+ghost use Rattle.avm_ops.specs.OpSets.{IsFull};
 ghost use Rattle.mv_parts.specs.Opening.{open_fault};
 ghost use Rattle.mv_parts.specs.Sealing.{IsJournalOf};
 ghost use Rattle.avm_pool.specs.Proposals.{IsProposal};

@@ -1,7 +1,7 @@
 //! What is tested before any thread starts.
 
 ghost use Rattle.std.specs.Prelude.{IfNone, IfSome};
-ghost use Rattle.avm_ops.specs.Objects.{IsFull};
+ghost use Rattle.avm_ops.specs.OpSets.{IsFull};
 ghost use Rattle.avm_pool.specs.Refusals.{AreFull, IsFirstMissing, IsPoolTestRefusal, MayPropose};
 
 use crate::pool_fault::PoolFault;

@@ -1,7 +1,7 @@
 //! One attempt of a call, outside the journal's lock.
 
 ghost use Rattle.std.specs.Prelude.{◌≡◌};
-ghost use Rattle.avm_ops.specs.Objects.{IsFull};
+ghost use Rattle.avm_ops.specs.OpSets.{IsFull};
 ghost use Rattle.avm_pool.specs.Running.{IsSameAttempt};
 
 use crate::ends::AttemptEnd;

@@ -1,7 +1,7 @@
 //! A worker: it draws numbers, and runs each call until it is committed or may not be.
 
 ghost use Rattle.std.specs.Prelude.{◌≡◌};
-ghost use Rattle.avm_ops.specs.Objects.{IsFull};
+ghost use Rattle.avm_ops.specs.OpSets.{IsFull};
 ghost use Rattle.avm_pool.specs.NumberPasses.{IsWith, view};
 
 use crate::call_numbers::{NumberPass, Numbers};

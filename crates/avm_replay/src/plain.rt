@@ -1,7 +1,7 @@
 //! Blocks of calls made one after another, on one thread.
 
 ghost use Rattle.std.specs.Prelude.{◌≡◌, ◌≤◌, ◌+◌, IfErr, IfOk, IfSome, None, length, vec_len};
-ghost use Rattle.avm_ops.specs.Objects.{IsFull};
+ghost use Rattle.avm_ops.specs.OpSets.{IsFull};
 ghost use Rattle.avm_replay.specs.FaultNames.{plain_block_fault_name};
 ghost use Rattle.avm_replay.specs.Plain.{AreMade, IsPlainFaultOf, IsPlainBlock, plain_fault};
 

@@ -1,7 +1,7 @@
 //! Replaying a block.
 
 ghost use Rattle.std.specs.Prelude.{◌≡◌, ◌≤◌, ◌↔◌, IfOk, IsTrue, length};
-ghost use Rattle.avm_ops.specs.Objects.{IsFull};
+ghost use Rattle.avm_ops.specs.OpSets.{IsFull};
 ghost use Rattle.avm_replay.specs.Verdicts.{Compares, Judges, OneVerdict};
 
 use crate::base::Base;

@@ -3,6 +3,7 @@ pub mod Standing
 pub mod Results
 pub mod Progress
 pub mod RunState
+pub mod KeptRuns
 pub mod Advances
 pub mod Executions
 pub mod ExecutedSteps

@@ -7,7 +7,7 @@ ghost use Rattle.avm_items.specs.Asks.{answer_from};
 ghost use Rattle.avm_items.specs.Items.{value_in};
 ghost use Rattle.avm_call.specs.AskedFor.{AreAskedFor};
 ghost use Rattle.avm_call.specs.Calls.{call_result};
-ghost use Rattle.avm_ops.specs.Objects.{IsFull};
+ghost use Rattle.avm_ops.specs.OpSets.{IsFull};
 ghost use Rattle.avm_run.specs.declared.call_run.State.TheVariants as state;
 ghost use Rattle.avm_run.specs.Advances.{Advances, Steps, Supplies};
 ghost use Rattle.avm_run.specs.ExecutedSteps.{AdvanceExecutes, StepExecutes};
@@ -159,7 +159,8 @@ pub struct CallRun {
 
 impl Model for CallRun {
     ghost use Rattle.std.specs.Prelude.{Option};
-    ghost use Rattle.avm_run.specs.RunState.{IsSoundState, Progress, progress};
+    ghost use Rattle.avm_run.specs.RunState.{Progress};
+    ghost use Rattle.avm_run.specs.KeptRuns.{IsSoundState, progress};
 
     ghost Value = { Option Progress };
 

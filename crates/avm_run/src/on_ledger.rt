@@ -2,7 +2,7 @@
 
 ghost use Rattle.std.specs.Prelude.{◌≡◌, ◌+◌, IfErr, IfOk};
 ghost use Rattle.teal_code.specs.Limits.{most_program_bytes};
-ghost use Rattle.avm_ops.specs.Objects.{IsFull};
+ghost use Rattle.avm_ops.specs.OpSets.{IsFull};
 ghost use Rattle.avm_items.specs.Asks.{result_over};
 ghost use Rattle.avm_items.specs.LedgerItems.{at};
 ghost use Rattle.avm_call.specs.Calls.{call_result};

@@ -5,7 +5,7 @@ ghost use Rattle.std.specs.Prelude.{◌≡◌, ◌-◌, Ok, Some, IfErr, IfOk, I
 ghost use Rattle.teal_code.specs.Limits.{most_program_bytes};
 ghost use Rattle.avm_call.specs.CallPaths.{outcome_of};
 ghost use Rattle.avm_call.specs.Ends.{has_programs};
-ghost use Rattle.avm_ops.specs.Objects.{IsFull};
+ghost use Rattle.avm_ops.specs.OpSets.{IsFull};
 ghost use Rattle.avm_run.specs.Executions.{ExecutesAtMost};
 ghost use Rattle.avm_run.specs.ExecutedSteps.{GoExecutes, RunExecutes, steps_made};
 ghost use Rattle.avm_run.specs.Progress.{ClosesAs, EndsRun, Follows, GoesTo, IsSupplied, RunsTo, TestsTo, reads_of, steps_of};
@@ -14,7 +14,7 @@ ghost use Rattle.avm_run.specs.Standing.{BeginsRun};
 use crate::admission::{AdmissionStop, Admitted, admit};
 use crate::ending::{cleared, end_call};
 use crate::executions::Executions;
-use crate::running::{Running, Spare, StepsOutcome, begin, make_steps};
+use crate::running::{Running, Spare, StepsOutcome, make_steps, start_program};
 use avm_call::{Call, Cause, Ended, Outcome};
 use avm_items::{Env, Item, ItemMap, ItemValue};
 use avm_ledger::Header;
@@ -175,7 +175,7 @@ fn run_tests(
 {
     match admit(call, &items) {
         Ok(Admitted { id, row: Some(row) }) => {
-            let running = begin(alloc, call, header, items, id, row, spare)?;
+            let running = start_program(alloc, call, header, items, id, row, spare)?;
             Ok(AdmissionOutcome::Begins(running))
         }
         Ok(Admitted { id, row: None }) => {
@@ -288,13 +288,13 @@ fn close(
     ensures outcome { IfOk result (λ closed. closed.outcome ≡ outcome_of call.now.completion ended) }
 {
     let mut running = running;
-    let closed = take_end(alloc, call, header, &mut running, ended);
+    let closed = ended_run(alloc, call, header, &mut running, ended);
     give_back(spare, running);
     closed
 }
 
 /// Takes the items out of a run whose program has ended so, and ends the call.
-fn take_end(
+fn ended_run(
     alloc: Global,
     call: &Call,
     header: &Header,

@@ -2,7 +2,7 @@
 
 ghost use Rattle.std.specs.Prelude.{◌≡◌, IfErr, IfOk, None, Some};
 ghost use Rattle.std.specs.Option.{option_copied};
-ghost use Rattle.avm_ops.specs.Objects.{IsFull};
+ghost use Rattle.avm_ops.specs.OpSets.{IsFull};
 ghost use Rattle.avm_stepper.specs.DebugSteps.{StepsTo};
 ghost use Rattle.avm_stepper.specs.Shown.{IsLedgerOf, IsMachineShown, IsProgramShown, IsShown};
 ghost use Rattle.avm_stepper.specs.Opening.{HasProgram, IsDebugRefusal, IsOpened, IsStartRefusal};

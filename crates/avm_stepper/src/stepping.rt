@@ -1,7 +1,7 @@
 //! One step of a run that is supplied from a ledger.
 
 ghost use Rattle.std.specs.Prelude.{◌≡◌, IfOk};
-ghost use Rattle.avm_ops.specs.Objects.{IsFull};
+ghost use Rattle.avm_ops.specs.OpSets.{IsFull};
 ghost use Rattle.avm_stepper.specs.Stepping.{WasAsked, ComesNextBy, Goes, GoesOnOver, IsBefore, IsLeft, LeadsTo, supplied};
 
 use avm_call::Ended;

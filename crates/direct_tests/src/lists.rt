@@ -1,5 +1,5 @@
 //! Lists of events, run over a store and replayed.
-ghost use Rattle.avm_ops.specs.Objects.{IsFull};
+ghost use Rattle.avm_ops.specs.OpSets.{IsFull};
 
 use crate::data::stand_once;
 use avm_block::Block;

@@ -1,7 +1,7 @@
 //! Whether calls are proposed as a case says.
 
 ghost use Rattle.std.specs.Prelude.{◌≡◌};
-ghost use Rattle.avm_ops.specs.Objects.{IsFull};
+ghost use Rattle.avm_ops.specs.OpSets.{IsFull};
 
 use crate::cases::Case;
 use crate::data::{bytes_of, calls_of, ledger_of, programs, stand_once};

@@ -2,7 +2,7 @@
 //! nothing of the pool.
 
 ghost use Rattle.std.specs.Prelude.{◌≡◌};
-ghost use Rattle.avm_ops.specs.Objects.{IsFull};
+ghost use Rattle.avm_ops.specs.OpSets.{IsFull};
 
 use crate::data::some_calls;
 use crate::proposing::{proposed, replayed};

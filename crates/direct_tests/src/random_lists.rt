@@ -1,5 +1,5 @@
 //! Random lists of events over a store, each of whose blocks is replayed.
-ghost use Rattle.avm_ops.specs.Objects.{IsFull};
+ghost use Rattle.avm_ops.specs.OpSets.{IsFull};
 
 use crate::data::{BASE, CALLS as ROWS, calls_of, ledger_of, programs, some_calls};
 use crate::lists::{Replayed, replay_store, world_after};

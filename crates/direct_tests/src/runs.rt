@@ -1,6 +1,6 @@
 //! Runs of calls that are supplied by hand.
 
-ghost use Rattle.avm_ops.specs.Objects.{IsFull};
+ghost use Rattle.avm_ops.specs.OpSets.{IsFull};
 
 use crate::data::{ledger_of, programs};
 use crate::sets::full_ops;

@@ -1,7 +1,7 @@
 //! What `trace` answers.
 
 ghost use Rattle.std.specs.Prelude.{◌≡◌, IfOk, Ok, Err};
-ghost use Rattle.avm_ops.specs.Objects.{IsFull};
+ghost use Rattle.avm_ops.specs.OpSets.{IsFull};
 ghost use Rattle.avm_input.specs.Shown.{reply_shown};
 ghost use Rattle.json_traces.specs.TraceReplies.{IsFoundReply, IsTraceReply, trace_reply};
 

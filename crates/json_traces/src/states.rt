@@ -1,7 +1,7 @@
 //! The states of a call's program, from before its first instruction to the fault or the end.
 
 ghost use Rattle.std.specs.Prelude.{◌≡◌, IfErr, IfOk, OnOk};
-ghost use Rattle.avm_ops.specs.Objects.{IsFull};
+ghost use Rattle.avm_ops.specs.OpSets.{IsFull};
 ghost use Rattle.teal_dis.specs.Shown.{AreLineNumbers};
 ghost use Rattle.avm_stepper.specs.Shown.{next_seen};
 ghost use Rattle.json_traces.specs.StateRuns.{AddsStates, IsAtStart, IsStatesFailure, WritesState, is_instruction};

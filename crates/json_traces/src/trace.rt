@@ -2,7 +2,7 @@
 
 ghost use Rattle.std.specs.Prelude.{◌≡◌, ◌∷◌, [], IfErr, IfOk, OnOk, string_bytes};
 ghost use Rattle.json.specs.Tree.{json_tokens};
-ghost use Rattle.avm_ops.specs.Objects.{IsFull};
+ghost use Rattle.avm_ops.specs.OpSets.{IsFull};
 ghost use Rattle.avm_stepper.specs.Opening.{IsOpened};
 ghost use Rattle.avm_input.specs.Outcomes.{outcome_text};
 ghost use Rattle.json_views.specs.Documents.{member_tokens, text};

@@ -7,7 +7,7 @@ use Rattle.mv_chain.specs.Versions.{count_not_above, IsChain, mark_in, marked_at
 use Rattle.mv_chain.specs.Laws.{IsPrunedTo}
 use Rattle.mv_chain.proofs.Found.{every_read_finds_the_newest_lem, every_install_is_found_lem, every_prune_keeps_reads_lem, every_read_marks_its_version_alone_lem}
 use Rattle.mv_chain.proofs.Marks.{every_mark_is_of_its_version_lem}
-use Rattle.mv_chain.proofs.Places.{versions_read_at-chain, versions_with-chain}
+use Rattle.mv_chain.proofs.Indexes.{versions_read_at-chain, versions_with-chain}
 use Rattle.mv_history.specs.History.{Entry, IsRising, entries_with, version_below}
 use Rattle.mv_history.specs.Laws.{IsVersionAfterCommit}
 use Rattle.mv_history.proofs.Lists.{Compared, less, not_less, compared, Equals, equal, unequal, equals, all_insert, all_map}

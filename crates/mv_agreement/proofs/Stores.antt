@@ -92,14 +92,14 @@ reads_found {Item} {Value} same itself (r ∷ rs) = (
     passed false o some = some
 
 module _ {Item Value Outcome V : Type 0} (give : Value → V) (same : Item → Item → Bool) (Proper : (Item → Value) → Type 0) (means : CallMeaning Item Value Outcome) (base : Item → Value) (from clock low : ℕ) (es : List (Entry Item Value Outcome)) (live : List (Attempt Item Value)) (all new : Item → List (Version V)) (store : IsStore give same Proper means base from clock low es live all) where
-  store_after_read : IsEquality same → (t place : ℕ) (x : Item) (a : Attempt Item Value) → attempt_at t live ≡ Some a → from ≤ t → ((y : Item) → new y ≡ after_item_read same t x all y)
-      → IsStore give same Proper means base from clock low es (attempts_with_read t place (x, (version_below same base es (suc t) x).1) live) new
-  store_after_read equality t place x a is_live above is =
+  store_after_read : IsEquality same → (t index : ℕ) (x : Item) (a : Attempt Item Value) → attempt_at t live ≡ Some a → from ≤ t → ((y : Item) → new y ≡ after_item_read same t x all y)
+      → IsStore give same Proper means base from clock low es (attempts_with_read t index (x, (version_below same base es (suc t) x).1) live) new
+  store_after_read equality t index x a is_live above is =
       record {
         holds = λ y. subst (HoldsVersions give same base from es y) (sym (is y)) (holds y (same y x) refl);
         consistent = record {
           journal = store.consistent.journal;
-          schedule = schedule_after_read same base (marks_of all) (marks_of new) clock low t place x es live a is_live (λ y n. (marks y n).more) (λ y n. (marks y n).not_more) marked store.consistent.schedule;
+          schedule = schedule_after_read same base (marks_of all) (marks_of new) clock low t index x es live a is_live (λ y n. (marks y n).more) (λ y n. (marks y n).not_more) marked store.consistent.schedule;
         };
       }
     where
@@ -199,8 +199,8 @@ module _ {Item Value Outcome V : Type 0} (give : Value → V) (same : Item → I
       fewer x n = subst (λ vs. mark_in n vs ≤ mark_in n (all x)) (sym (is x)) (fewer_in x n (all x) (store.holds x))
 
 pub every_read_leaves_a_store_lem : (Item Value Outcome V : Type 0) (Proper : (Item → Value) → Type 0) → EveryReadLeavesAStore Item Value Outcome V Proper
-every_read_leaves_a_store_lem Item Value Outcome V Proper give same equality means base from clock low es live all new store t place x a is_live above is =
-    store_after_read give same Proper means base from clock low es live all new store equality t place x a is_live above is
+every_read_leaves_a_store_lem Item Value Outcome V Proper give same equality means base from clock low es live all new store t index x a is_live above is =
+    store_after_read give same Proper means base from clock low es live all new store equality t index x a is_live above is
 
 pub every_commit_leaves_a_store_lem : (Item Value Outcome V : Type 0) (Proper : (Item → Value) → Type 0) → EveryCommitLeavesAStore Item Value Outcome V Proper
 every_commit_leaves_a_store_lem Item Value Outcome V Proper give same equality means base from clock low es live all new store a e is_live checked above is =

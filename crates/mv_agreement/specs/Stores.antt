@@ -44,8 +44,8 @@ abbrev pub EveryReadLeavesAStore : (Item Value Outcome V : Type 0) → ((Item �
 EveryReadLeavesAStore Item Value Outcome V Proper =
     (give : Value → V) (same : Item → Item → Bool) → IsEquality same → (means : CallMeaning Item Value Outcome) (base : Item → Value) (from clock low : ℕ) (es : List (Entry Item Value Outcome)) (live : List (Attempt Item Value)) (all new : Item → List (Version V))
     → IsStore give same Proper means base from clock low es live all
-    → (t place : ℕ) (x : Item) (a : Attempt Item Value) → attempt_at t live ≡ Some a → from ≤ t → ((y : Item) → new y ≡ after_item_read same t x all y)
-    → IsStore give same Proper means base from clock low es (attempts_with_read t place (x, (version_below same base es (suc t) x).1) live) new
+    → (t index : ℕ) (x : Item) (a : Attempt Item Value) → attempt_at t live ≡ Some a → from ≤ t → ((y : Item) → new y ≡ after_item_read same t x all y)
+    → IsStore give same Proper means base from clock low es (attempts_with_read t index (x, (version_below same base es (suc t) x).1) live) new
 
 -- a commit, checked against the entries and by the store's own marks, leaves a store
 abbrev pub EveryCommitLeavesAStore : (Item Value Outcome V : Type 0) → ((Item → Value) → Type 0) → Type 0

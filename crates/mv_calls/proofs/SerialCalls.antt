@@ -24,7 +24,8 @@ use Rattle.mv_history.proofs.Lists.{Compared, less, not_less, compared, all_map,
 use Rattle.mv_history.proofs.Replay.{none_left}
 use Rattle.mv_history.proofs.Versions.{all_with}
 use Rattle.mv_history.proofs.Worlds.{after_events-push, all_apply-push}
-use Rattle.mv_calls.specs.CallHistory.{CallAttempt, CallEntry, CallEvent, CallWorld, call_of, calls_made, meaning_of, same_item, with_call}
+use Rattle.mv_calls.specs.CallHistory.{CallAttempt, CallEntry, CallEvent, CallWorld, calls_made, meaning_of, same_item, with_call}
+use Rattle.mv_calls.specs.CallNumbers.{call_of}
 use Rattle.mv_calls.specs.Laws.{AreCallsOf, IsReplayOf, ItemsHaveAnEquality}
 use Rattle.mv_calls.specs.SerialCalls.{AreOfCalls, AreSerialCalls, BeginsACall, EveryConsistentWorldOfCallsIsSerial, EveryEventOfCallsLeadsOn, EveryInterleavingOfCallsIsSerial, ledger_of}
 use Rattle.mv_calls.proofs.Histories.{histories_are_replays, reads_agree}
@@ -47,7 +48,7 @@ module _ (calls : List CallData) where
 
   after_one : (base : Ledger) (header : Header) (w : CallWorld) (event : CallEvent) → BeginsACall calls event → Applies same_item IsOfLedger (meaning_of header calls) (at base) w event → AreCalls w → AreCalls (after_event same_item (at base) w event)
   after_one base header w (Begin number) begins applies k = record { entries = k.entries; live = all_push IsForCall w.live (fresh_attempt number (w.clock + 1)) k.live begins }
-  after_one base header w (Read t place x) begins applies k = record { entries = k.entries; live = all_with_read IsForCall t place _ w.live (λ a e h. h) k.live }
+  after_one base header w (Read t index x) begins applies k = record { entries = k.entries; live = all_with_read IsForCall t index _ w.live (λ a e h. h) k.live }
   after_one base header w (Commit e) begins applies k =
       record {
         entries = all_with same_item IsOfCall e w.entries (subst (λ n. IsSome (call_of calls n)) (sym applies.2.number) (found_attempt IsForCall e.timestamp applies.0 w.live applies.1 k.live)) k.entries;

@@ -1,5 +1,5 @@
 -- Calls as the order theorem sees them: the meaning of each by its number, over any look-up of items.
-use Rattle.std.specs.Prelude.{ℕ, ◌-◌, Bool, List, [], ◌∷◌, Option, None, Some, slice_get, if◌then◌else◌, ◌==◌}
+use Rattle.std.specs.Prelude.{◌-◌, Bool, List, [], ◌∷◌, Option, None, Some}
 use Rattle.std.specs.Ordering.{is_eq}
 use Rattle.avm_ledger.specs.declared.header.Header.{Header}
 use Rattle.avm_items.specs.declared.call_data.CallData.{CallData}
@@ -13,14 +13,11 @@ use Rattle.avm_call.specs.declared.outcome.Outcome.TheVariants as outcome
 use Rattle.avm_call.specs.Calls.{CallResult, call_result}
 use Rattle.mv_history.specs.History.{Entry, CallMeaning}
 use Rattle.mv_history.specs.World.{Attempt, Event, World}
+use Rattle.mv_calls.specs.CallNumbers.{call_of}
 
 -- the test of items
 abbrev pub same_item : Item → Item → Bool
 same_item x y = is_eq (item_cmp x y)
-
--- the call of a number, from 1
-abbrev pub call_of : List CallData → ℕ → Option CallData
-call_of calls number = if number == 0 then None else slice_get calls (number - 1)
 
 -- how a call ends over a look-up, and what it changes there
 abbrev pub result_in : Header → Look → Option CallData → CallResult

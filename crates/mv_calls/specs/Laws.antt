@@ -10,7 +10,9 @@ use Rattle.avm_laws.specs.LedgerLooks.{IsLookOf, IsOfLedger}
 use Rattle.avm_run.specs.Results.{CallRecord, IsFinishedCall}
 use Rattle.mv_history.specs.History as history
 use Rattle.mv_history.specs.History.{IsEquality, lookup_after, Replays, state_after}
-use Rattle.mv_calls.specs.CallHistory.{CallEntry, same_item, call_of, result_in, meaning_of}
+use Rattle.mv_calls.specs.CallHistory.{CallEntry, same_item, result_in, meaning_of}
+use Rattle.mv_calls.specs.CallNumbers.{call_of}
+use Rattle.mv_calls.specs.EntryWrites.{ledger_with}
 
 -- the test of items says exactly which are the same
 abbrev pub ItemsHaveAnEquality : Type 0
@@ -44,11 +46,6 @@ abbrev pub AreCallsOf : List CallData → List CallEntry → List CallData → T
 AreCallsOf calls [] [] = Unit {0}
 AreCallsOf calls (e ∷ es) (c ∷ cs) = HasCall calls e c × AreCallsOf calls es cs
 AreCallsOf calls _ _ = ⊥
-
--- the entries' writes, put into a ledger one entry after another
-abbrev pub ledger_with : Ledger → List CallEntry → Ledger
-ledger_with l [] = l
-ledger_with l (e ∷ es) = ledger_with (put l e.writes) es
 
 -- A history that replays over a look-up of a ledger is the replay of its calls on the ledger: the same outcomes, the state
 -- that it leaves is a look-up of the ledger after, and the writes put into the ledger lead there too.

@@ -1,4 +1,4 @@
--- Live attempts with what they have read, by the places of their calls.
+-- Live attempts with what they have read, by the slots of their calls.
 use Rattle.std.proofs.Common.{◌≡◌, ◌≢◌, ℕ, ◌+◌, ◌-◌, ◌<◌, ◌≤◌, ◌==◌, Bool, true, false, cond, not, if◌then◌else◌, List, [], ◌∷◌, ◌++◌, length, Option, None, Some, get_or, set, refl, sym, ap, ◌∙◌, subst, arith}
 use Rattle.std.specs.List.{AllByRecursion, insert}
 use Rattle.std.proofs.lemmas.List.{get_or-set_same, get_or-set_other, length-set}
@@ -6,7 +6,7 @@ use Rattle.std.proofs.lemmas.Option.{same_Some}
 use Rattle.mv_history.specs.World.{Attempt, attempt_at, attempts_with_read, attempts_without, fresh_attempt, live_count}
 use Rattle.mv_history.proofs.Attempts.{attempt_at-last, attempt_at-push, attempt_at-without, found_timestamp, live_count-ended, live_count-push, live_count-without}
 use Rattle.mv_history.proofs.Lists.{Equals, equal, unequal, equals}
-use Rattle.mv_core.specs.Places.{ArePlacesOf, HasLiveNumber, IsPlaceOf, AttemptSlots, live_in, reads_of_call, reads_or}
+use Rattle.mv_core.specs.AttemptSlots.{AreSlotsOf, HasLiveNumber, IsSlotOf, AttemptSlots, live_in, reads_of_call, reads_or}
 
 module _ {Item Value : Type 0} where
   -- ---- what the attempts of other calls have read
@@ -95,15 +95,15 @@ module _ {Item Value : Type 0} where
           let still : 0 < live_count n (attempts_without s live) = live_counts n t (attempts_without s live) (record { attempt = l.attempt; live = attempt_at-without t s live (λ same. e (sym same)) ∙ l.live; number = l.number }) in
           absurd (omega (arith, none, still))
 
-  -- ---- places
+  -- ---- slots
 
-  -- the attempt at its call's place is the live one
-  pub attempt_here : (slots : AttemptSlots Item Value) (live : List (Attempt Item Value)) (n : ℕ) (a : Attempt Item Value) → 0 < n → n - 1 < length slots → get_or slots (n - 1) None ≡ Some a → ArePlacesOf live slots
+  -- the attempt at its call's index is the live one
+  pub attempt_here : (slots : AttemptSlots Item Value) (live : List (Attempt Item Value)) (n : ℕ) (a : Attempt Item Value) → 0 < n → n - 1 < length slots → get_or slots (n - 1) None ≡ Some a → AreSlotsOf live slots
       → (HasLiveNumber live n a.timestamp) × (a.number ≡ n) × (attempt_at a.timestamp (live_in slots live) ≡ Some a)
   attempt_here slots live n a above within found k = (here.1, here.0, attempt_at-in slots a.timestamp live ∙ ap (with_reads slots) here.1.live ∙ ap Some same)
     where
       here : (a.number ≡ n) × HasLiveNumber live n a.timestamp
-      here = let back : n - 1 + 1 ≡ n = omega arith in subst (λ m. IsPlaceOf live m (Some a)) back (subst (IsPlaceOf live (n - 1 + 1)) found (k (n - 1) within))
+      here = let back : n - 1 + 1 ≡ n = omega arith in subst (λ m. IsSlotOf live m (Some a)) back (subst (IsSlotOf live (n - 1 + 1)) found (k (n - 1) within))
 
       number : here.1.attempt.number ≡ a.number
       number = here.1.number ∙ sym here.0
@@ -117,31 +117,31 @@ module _ {Item Value : Type 0} where
       same : record (here.1.attempt) { reads = reads_of_call slots here.1.attempt.number } ≡ a
       same = λ i. record { number = number i; timestamp = time i; reads = reads i }
 
-  -- a call is live where its place has an attempt, at that one's timestamp
-  pub not_live_none : (slots : AttemptSlots Item Value) (live : List (Attempt Item Value)) (n t : ℕ) → 0 < n → n - 1 < length slots → get_or slots (n - 1) None ≡ None → ArePlacesOf live slots → HasLiveNumber live n t → ⊥
+  -- a call is live where its index has an attempt, at that one's timestamp
+  pub not_live_none : (slots : AttemptSlots Item Value) (live : List (Attempt Item Value)) (n t : ℕ) → 0 < n → n - 1 < length slots → get_or slots (n - 1) None ≡ None → AreSlotsOf live slots → HasLiveNumber live n t → ⊥
   not_live_none slots live n t above within found k l =
       let back : n - 1 + 1 ≡ n = omega arith in
-      let none : live_count n live ≡ 0 = subst (λ m. live_count m live ≡ 0) back (subst (IsPlaceOf live (n - 1 + 1)) found (k (n - 1) within)) in
+      let none : live_count n live ≡ 0 = subst (λ m. live_count m live ≡ 0) back (subst (IsSlotOf live (n - 1 + 1)) found (k (n - 1) within)) in
       let some : 0 < live_count n live = live_counts n t live l in
       omega (arith, none, some)
 
-  pub not_live_other : (slots : AttemptSlots Item Value) (live : List (Attempt Item Value)) (n t : ℕ) (a : Attempt Item Value) → 0 < n → n - 1 < length slots → get_or slots (n - 1) None ≡ Some a → ArePlacesOf live slots → live_count n live ≤ 1
+  pub not_live_other : (slots : AttemptSlots Item Value) (live : List (Attempt Item Value)) (n t : ℕ) (a : Attempt Item Value) → 0 < n → n - 1 < length slots → get_or slots (n - 1) None ≡ Some a → AreSlotsOf live slots → live_count n live ≤ 1
       → a.timestamp ≢ t → HasLiveNumber live n t → ⊥
   not_live_other slots live n t a above within found k once other l = other (one_live n a.timestamp t live (attempt_here slots live n a above within found k).0 l once)
 
-  -- another place
+  -- another index
   abbrev Moves : List (Attempt Item Value) → List (Attempt Item Value) → ℕ → Type 0
-  Moves live new n = (m : ℕ) (o : Option (Attempt Item Value)) → m ≢ n → IsPlaceOf live m o → IsPlaceOf new m o
+  Moves live new n = (m : ℕ) (o : Option (Attempt Item Value)) → m ≢ n → IsSlotOf live m o → IsSlotOf new m o
 
-  placed : (slots : AttemptSlots Item Value) (live new : List (Attempt Item Value)) (n : ℕ) (s : Option (Attempt Item Value)) → 0 < n → n - 1 < length slots → IsPlaceOf new n s → Moves live new n → ArePlacesOf live slots → ArePlacesOf new (set slots (n - 1) s)
+  placed : (slots : AttemptSlots Item Value) (live new : List (Attempt Item Value)) (n : ℕ) (s : Option (Attempt Item Value)) → 0 < n → n - 1 < length slots → IsSlotOf new n s → Moves live new n → AreSlotsOf live slots → AreSlotsOf new (set slots (n - 1) s)
   placed slots live new n s above within own moves k i inside = by (i == n - 1) (equals i (n - 1))
     where
-      by : (b : Bool) → Equals i (n - 1) b → IsPlaceOf new (i + 1) (get_or (set slots (n - 1) s) i None)
+      by : (b : Bool) → Equals i (n - 1) b → IsSlotOf new (i + 1) (get_or (set slots (n - 1) s) i None)
       by b (equal e) =
           let here : n ≡ i + 1 = omega (arith, e) in
-          subst (λ o. IsPlaceOf new (i + 1) o) (sym (ap (λ j. get_or (set slots (n - 1) s) j None) e ∙ get_or-set_same slots (n - 1) s None within)) (subst (λ m. IsPlaceOf new m s) here own)
+          subst (λ o. IsSlotOf new (i + 1) o) (sym (ap (λ j. get_or (set slots (n - 1) s) j None) e ∙ get_or-set_same slots (n - 1) s None within)) (subst (λ m. IsSlotOf new m s) here own)
       by b (unequal e) =
-          subst (λ o. IsPlaceOf new (i + 1) o) (sym (get_or-set_other slots (n - 1) i s None e))
+          subst (λ o. IsSlotOf new (i + 1) o) (sym (get_or-set_other slots (n - 1) i s None e))
           (moves (i + 1) (get_or slots i None) (λ same. e (omega (arith, same))) (k i (subst (λ l. i < l) (length-set slots (n - 1) s) inside)))
 
   -- ---- a call begins
@@ -167,9 +167,9 @@ module _ {Item Value : Type 0} where
       by b (unequal e) is = omega (arith, is, none)
   begun_others live n t m (Some b) other k = (k.0, record { attempt = k.1.attempt; live = attempt_at-push b.timestamp k.1.attempt (fresh_attempt n t) live k.1.live; number = k.1.number })
 
-  pub places_begun : (slots : AttemptSlots Item Value) (live : List (Attempt Item Value)) (n t : ℕ) → 0 < n → n - 1 < length slots → AllByRecursion (λ a. a.timestamp ≢ t) live → ArePlacesOf live slots
-      → ArePlacesOf (live ++ fresh_attempt n t ∷ []) (set slots (n - 1) (Some (fresh_attempt n t)))
-  places_begun slots live n t above within fresh k =
+  pub slots_begun : (slots : AttemptSlots Item Value) (live : List (Attempt Item Value)) (n t : ℕ) → 0 < n → n - 1 < length slots → AllByRecursion (λ a. a.timestamp ≢ t) live → AreSlotsOf live slots
+      → AreSlotsOf (live ++ fresh_attempt n t ∷ []) (set slots (n - 1) (Some (fresh_attempt n t)))
+  slots_begun slots live n t above within fresh k =
       placed slots live (live ++ fresh_attempt n t ∷ []) n (Some (fresh_attempt n t)) above within
       (refl, record { attempt = fresh_attempt n t; live = attempt_at-last t (fresh_attempt n t) live refl fresh; number = refl })
       (begun_others live n t) k
@@ -195,37 +195,37 @@ module _ {Item Value : Type 0} where
       apart : b.timestamp ≢ t
       apart same = other (sym k.1.number ∙ ap (λ (c : Attempt Item Value). c.number) (same_Some _ _ (sym k.1.live ∙ ap (λ u. attempt_at u live) same ∙ l.live)) ∙ l.number)
 
-  pub places_ended : (slots : AttemptSlots Item Value) (live : List (Attempt Item Value)) (n t : ℕ) → 0 < n → n - 1 < length slots → HasLiveNumber live n t → live_count n live ≤ 1 → ArePlacesOf live slots → ArePlacesOf (attempts_without t live) (set slots (n - 1) None)
-  places_ended slots live n t above within l once k = placed slots live (attempts_without t live) n None above within (ended n t live l once) (ended_others live n t l) k
+  pub slots_ended : (slots : AttemptSlots Item Value) (live : List (Attempt Item Value)) (n t : ℕ) → 0 < n → n - 1 < length slots → HasLiveNumber live n t → live_count n live ≤ 1 → AreSlotsOf live slots → AreSlotsOf (attempts_without t live) (set slots (n - 1) None)
+  slots_ended slots live n t above within l once k = placed slots live (attempts_without t live) n None above within (ended n t live l once) (ended_others live n t l) k
 
   -- ---- an attempt reads
 
   abbrev IsReadMore : Attempt Item Value → Attempt Item Value → ℕ → Item × Value → Type 0
-  IsReadMore before after place read = after ≡ record before { reads = insert before.reads place read }
+  IsReadMore before after index read = after ≡ record before { reads = insert before.reads index read }
 
-  read_more : (slots : AttemptSlots Item Value) (before after : Attempt Item Value) (n place : ℕ) (read : Item × Value) → 0 < n → n - 1 < length slots → get_or slots (n - 1) None ≡ Some before → IsReadMore before after place read
-      → reads_of_call (set slots (n - 1) (Some after)) n ≡ insert (reads_of_call slots n) place read
-  read_more slots before after n place read above within found more =
+  read_more : (slots : AttemptSlots Item Value) (before after : Attempt Item Value) (n index : ℕ) (read : Item × Value) → 0 < n → n - 1 < length slots → get_or slots (n - 1) None ≡ Some before → IsReadMore before after index read
+      → reads_of_call (set slots (n - 1) (Some after)) n ≡ insert (reads_of_call slots n) index read
+  read_more slots before after n index read above within found more =
       reads_found (set slots (n - 1) (Some after)) after n above (get_or-set_same slots (n - 1) (Some after) None within)
-      ∙ ap (λ (a : Attempt Item Value). a.reads) more ∙ ap (λ rs. insert rs place read) (sym (reads_found slots before n above found))
+      ∙ ap (λ (a : Attempt Item Value). a.reads) more ∙ ap (λ rs. insert rs index read) (sym (reads_found slots before n above found))
 
-  pub live_read : (slots : AttemptSlots Item Value) (before after : Attempt Item Value) (n t place : ℕ) (read : Item × Value) (live : List (Attempt Item Value)) → 0 < n → n - 1 < length slots → get_or slots (n - 1) None ≡ Some before
-      → IsReadMore before after place read → HasLiveNumber live n t → live_count n live ≤ 1 → live_in (set slots (n - 1) (Some after)) live ≡ attempts_with_read t place read (live_in slots live)
-  live_read slots before after n t place read [] above within found more k once = absurd (by k.live)
+  pub live_read : (slots : AttemptSlots Item Value) (before after : Attempt Item Value) (n t index : ℕ) (read : Item × Value) (live : List (Attempt Item Value)) → 0 < n → n - 1 < length slots → get_or slots (n - 1) None ≡ Some before
+      → IsReadMore before after index read → HasLiveNumber live n t → live_count n live ≤ 1 → live_in (set slots (n - 1) (Some after)) live ≡ attempts_with_read t index read (live_in slots live)
+  live_read slots before after n t index read [] above within found more k once = absurd (by k.live)
     where
       by : None ≡ Some k.attempt → ⊥
       by e = cc
-  live_read slots before after n t place read (a ∷ as') above within found more k once = by (a.timestamp == t) k.live (λ l one. live_read slots before after n t place read as' above within found more l one)
+  live_read slots before after n t index read (a ∷ as') above within found more k once = by (a.timestamp == t) k.live (λ l one. live_read slots before after n t index read as' above within found more l one)
     where
       here : a.number ≡ n → (b : Bool) → Equals a.number n b → (if b then 1 else 0) + live_count n as' ≤ 1 → live_count n as' ≡ 0
       here e b (equal same) h = omega (arith, h)
       here e b (unequal other) h = absurd (other e)
 
       Rest : Type 0
-      Rest = HasLiveNumber as' n t → live_count n as' ≤ 1 → live_in (set slots (n - 1) (Some after)) as' ≡ attempts_with_read t place read (live_in slots as')
+      Rest = HasLiveNumber as' n t → live_count n as' ≤ 1 → live_in (set slots (n - 1) (Some after)) as' ≡ attempts_with_read t index read (live_in slots as')
 
       later : Rest → attempt_at t as' ≡ Some k.attempt → (b : Bool) → Equals a.number n b → (if b then 1 else 0) + live_count n as' ≤ 1
-          → record a { reads = reads_of_call (set slots (n - 1) (Some after)) a.number } ∷ live_in (set slots (n - 1) (Some after)) as' ≡ record a { reads = reads_of_call slots a.number } ∷ attempts_with_read t place read (live_in slots as')
+          → record a { reads = reads_of_call (set slots (n - 1) (Some after)) a.number } ∷ live_in (set slots (n - 1) (Some after)) as' ≡ record a { reads = reads_of_call slots a.number } ∷ attempts_with_read t index read (live_in slots as')
       later again there b (equal same) h = let some : 0 < live_count n as' = live_counts n t as' (record { attempt = k.attempt; live = there; number = k.number }) in absurd (omega (arith, h, some))
       later again there b (unequal other) h =
           let rest = again (record { attempt = k.attempt; live = there; number = k.number }) (omega (arith, h)) in
@@ -234,20 +234,20 @@ module _ {Item Value : Type 0} where
 
       by : (b : Bool) → (if b then Some a else attempt_at t as') ≡ Some k.attempt → Rest
           → record a { reads = reads_of_call (set slots (n - 1) (Some after)) a.number } ∷ live_in (set slots (n - 1) (Some after)) as'
-          ≡ (if b then record a { reads = insert (reads_of_call slots a.number) place read } ∷ live_in slots as' else record a { reads = reads_of_call slots a.number } ∷ attempts_with_read t place read (live_in slots as'))
+          ≡ (if b then record a { reads = insert (reads_of_call slots a.number) index read } ∷ live_in slots as' else record a { reads = reads_of_call slots a.number } ∷ attempts_with_read t index read (live_in slots as'))
       by true is again =
           let number : a.number ≡ n = ap (λ (c : Attempt Item Value). c.number) (same_Some _ _ is) ∙ k.number in
           let rest = live_others slots (Some after) n as' above (here number (a.number == n) (equals a.number n) once) in
-          let reads = subst (λ m. reads_of_call (set slots (n - 1) (Some after)) m ≡ insert (reads_of_call slots m) place read) (sym number) (read_more slots before after n place read above within found more) in
+          let reads = subst (λ m. reads_of_call (set slots (n - 1) (Some after)) m ≡ insert (reads_of_call slots m) index read) (sym number) (read_more slots before after n index read above within found more) in
           λ i. record a { reads = reads i } ∷ rest i
       by false is again = later again is (a.number == n) (equals a.number n) once
 
-  pub places_read : (slots : AttemptSlots Item Value) (before after : Attempt Item Value) (n place : ℕ) (read : Item × Value) (live : List (Attempt Item Value)) → 0 < n → n - 1 < length slots → get_or slots (n - 1) None ≡ Some before
-      → IsReadMore before after place read → ArePlacesOf live slots → ArePlacesOf live (set slots (n - 1) (Some after))
-  places_read slots before after n place read live above within found more k =
+  pub slots_read : (slots : AttemptSlots Item Value) (before after : Attempt Item Value) (n index : ℕ) (read : Item × Value) (live : List (Attempt Item Value)) → 0 < n → n - 1 < length slots → get_or slots (n - 1) None ≡ Some before
+      → IsReadMore before after index read → AreSlotsOf live slots → AreSlotsOf live (set slots (n - 1) (Some after))
+  slots_read slots before after n index read live above within found more k =
       placed slots live live n (Some after) above within
-      (subst (λ (a : Attempt Item Value). IsPlaceOf live n (Some a)) (sym more) here)
+      (subst (λ (a : Attempt Item Value). IsSlotOf live n (Some a)) (sym more) here)
       (λ m o other h. h) k
     where
-      here : IsPlaceOf live n (Some before)
-      here = let back : n - 1 + 1 ≡ n = omega arith in subst (λ m. IsPlaceOf live m (Some before)) back (subst (IsPlaceOf live (n - 1 + 1)) found (k (n - 1) within))
+      here : IsSlotOf live n (Some before)
+      here = let back : n - 1 + 1 ≡ n = omega arith in subst (λ m. IsSlotOf live m (Some before)) back (subst (IsSlotOf live (n - 1 + 1)) found (k (n - 1) within))

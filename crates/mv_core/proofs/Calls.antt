@@ -1,5 +1,5 @@
 -- What the calls of a store make of what it keeps, by the contracts of the journal and of the shards that are held.
-use Rattle.std.proofs.Common.{◌≡◌, ℕ, ◌+◌, ◌-◌, ◌<◌, ◌≤◌, ◌==◌, Bool, nat_lt, if◌then◌else◌, [], length, Option, None, Some, get_or, set, refl, sym, ap, ◌∙◌, subst, arith, inl, inr}
+use Rattle.std.proofs.Common.{◌≡◌, ℕ, ◌+◌, ◌-◌, ◌<◌, ◌≤◌, ◌==◌, Bool, nat_lt, if◌then◌else◌, length, Option, None, Some, get_or, set, refl, sym, ap, ◌∙◌, subst, arith, inl, inr}
 use Rattle.std.specs.Prelude.{◌⊎◌, ◌||◌, ◌^◌, IsSome}
 use Rattle.std.proofs.lemmas.Option.{same_Some}
 use Rattle.teal_value.specs.declared.failure.Failure.{Failure}
@@ -18,18 +18,19 @@ use Rattle.mv_shards.specs.declared.read_fault.ReadFault.TheVariants.{Pruned}
 use Rattle.mv_shards.specs.Indexes.{shard_of}
 use Rattle.mv_shards.specs.Shards as shard
 use Rattle.mv_shards.specs.Shards.{Shard}
-use Rattle.mv_shards.specs.Helds.{ArePruned, IsHeld, IsPrunedIn, Places, shard_for}
+use Rattle.mv_shards.specs.Helds.{ArePruned, IsHeld, IsPrunedIn, ShardSlots, shard_for}
 use Rattle.mv_parts.specs.declared.begin_fault.BeginFault.{BeginFault}
 use Rattle.mv_parts.specs.declared.begin_fault.BeginFault.TheVariants.{ClockEnd, Done, NoCall, Taken}
 use Rattle.mv_parts.specs.Journals as journal
 use Rattle.mv_parts.specs.Journals.{IsBeginRefusal, IsOfNumber, IsShardOver, Journal, begin_fault, versions_indexed}
 use Rattle.mv_parts.proofs.Opens.{index_within}
 use Rattle.mv_shards.specs.Writing.{versions_for}
-use Rattle.mv_core.specs.Places.{HasLiveNumber, IsNowhere, IsPlaced, live_in}
+use Rattle.mv_core.specs.AttemptSlots.{HasLiveNumber, IsNowhere, IsAttemptAt, live_in}
 use Rattle.mv_core.specs.declared.faults.ReadFault.{ReadFault as StoreReadFault}
 use Rattle.mv_core.specs.declared.faults.ReadFault.TheVariants.{Unknown}
 use Rattle.mv_core.specs.Calls.{AreMarksBelow, IsKeptByJournal, as_journal, shown_by}
-use Rattle.mv_core.specs.Stores.{CallSlots, IsFirstRead, IsPrune, IsPrunedFor, IsPrunedPlace, IsReadAgain, IsReadPlace, Store}
+use Rattle.mv_core.specs.Stores.{CallSlots, IsFirstRead, IsPrune, IsPrunedFor, IsPrunedAttempt, IsReadAgain, IsReadSlot}
+use Rattle.mv_core.specs.SeenStores.{Store}
 use Rattle.mv_core.proofs.Attempts.{attempt_here, count_in, live_here, live_there, not_live_none, not_live_other}
 use Rattle.mv_core.proofs.Events.{kept_abandoned, kept_again, kept_begun, kept_pruned, kept_read, marks_left, never_pruned, once, still_above}
 use Rattle.mv_core.proofs.MarksBelow.{below_read}
@@ -55,9 +56,9 @@ begins_at j n e =
     by a b c d (unequal h) (not_less k) (not_less m) (less l) is = absurd cc
     by a b c d (unequal h) (not_less k) (not_less m) (not_less l) is = record { above = omega (arith, h); within = k; uncommitted = omega (arith, m); idle = omega (arith, l) }
 
-module _ (j : Journal) (places : Places) (slots : CallSlots) where
+module _ (j : Journal) (shard_slots : ShardSlots) (slots : CallSlots) where
   -- what is seen says the same of a beginning
-  pub same_fault : (n : ℕ) → begin_fault (as_journal (shown_by j places slots)) n ≡ begin_fault j n
+  pub same_fault : (n : ℕ) → begin_fault (as_journal (shown_by j shard_slots slots)) n ≡ begin_fault j n
   same_fault n = ap
       (λ m.
       if (n == 0) || nat_lt (length j.calls) n then Some NoCall
@@ -67,24 +68,24 @@ module _ (j : Journal) (places : Places) (slots : CallSlots) where
       else None)
       (count_in slots n j.world.live)
 
-  pub refusal_shown : (n : ℕ) (f : Failure BeginFault) → IsBeginRefusal j n f → IsBeginRefusal (as_journal (shown_by j places slots)) n f
+  pub refusal_shown : (n : ℕ) (f : Failure BeginFault) → IsBeginRefusal j n f → IsBeginRefusal (as_journal (shown_by j shard_slots slots)) n f
   refusal_shown n failure.Memory h = same_fault n ∙ h
   refusal_shown n (failure.Fault f) h = same_fault n ∙ h
 
-  pub store_begun : (new : Journal) (n : ℕ) (a : CallAttempt) → begin_fault j n ≡ None → new ≡ record j { world = after_begin j.world n } → a ≡ fresh_attempt n (j.world.clock + 1) → IsKeptByJournal j places slots
-      → IsKeptByJournal new places (set slots (n - 1) (Some a)) × (shown_by new places (set slots (n - 1) (Some a)) ≡ record (shown_by j places slots) { world = after_begin (shown_by j places slots).world n })
+  pub store_begun : (new : Journal) (n : ℕ) (a : CallAttempt) → begin_fault j n ≡ None → new ≡ record j { world = after_begin j.world n } → a ≡ fresh_attempt n (j.world.clock + 1) → IsKeptByJournal j shard_slots slots
+      → IsKeptByJournal new shard_slots (set slots (n - 1) (Some a)) × (shown_by new shard_slots (set slots (n - 1) (Some a)) ≡ record (shown_by j shard_slots slots) { world = after_begin (shown_by j shard_slots slots).world n })
   store_begun new n a none is begun k =
       let b = begins_at j n none in
-      subst (λ c. IsKeptByJournal new places (set slots (n - 1) (Some c)) × (shown_by new places (set slots (n - 1) (Some c)) ≡ record (shown_by j places slots) { world = after_begin (shown_by j places slots).world n })) (sym begun)
-      (subst (λ i. IsKeptByJournal i places (set slots (n - 1) (Some (fresh_attempt n (j.world.clock + 1)))) × (shown_by i places (set slots (n - 1) (Some (fresh_attempt n (j.world.clock + 1)))) ≡ record (shown_by j places slots) { world = after_begin (shown_by j places slots).world n })) (sym is)
-      (let h = kept_begun j.base j.header j.calls j.world places slots k.kept n b.above b.within b.uncommitted b.idle in (record { kept = h.0; marks = k.marks }, h.1)))
+      subst (λ c. IsKeptByJournal new shard_slots (set slots (n - 1) (Some c)) × (shown_by new shard_slots (set slots (n - 1) (Some c)) ≡ record (shown_by j shard_slots slots) { world = after_begin (shown_by j shard_slots slots).world n })) (sym begun)
+      (subst (λ i. IsKeptByJournal i shard_slots (set slots (n - 1) (Some (fresh_attempt n (j.world.clock + 1)))) × (shown_by i shard_slots (set slots (n - 1) (Some (fresh_attempt n (j.world.clock + 1)))) ≡ record (shown_by j shard_slots slots) { world = after_begin (shown_by j shard_slots slots).world n })) (sym is)
+      (let h = kept_begun j.base j.header j.calls j.world shard_slots slots k.kept n b.above b.within b.uncommitted b.idle in (record { kept = h.0; marks = k.marks }, h.1)))
 
-  pub begun_within : (n : ℕ) → begin_fault j n ≡ None → IsKeptByJournal j places slots → n - 1 < length slots
+  pub begun_within : (n : ℕ) → begin_fault j n ≡ None → IsKeptByJournal j shard_slots slots → n - 1 < length slots
   begun_within n none k = let b = begins_at j n none in omega (arith, b.above, b.within, k.kept.count)
 
   -- ---- tickets
 
-  module _ (n t place : ℕ) (p : IsPlaced slots n t place) (k : IsKeptByJournal j places slots) where
+  module _ (n t index : ℕ) (p : IsAttemptAt slots n t index) (k : IsKeptByJournal j shard_slots slots) where
     own : get_or slots (n - 1) None ≡ Some p.attempt
     own = ap (λ i. get_or slots i None) (sym p.is) ∙ p.found
 
@@ -94,56 +95,56 @@ module _ (j : Journal) (places : Places) (slots : CallSlots) where
     is_live : HasLiveNumber j.world.live n t
     is_live = subst (λ u. HasLiveNumber j.world.live n u) p.time is_here.0
 
-    pub store_placed : HasLiveNumber (shown_by j places slots).world.live n t
+    pub store_placed : HasLiveNumber (shown_by j shard_slots slots).world.live n t
     store_placed = live_here slots j.world.live n t is_live
 
     -- its attempt is live in the journal
-    pub live_in_journal : (a : CallAttempt) → get_or slots place None ≡ Some a → journal.IsLive j.world a
+    pub live_in_journal : (a : CallAttempt) → get_or slots index None ≡ Some a → journal.IsLive j.world a
     live_in_journal a found = subst (λ (b : CallAttempt). journal.IsLive j.world b) (same_Some _ _ (sym p.found ∙ found))
         (subst (λ o. IsOfNumber p.attempt.number o) (sym is_here.0.live) (is_here.0.number ∙ sym is_here.1))
 
-    pub store_abandoned : (new : Journal) (a : CallAttempt) → get_or slots place None ≡ Some a → new ≡ record j { world = after_abandon j.world a.timestamp }
-        → IsKeptByJournal new places (set slots place None) × (shown_by new places (set slots place None) ≡ record (shown_by j places slots) { world = after_abandon (shown_by j places slots).world t })
+    pub store_abandoned : (new : Journal) (a : CallAttempt) → get_or slots index None ≡ Some a → new ≡ record j { world = after_abandon j.world a.timestamp }
+        → IsKeptByJournal new shard_slots (set slots index None) × (shown_by new shard_slots (set slots index None) ≡ record (shown_by j shard_slots slots) { world = after_abandon (shown_by j shard_slots slots).world t })
     store_abandoned new a found is =
-        subst (λ i. IsKeptByJournal i places (set slots place None) × (shown_by i places (set slots place None) ≡ record (shown_by j places slots) { world = after_abandon (shown_by j places slots).world t }))
+        subst (λ i. IsKeptByJournal i shard_slots (set slots index None) × (shown_by i shard_slots (set slots index None) ≡ record (shown_by j shard_slots slots) { world = after_abandon (shown_by j shard_slots slots).world t }))
         (sym (is ∙ ap (λ (b : CallAttempt). record j { world = after_abandon j.world b.timestamp }) (same_Some _ _ (sym found ∙ p.found)) ∙ ap (λ u. record j { world = after_abandon j.world u }) p.time))
-        (subst (λ i. IsKeptByJournal (record j { world = after_abandon j.world t }) places (set slots i None) × (shown_by (record j { world = after_abandon j.world t }) places (set slots i None) ≡ record (shown_by j places slots) { world = after_abandon (shown_by j places slots).world t })) (sym p.is)
-        (let h = kept_abandoned j.base j.header j.calls j.world places slots k.kept n t p.above p.within is_live in (record { kept = h.0; marks = k.marks }, h.1)))
+        (subst (λ i. IsKeptByJournal (record j { world = after_abandon j.world t }) shard_slots (set slots i None) × (shown_by (record j { world = after_abandon j.world t }) shard_slots (set slots i None) ≡ record (shown_by j shard_slots slots) { world = after_abandon (shown_by j shard_slots slots).world t })) (sym p.is)
+        (let h = kept_abandoned j.base j.header j.calls j.world shard_slots slots k.kept n t p.above p.within is_live in (record { kept = h.0; marks = k.marks }, h.1)))
 
-    -- what was taken from the place
-    pub store_abandoned_at : (new : Journal) (o : Option CallAttempt) (a : CallAttempt) (left d : Option CallAttempt) → o ≡ d → d ≡ get_or slots place d → o ≡ Some a → left ≡ None → new ≡ record j { world = after_abandon j.world a.timestamp }
-        → IsKeptByJournal new places (set slots place left) × (shown_by new places (set slots place left) ≡ record (shown_by j places slots) { world = after_abandon (shown_by j places slots).world t })
+    -- what was taken from the index
+    pub store_abandoned_at : (new : Journal) (o : Option CallAttempt) (a : CallAttempt) (left d : Option CallAttempt) → o ≡ d → d ≡ get_or slots index d → o ≡ Some a → left ≡ None → new ≡ record j { world = after_abandon j.world a.timestamp }
+        → IsKeptByJournal new shard_slots (set slots index left) × (shown_by new shard_slots (set slots index left) ≡ record (shown_by j shard_slots slots) { world = after_abandon (shown_by j shard_slots slots).world t })
     store_abandoned_at new o a left d taken there found gone is =
-        subst (λ e. IsKeptByJournal new places (set slots place e) × (shown_by new places (set slots place e) ≡ record (shown_by j places slots) { world = after_abandon (shown_by j places slots).world t })) (sym gone)
-        (store_abandoned new a (at_none slots place d (Some a) (omega (arith, p.is, p.within)) (sym there ∙ sym taken ∙ found)) is)
+        subst (λ e. IsKeptByJournal new shard_slots (set slots index e) × (shown_by new shard_slots (set slots index e) ≡ record (shown_by j shard_slots slots) { world = after_abandon (shown_by j shard_slots slots).world t })) (sym gone)
+        (store_abandoned new a (at_none slots index d (Some a) (omega (arith, p.is, p.within)) (sym there ∙ sym taken ∙ found)) is)
 
     -- ---- a read
 
-    pub all_held : (x : Item) → IsHeld places x
-    all_held x = by (shard_for places x) (k.kept.shards.each (shard_of x) (index_within x))
+    pub all_held : (x : Item) → IsHeld shard_slots x
+    all_held x = by (shard_for shard_slots x) (k.kept.shards.each (shard_of x) (index_within x))
       where
         by : (o : Option Shard) → IsShardOver j.base j.world.low (shard_of x) o → IsSome o
         by None over = absurd over
         by (Some s) over = refl
 
-    pub store_never_pruned : (x : Item) → IsPrunedPlace places slots place x → ⊥
-    store_never_pruned x pruned = by (shard_for places x) refl (subst (λ o. IsPrunedFor places o x) p.found pruned)
+    pub store_never_pruned : (x : Item) → IsPrunedAttempt shard_slots slots index x → ⊥
+    store_never_pruned x pruned = by (shard_for shard_slots x) refl (subst (λ o. IsPrunedFor shard_slots o x) p.found pruned)
       where
-        by : (o : Option Shard) → shard_for places x ≡ o → IsPrunedIn o p.attempt x → ⊥
+        by : (o : Option Shard) → shard_for shard_slots x ≡ o → IsPrunedIn o p.attempt x → ⊥
         by None here h = h
-        by (Some s) here h = never_pruned j.base j.header j.calls j.world places slots k.kept n p.attempt p.attempt x (value_of s x) s s p.above p.within own here h
+        by (Some s) here h = never_pruned j.base j.header j.calls j.world shard_slots slots k.kept n p.attempt p.attempt x (value_of s x) s s p.above p.within own here h
           where
             value_of : Shard → Item → ItemValue
             value_of s x = at s.base x
 
-    pub store_read : (new : Places) (new_slots : CallSlots) (x : Item) (v : ItemValue) → IsReadPlace places new slots new_slots place x v
-        → IsKeptByJournal j new new_slots × (IsFirstRead (shown_by j places slots) (shown_by j new new_slots) n t x v ⊎ IsReadAgain (shown_by j places slots) (shown_by j new new_slots) n t x v)
+    pub store_read : (new : ShardSlots) (new_slots : CallSlots) (x : Item) (v : ItemValue) → IsReadSlot shard_slots new slots new_slots index x v
+        → IsKeptByJournal j new new_slots × (IsFirstRead (shown_by j shard_slots slots) (shown_by j new new_slots) n t x v ⊎ IsReadAgain (shown_by j shard_slots slots) (shown_by j new new_slots) n t x v)
     store_read new new_slots x v r =
         subst (λ ss. Goal new ss) (sym (r.others ∙ ap (λ i. set slots i (Some r.after)) p.is))
         (subst (λ ps. Goal ps (set slots (n - 1) (Some r.after))) (sym r.read.others) (by r.read.read))
       where
-        Goal : Places → CallSlots → Type 0
-        Goal ps ss = IsKeptByJournal j ps ss × (IsFirstRead (shown_by j places slots) (shown_by j ps ss) n t x v ⊎ IsReadAgain (shown_by j places slots) (shown_by j ps ss) n t x v)
+        Goal : ShardSlots → CallSlots → Type 0
+        Goal ps ss = IsKeptByJournal j ps ss × (IsFirstRead (shown_by j shard_slots slots) (shown_by j ps ss) n t x v ⊎ IsReadAgain (shown_by j shard_slots slots) (shown_by j ps ss) n t x v)
 
         found : get_or slots (n - 1) None ≡ Some r.before
         found = ap (λ i. get_or slots i None) (sym p.is) ∙ r.found
@@ -157,18 +158,18 @@ module _ (j : Journal) (places : Places) (slots : CallSlots) where
         time = ap (λ (b : CallAttempt). b.timestamp) (same_Some _ _ (sym r.found ∙ p.found)) ∙ p.time
 
         by : (shard.IsFirstRead r.read.shard r.read.read_shard r.before r.after x v ⊎ shard.IsReadAgain r.read.shard r.read.read_shard r.before r.after x v)
-            → Goal (set places (shard_of x) (Some r.read.read_shard)) (set slots (n - 1) (Some r.after))
+            → Goal (set shard_slots (shard_of x) (Some r.read.read_shard)) (set slots (n - 1) (Some r.after))
         by (inl first) =
-            let h = kept_read j.base j.header j.calls j.world places slots k.kept n r.before r.after x v r.read.shard r.read.read_shard p.above p.within found r.read.found first in
-            let old : oldest_timestamp (versions_for places x) ≤ j.world.low = (k.kept.store.holds x).old_enough in
-            let marks = below_read j.base j.world.low r.before.timestamp j.world.entries (versions_indexed j) (versions_for places) (versions_for (set places (shard_of x) (Some r.read.read_shard))) x (k.kept.store.holds x).chain (omega (arith, old, from)) h.1.versions k.marks in
-            (record { kept = h.0; marks = marks }, inl (subst (λ u. IsFirstRead (shown_by j places slots) (shown_by j (set places (shard_of x) (Some r.read.read_shard)) (set slots (n - 1) (Some r.after))) n u x v) time h.1))
+            let h = kept_read j.base j.header j.calls j.world shard_slots slots k.kept n r.before r.after x v r.read.shard r.read.read_shard p.above p.within found r.read.found first in
+            let old : oldest_timestamp (versions_for shard_slots x) ≤ j.world.low = (k.kept.store.holds x).old_enough in
+            let marks = below_read j.base j.world.low r.before.timestamp j.world.entries (versions_indexed j) (versions_for shard_slots) (versions_for (set shard_slots (shard_of x) (Some r.read.read_shard))) x (k.kept.store.holds x).chain (omega (arith, old, from)) h.1.versions k.marks in
+            (record { kept = h.0; marks = marks }, inl (subst (λ u. IsFirstRead (shown_by j shard_slots slots) (shown_by j (set shard_slots (shard_of x) (Some r.read.read_shard)) (set slots (n - 1) (Some r.after))) n u x v) time h.1))
         by (inr again) =
-            let h = kept_again j.base j.header j.calls j.world places slots k.kept n r.before r.after x v r.read.shard r.read.read_shard p.above p.within found r.read.found again in
-            let same : versions_for places ≡ versions_for (set places (shard_of x) (Some r.read.read_shard)) = ap (λ (s : Store). versions_for s.places) (sym h.1.unchanged) in
-            (record { kept = h.0; marks = subst (AreMarksBelow j.base j.world.low j.world.entries (versions_indexed j)) same k.marks }, inr (subst (λ u. IsReadAgain (shown_by j places slots) (shown_by j (set places (shard_of x) (Some r.read.read_shard)) (set slots (n - 1) (Some r.after))) n u x v) time h.1))
+            let h = kept_again j.base j.header j.calls j.world shard_slots slots k.kept n r.before r.after x v r.read.shard r.read.read_shard p.above p.within found r.read.found again in
+            let same : versions_for shard_slots ≡ versions_for (set shard_slots (shard_of x) (Some r.read.read_shard)) = ap (λ (s : Store). versions_for s.shard_slots) (sym h.1.unchanged) in
+            (record { kept = h.0; marks = subst (AreMarksBelow j.base j.world.low j.world.entries (versions_indexed j)) same k.marks }, inr (subst (λ u. IsReadAgain (shown_by j shard_slots slots) (shown_by j (set shard_slots (shard_of x) (Some r.read.read_shard)) (set slots (n - 1) (Some r.after))) n u x v) time h.1))
 
-  pub store_nowhere : (n t : ℕ) → IsNowhere slots n t → IsKeptByJournal j places slots → HasLiveNumber (shown_by j places slots).world.live n t → ⊥
+  pub store_nowhere : (n t : ℕ) → IsNowhere slots n t → IsKeptByJournal j shard_slots slots → HasLiveNumber (shown_by j shard_slots slots).world.live n t → ⊥
   store_nowhere n t nowhere k live = by (get_or slots (n - 1) None) refl
     where
       l : HasLiveNumber j.world.live n t
@@ -182,26 +183,26 @@ module _ (j : Journal) (places : Places) (slots : CallSlots) where
 
       by : (o : Option CallAttempt) → get_or slots (n - 1) None ≡ o → ⊥
       by None found = not_live_none slots j.world.live n t numbered.0 within found k.kept.attempts l
-      by (Some a) found = not_live_other slots j.world.live n t a numbered.0 within found k.kept.attempts (once j.base j.header j.calls j.world places slots k.kept n) (nowhere a numbered.0 found) l
+      by (Some a) found = not_live_other slots j.world.live n t a numbered.0 within found k.kept.attempts (once j.base j.header j.calls j.world shard_slots slots k.kept n) (nowhere a numbered.0 found) l
 
   -- ---- a prune
 
-  pub store_pruned : (new_journal : Journal) (new : Places) (t : ℕ) → new_journal ≡ record j { world = record (j.world) { low = low_after_prune j.world t } } → ArePruned (low_after_prune j.world t) places new → IsKeptByJournal j places slots
-      → IsKeptByJournal new_journal new slots × IsPrune (shown_by j places slots) (shown_by new_journal new slots) t
-  store_pruned new_journal new t is pruned k = subst (λ i. IsKeptByJournal i new slots × IsPrune (shown_by j places slots) (shown_by i new slots) t) (sym is)
-      (let h = kept_pruned j.base j.header j.calls j.world places slots k.kept t new pruned in (record { kept = h.0; marks = marks }, h.1))
+  pub store_pruned : (new_journal : Journal) (new : ShardSlots) (t : ℕ) → new_journal ≡ record j { world = record (j.world) { low = low_after_prune j.world t } } → ArePruned (low_after_prune j.world t) shard_slots new → IsKeptByJournal j shard_slots slots
+      → IsKeptByJournal new_journal new slots × IsPrune (shown_by j shard_slots slots) (shown_by new_journal new slots) t
+  store_pruned new_journal new t is pruned k = subst (λ i. IsKeptByJournal i new slots × IsPrune (shown_by j shard_slots slots) (shown_by i new slots) t) (sym is)
+      (let h = kept_pruned j.base j.header j.calls j.world shard_slots slots k.kept t new pruned in (record { kept = h.0; marks = marks }, h.1))
     where
       marks : AreMarksBelow j.base (low_after_prune j.world t) j.world.entries (versions_indexed j) (versions_for new)
       marks x n counts =
-          let higher = still_above j.base j.header j.calls j.world places slots k.kept t new x in
-          let below : mark_in n (versions_indexed j x) ≤ mark_in n (versions_for places x) = k.marks x n (omega (arith, higher, counts)) in
-          let left : mark_in n (versions_for new x) ≡ mark_in n (versions_for places x) = marks_left j.base j.header j.calls j.world places slots k.kept t new pruned x n counts in
+          let higher = still_above j.base j.header j.calls j.world shard_slots slots k.kept t new x in
+          let below : mark_in n (versions_indexed j x) ≤ mark_in n (versions_for shard_slots x) = k.marks x n (omega (arith, higher, counts)) in
+          let left : mark_in n (versions_for new x) ≡ mark_in n (versions_for shard_slots x) = marks_left j.base j.header j.calls j.world shard_slots slots k.kept t new pruned x n counts in
           omega (arith, below, left)
 
   -- ---- nothing changed
 
-  pub store_same : (new : Places) (new_slots : CallSlots) → new ≡ places → new_slots ≡ slots → IsKeptByJournal j places slots → IsKeptByJournal j new new_slots
-  store_same new new_slots same_places same_slots k = subst (λ ss. IsKeptByJournal j new ss) (sym same_slots) (subst (λ ps. IsKeptByJournal j ps slots) (sym same_places) k)
+  pub store_same : (new : ShardSlots) (new_slots : CallSlots) → new ≡ shard_slots → new_slots ≡ slots → IsKeptByJournal j shard_slots slots → IsKeptByJournal j new new_slots
+  store_same new new_slots same_shard_slots same_slots k = subst (λ ss. IsKeptByJournal j new ss) (sym same_slots) (subst (λ ps. IsKeptByJournal j ps slots) (sym same_shard_slots) k)
 
 -- the shards refuse for one reason alone
 pub only_pruned : (r : ReadFault) → r ≡ Pruned

@@ -1,4 +1,4 @@
--- A store's commit, by the contracts of the journal and of the place that its ticket names.
+-- A store's commit, by the contracts of the journal and of the index that its ticket names.
 use Rattle.std.proofs.Common.{◌≡◌, ℕ, zero, suc, ◌-◌, true, false, List, [], ◌∷◌, Option, None, Some, get_or, set, slice_set, refl, sym, ap, ◌∙◌, subst}
 use Rattle.std.specs.Prelude.{IsSome}
 use Rattle.std.proofs.lemmas.Option.{same_Some}
@@ -11,7 +11,7 @@ use Rattle.mv_history.specs.World.{after_commit, attempt_at}
 use Rattle.mv_agreement.specs.Stores.{after_entry}
 use Rattle.mv_calls.specs.CallHistory.{CallAttempt, CallEntry, same_item}
 use Rattle.mv_calls.specs.Laws.{entry_of}
-use Rattle.mv_shards.specs.Helds.{Places}
+use Rattle.mv_shards.specs.Helds.{ShardSlots}
 use Rattle.mv_shards.specs.Writing.{versions_for}
 use Rattle.mv_parts.specs.declared.commit_fault.CommitFault.{CommitFault as PartsFault}
 use Rattle.mv_parts.specs.declared.commit_fault.CommitFault.TheVariants as parts_fault
@@ -21,45 +21,46 @@ use Rattle.mv_parts.specs.Commits.{IsOwnCall}
 use Rattle.mv_parts.specs.Commits as parts
 use Rattle.mv_core.specs.declared.faults.CommitFault.{CommitFault}
 use Rattle.mv_core.specs.declared.faults.CommitFault.TheVariants as fault
-use Rattle.mv_core.specs.Places.{HasLiveNumber, IsPlaced, live_in}
+use Rattle.mv_core.specs.AttemptSlots.{HasLiveNumber, IsAttemptAt, live_in}
 use Rattle.mv_core.specs.Calls.{AreMarksBelow, IsKeptByJournal, shown_by}
-use Rattle.mv_core.specs.Commits.{IsCommitRefusal, IsCommitted, IsCommittedPlace, IsOwn, IsRefusedFor, MayCommit, store_error}
-use Rattle.mv_core.specs.Stores.{CallSlots, IsKeptStore, Store, store_shown}
+use Rattle.mv_core.specs.Commits.{IsCommitRefusal, IsCommitted, IsCommittedSlot, IsOwn, IsRefusedFor, MayCommit, store_error}
+use Rattle.mv_core.specs.Stores.{CallSlots, IsKeptStore, store_shown}
+use Rattle.mv_core.specs.SeenStores.{Store}
 use Rattle.mv_core.proofs.Attempts.{attempt_here}
 use Rattle.mv_core.proofs.Calls.{live_in_journal, store_placed}
 use Rattle.mv_core.proofs.Commits.{fresh, from, in_time_here, kept_committed, late_shown, none_foreign, positive, unmoved, versions_new}
 use Rattle.mv_core.proofs.MarksBelow.{below_commit}
 
--- what was taken from a place is there again
+-- what was taken from a slot is there again
 pub put_back : {A : Type 0} (xs : List (Option A)) (i : ℕ) (o left d : Option A) (a b : A) → o ≡ d → d ≡ get_or xs i d → o ≡ Some a → b ≡ a → slice_set (slice_set xs i left) i (Some b) ≡ xs
 put_back [] i o left d a b taken there is same = refl
 put_back (x ∷ xs) zero o left d a b taken there is same = ap (λ y. y ∷ xs) (ap Some same ∙ sym is ∙ taken ∙ there)
 put_back (x ∷ xs) (suc i) o left d a b taken there is same = ap (λ ys. x ∷ ys) (put_back xs i o left d a b taken there is same)
 
-pub same_parts : (j : Journal) (places : Places) (slots : CallSlots) (new : Journal) (new_places : Places) (new_slots : CallSlots) → new ≡ j → new_places ≡ places → new_slots ≡ slots → IsKeptByJournal j places slots → IsKeptByJournal new new_places new_slots
-same_parts j places slots new new_places new_slots same_journal same_places same_slots k = subst (λ i. IsKeptByJournal i new_places new_slots) (sym same_journal) (subst (λ ps. IsKeptByJournal j ps new_slots) (sym same_places) (subst (λ ss. IsKeptByJournal j places ss) (sym same_slots) k))
+pub same_parts : (j : Journal) (shard_slots : ShardSlots) (slots : CallSlots) (new : Journal) (new_shard_slots : ShardSlots) (new_slots : CallSlots) → new ≡ j → new_shard_slots ≡ shard_slots → new_slots ≡ slots → IsKeptByJournal j shard_slots slots → IsKeptByJournal new new_shard_slots new_slots
+same_parts j shard_slots slots new new_shard_slots new_slots same_journal same_shard_slots same_slots k = subst (λ i. IsKeptByJournal i new_shard_slots new_slots) (sym same_journal) (subst (λ ps. IsKeptByJournal j ps new_slots) (sym same_shard_slots) (subst (λ ss. IsKeptByJournal j shard_slots ss) (sym same_slots) k))
 
 -- what a commit makes of a store
-pub record CommitsStore (s : Store) (new : Journal) (new_places : Places) (new_slots : CallSlots) (n t : ℕ) (f : CallRecord) : Type 0 where
+pub record CommitsStore (s : Store) (new : Journal) (new_shard_slots : ShardSlots) (new_slots : CallSlots) (n t : ℕ) (f : CallRecord) : Type 0 where
   pub may : MayCommit s n t f
-  pub kept : IsKeptByJournal new new_places new_slots
-  pub committed : IsCommitted s (shown_by new new_places new_slots) n t f
+  pub kept : IsKeptByJournal new new_shard_slots new_slots
+  pub committed : IsCommitted s (shown_by new new_shard_slots new_slots) n t f
 
-module _ (j : Journal) (places : Places) (slots : CallSlots) (n t place : ℕ) (p : IsPlaced slots n t place) (k : IsKeptByJournal j places slots) (indexed : IsIndexedStore j) (f : CallRecord) (fin : IsFinishedCall f) where
+module _ (j : Journal) (shard_slots : ShardSlots) (slots : CallSlots) (n t index : ℕ) (p : IsAttemptAt slots n t index) (k : IsKeptByJournal j shard_slots slots) (indexed : IsIndexedStore j) (f : CallRecord) (fin : IsFinishedCall f) where
   abbrev a : CallAttempt
   a = p.attempt
 
   abbrev s : Store
-  s = shown_by j places slots
+  s = shown_by j shard_slots slots
 
-  own_place : get_or slots (n - 1) None ≡ Some a
-  own_place = ap (λ i. get_or slots i None) (sym p.is) ∙ p.found
+  own_slot : get_or slots (n - 1) None ≡ Some a
+  own_slot = ap (λ i. get_or slots i None) (sym p.is) ∙ p.found
 
   is_here : (HasLiveNumber j.world.live n a.timestamp) × (a.number ≡ n) × (attempt_at a.timestamp (live_in slots j.world.live) ≡ Some a)
-  is_here = attempt_here slots j.world.live n a p.above p.within own_place k.kept.attempts
+  is_here = attempt_here slots j.world.live n a p.above p.within own_slot k.kept.attempts
 
   live_there : journal.IsLive j.world a
-  live_there = live_in_journal j places slots n t place p k a p.found
+  live_there = live_in_journal j shard_slots slots n t index p k a p.found
 
   own_shown : IsOwnCall j.calls j.header a f → IsOwn s n a.timestamp f
   own_shown own = record { attempt = a; live = is_here.2; number = is_here.1; own = own }
@@ -67,62 +68,62 @@ module _ (j : Journal) (places : Places) (slots : CallSlots) (n t place : ℕ) (
   own_here : IsOwn s n t f → IsOwnCall j.calls j.header a f
   own_here own = subst (λ (b : CallAttempt). IsOwnCall j.calls j.header b f) (same_Some _ _ (sym own.live ∙ subst (λ u. attempt_at u (live_in slots j.world.live) ≡ Some a) p.time is_here.2)) own.own
 
-  may_shown : parts.MayCommit j places a f → MayCommit s n a.timestamp f
+  may_shown : parts.MayCommit j shard_slots a f → MayCommit s n a.timestamp f
   may_shown may = record {
     own = own_shown may.own;
-    in_time = in_time_here j.base j.header j.calls j.world places slots k.kept n a p.above p.within own_place j.index indexed.marks k.marks f.writes may.write.in_time;
+    in_time = in_time_here j.base j.header j.calls j.world shard_slots slots k.kept n a p.above p.within own_slot j.index indexed.marks k.marks f.writes may.write.in_time;
   }
 
   -- ---- refusals
 
-  known_by : (error : Failure PartsFault) → parts.IsCommitRefusal j places a f error → IsSome (store_error error)
+  known_by : (error : Failure PartsFault) → parts.IsCommitRefusal j shard_slots a f error → IsSome (store_error error)
   known_by failure.Memory h = refl
   known_by (failure.Fault parts_fault.Unknown) h = absurd (h live_there)
   known_by (failure.Fault parts_fault.Stranger) h = refl
-  known_by (failure.Fault (parts_fault.Moved x)) (live, own, moved) = absurd (never (sym (unmoved j.base j.header j.calls j.world places slots k.kept n a p.above p.within own_place) ∙ moved))
+  known_by (failure.Fault (parts_fault.Moved x)) (live, own, moved) = absurd (never (sym (unmoved j.base j.header j.calls j.world shard_slots slots k.kept n a p.above p.within own_slot) ∙ moved))
     where
       never : None ≡ Some x → ⊥
       never e = cc
-  known_by (failure.Fault (parts_fault.Foreign i)) (live, own, rest) = absurd (never (sym (none_foreign j.base j.header j.calls j.world places slots k.kept n a p.above p.within own_place f.writes i) ∙ rest.1.foreign))
+  known_by (failure.Fault (parts_fault.Foreign i)) (live, own, rest) = absurd (never (sym (none_foreign j.base j.header j.calls j.world shard_slots slots k.kept n a p.above p.within own_slot f.writes i) ∙ rest.1.foreign))
     where
       never : false ≡ true → ⊥
       never e = cc
   known_by (failure.Fault (parts_fault.Late x version mark)) h = refl
 
-  pub error_known : (error : Failure PartsFault) → IsRefusedFor j places (get_or slots place None) f error → IsSome (store_error error)
-  error_known error refused = known_by error (subst (λ o. IsRefusedFor j places o f error) p.found refused)
+  pub error_known : (error : Failure PartsFault) → IsRefusedFor j shard_slots (get_or slots index None) f error → IsSome (store_error error)
+  error_known error refused = known_by error (subst (λ o. IsRefusedFor j shard_slots o f error) p.found refused)
 
-  refused_by : (error : Failure PartsFault) → parts.IsCommitRefusal j places a f error → (r : Failure CommitFault) → Some r ≡ store_error error → IsCommitRefusal s n t f r
+  refused_by : (error : Failure PartsFault) → parts.IsCommitRefusal j shard_slots a f error → (r : Failure CommitFault) → Some r ≡ store_error error → IsCommitRefusal s n t f r
   refused_by failure.Memory may r is = subst (IsCommitRefusal s n t f) (same_Some _ _ (sym is)) (subst (λ u. MayCommit s n u f) p.time (may_shown may))
   refused_by (failure.Fault parts_fault.Unknown) h r is = absurd cc
-  refused_by (failure.Fault parts_fault.Stranger) (live, other) r is = subst (IsCommitRefusal s n t f) (same_Some _ _ (sym is)) (store_placed j places slots n t place p k, λ own. other (own_here own))
+  refused_by (failure.Fault parts_fault.Stranger) (live, other) r is = subst (IsCommitRefusal s n t f) (same_Some _ _ (sym is)) (store_placed j shard_slots slots n t index p k, λ own. other (own_here own))
   refused_by (failure.Fault (parts_fault.Moved x)) h r is = absurd cc
   refused_by (failure.Fault (parts_fault.Foreign i)) h r is = absurd cc
   refused_by (failure.Fault (parts_fault.Late x version mark)) (live, own, rest) r is =
       subst (IsCommitRefusal s n t f) (same_Some _ _ (sym is))
       (subst (λ u. IsCommitRefusal s n u f (failure.Fault (fault.Late x version mark))) p.time
-      (own_shown own, late_shown j.base j.header j.calls j.world places slots k.kept n a p.above p.within own_place j.index indexed.marks k.marks f.writes x version mark rest.2))
+      (own_shown own, late_shown j.base j.header j.calls j.world shard_slots slots k.kept n a p.above p.within own_slot j.index indexed.marks k.marks f.writes x version mark rest.2))
 
-  pub store_refused : (error : Failure PartsFault) → IsRefusedFor j places (get_or slots place None) f error → (r : Failure CommitFault) → Some r ≡ store_error error → IsCommitRefusal s n t f r
-  store_refused error refused r is = refused_by error (subst (λ o. IsRefusedFor j places o f error) p.found refused) r is
+  pub store_refused : (error : Failure PartsFault) → IsRefusedFor j shard_slots (get_or slots index None) f error → (r : Failure CommitFault) → Some r ≡ store_error error → IsCommitRefusal s n t f r
+  store_refused error refused r is = refused_by error (subst (λ o. IsRefusedFor j shard_slots o f error) p.found refused) r is
 
   -- ---- the commit
 
-  pub store_committed : (new : Journal) (new_places : Places) (new_slots : CallSlots) (u : ℕ) → IsCommittedPlace j new places new_places slots new_slots place f u → CommitsStore s new new_places new_slots n t f
-  store_committed new new_places new_slots u r =
-      subst (λ v. CommitsStore s new new_places new_slots n v f) p.time
-      (subst (λ ss. CommitsStore s new new_places ss n a.timestamp f) (sym (r.others ∙ ap (λ i. set slots i None) p.is))
-      (subst (λ i. CommitsStore s i new_places (set slots (n - 1) None) n a.timestamp f) journal_is
+  pub store_committed : (new : Journal) (new_shard_slots : ShardSlots) (new_slots : CallSlots) (u : ℕ) → IsCommittedSlot j new shard_slots new_shard_slots slots new_slots index f u → CommitsStore s new new_shard_slots new_slots n t f
+  store_committed new new_shard_slots new_slots u r =
+      subst (λ v. CommitsStore s new new_shard_slots new_slots n v f) p.time
+      (subst (λ ss. CommitsStore s new new_shard_slots ss n a.timestamp f) (sym (r.others ∙ ap (λ i. set slots i None) p.is))
+      (subst (λ i. CommitsStore s i new_shard_slots (set slots (n - 1) None) n a.timestamp f) journal_is
       (record { may = may_shown may; kept = record { kept = h.0; marks = marks }; committed = h.1 })))
     where
       same : r.attempt ≡ a
       same = same_Some _ _ (sym r.found ∙ p.found)
 
-      may : parts.MayCommit j places a f
-      may = subst (λ (b : CallAttempt). parts.MayCommit j places b f) same r.may
+      may : parts.MayCommit j shard_slots a f
+      may = subst (λ (b : CallAttempt). parts.MayCommit j shard_slots b f) same r.may
 
-      done : parts.IsCommitted j new places new_places a f
-      done = subst (λ (b : CallAttempt). parts.IsCommitted j new places new_places b f) same r.committed
+      done : parts.IsCommitted j new shard_slots new_shard_slots a f
+      done = subst (λ (b : CallAttempt). parts.IsCommitted j new shard_slots new_shard_slots b f) same r.committed
 
       same_entry : entry_of a.timestamp a.number f ≡ entry_of a.timestamp n f
       same_entry = ap (λ m. entry_of a.timestamp m f) is_here.1
@@ -136,16 +137,16 @@ module _ (j : Journal) (places : Places) (slots : CallSlots) (n t place : ℕ) (
         index = new.index;
       }
 
-      h : IsKeptStore j.base j.header j.calls (after_commit j.world (entry_of a.timestamp n f)) new_places (set slots (n - 1) None)
-          × IsCommitted s (store_shown j.base j.header j.calls (after_commit j.world (entry_of a.timestamp n f)) new_places (set slots (n - 1) None)) n a.timestamp f
-      h = kept_committed j.base j.header j.calls j.world places slots k.kept n a p.above p.within own_place f fin may.own (may_shown may).in_time new_places done.shards
+      h : IsKeptStore j.base j.header j.calls (after_commit j.world (entry_of a.timestamp n f)) new_shard_slots (set slots (n - 1) None)
+          × IsCommitted s (store_shown j.base j.header j.calls (after_commit j.world (entry_of a.timestamp n f)) new_shard_slots (set slots (n - 1) None)) n a.timestamp f
+      h = kept_committed j.base j.header j.calls j.world shard_slots slots k.kept n a p.above p.within own_slot f fin may.own (may_shown may).in_time new_shard_slots done.shards
 
       index_is : (x : Item) → versions_indexed new x ≡ after_entry (λ value. value) same_item (entry_of a.timestamp n f) (versions_indexed j) x
       index_is x = done.index x ∙ ap (λ (g : CallEntry). after_entry (λ value. value) same_item g (versions_indexed j) x) same_entry
 
-      marks : AreMarksBelow j.base j.world.low (entries_with (entry_of a.timestamp n f) j.world.entries) (versions_indexed new) (versions_for new_places)
+      marks : AreMarksBelow j.base j.world.low (entries_with (entry_of a.timestamp n f) j.world.entries) (versions_indexed new) (versions_for new_shard_slots)
       marks =
-          below_commit j.base j.world.entries k.kept.store.consistent.journal.rising (entry_of a.timestamp n f) (positive j.base j.header j.calls j.world places slots k.kept n a p.above p.within own_place)
-          (fresh j.base j.header j.calls j.world places slots k.kept n a p.above p.within own_place) j.world.low (versions_indexed j) (versions_for places) (versions_indexed new) (versions_for new_places)
-          (from j.base j.header j.calls j.world places slots k.kept n a p.above p.within own_place) indexed.store.holds k.kept.store.holds index_is
-          (versions_new j.base j.header j.calls j.world places slots k.kept n a p.above p.within own_place f fin may.own (may_shown may).in_time new_places done.shards) k.marks
+          below_commit j.base j.world.entries k.kept.store.consistent.journal.rising (entry_of a.timestamp n f) (positive j.base j.header j.calls j.world shard_slots slots k.kept n a p.above p.within own_slot)
+          (fresh j.base j.header j.calls j.world shard_slots slots k.kept n a p.above p.within own_slot) j.world.low (versions_indexed j) (versions_for shard_slots) (versions_indexed new) (versions_for new_shard_slots)
+          (from j.base j.header j.calls j.world shard_slots slots k.kept n a p.above p.within own_slot) indexed.store.holds k.kept.store.holds index_is
+          (versions_new j.base j.header j.calls j.world shard_slots slots k.kept n a p.above p.within own_slot f fin may.own (may_shown may).in_time new_shard_slots done.shards) k.marks

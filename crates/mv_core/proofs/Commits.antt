@@ -31,12 +31,13 @@ use Rattle.mv_history.proofs.Versions.{all_with, next_below}
 use Rattle.mv_agreement.specs.Stores.{IsStore, after_entry, marks_of}
 use Rattle.mv_agreement.proofs.Agreements.{every_write_follows_the_version_below_lem, no_version_is_at_a_fresh_timestamp_lem}
 use Rattle.mv_agreement.proofs.Stores.{every_commit_leaves_a_store_lem}
-use Rattle.mv_calls.specs.CallHistory.{CallAttempt, CallEntry, CallWorld, call_of, meaning_of, same_item}
+use Rattle.mv_calls.specs.CallHistory.{CallAttempt, CallEntry, CallWorld, meaning_of, same_item}
+use Rattle.mv_calls.specs.CallNumbers.{call_of}
 use Rattle.mv_calls.specs.Laws.{entry_of}
 use Rattle.mv_calls.proofs.Histories.{finished_calls_are_entries}
 use Rattle.mv_calls.proofs.SerialCalls.{items_have_an_equality}
 use Rattle.mv_shards.specs.Indexes.{shard_of}
-use Rattle.mv_shards.specs.Helds.{Places}
+use Rattle.mv_shards.specs.Helds.{ShardSlots}
 use Rattle.mv_shards.specs.Shards.{Shard, versions_held}
 use Rattle.mv_shards.specs.Writing.{AreWritten, IsLowAt, NoneForeign, committed_versions, has_timestamp, has_write_at, is_foreign, versions_for, versions_or_none}
 use Rattle.mv_parts.specs.Commits.{IsOwnCall, late_after, late_or, lateness_by, lateness_in, lateness_of, later, moved_item, no_version}
@@ -48,13 +49,13 @@ use Rattle.mv_parts.specs.declared.commit_fault.CommitFault.{CommitFault as Part
 use Rattle.mv_parts.specs.declared.commit_fault.CommitFault.TheVariants as parts_fault
 use Rattle.mv_core.specs.declared.faults.CommitFault.{CommitFault}
 use Rattle.mv_core.specs.declared.faults.CommitFault.TheVariants as fault
-use Rattle.mv_core.specs.Places.{HasLiveNumber, live_in}
+use Rattle.mv_core.specs.AttemptSlots.{HasLiveNumber, live_in}
 use Rattle.mv_core.specs.Calls.{AreMarksBelow}
 use Rattle.mv_core.specs.Commits.{IsCommitted, late_write}
 use Rattle.mv_core.specs.Stores.{CallSlots, IsKeptStore, marks_in, store_shown}
-use Rattle.mv_core.proofs.Attempts.{attempt_here, live_ended, places_ended}
+use Rattle.mv_core.proofs.Attempts.{attempt_here, live_ended, slots_ended}
 use Rattle.mv_core.proofs.Events.{marks_are, once}
-use Rattle.mv_core.proofs.Held.{marks_of_places}
+use Rattle.mv_core.proofs.Held.{marks_of_slots}
 
 -- ---- of lists alone
 
@@ -96,7 +97,7 @@ as_parts fault.Unknown = parts_fault.Unknown
 as_parts fault.Stranger = parts_fault.Stranger
 as_parts (fault.Late x version mark) = parts_fault.Late x version mark
 
-module _ (base : Ledger) (header : Header) (calls : List CallData) (w : CallWorld) (places : Places) (slots : CallSlots) (k : IsKeptStore base header calls w places slots) (n : ℕ) (a : CallAttempt) (above : 0 < n) (inside : n - 1 < length slots) (here : get_or slots (n - 1) None ≡ Some a) where
+module _ (base : Ledger) (header : Header) (calls : List CallData) (w : CallWorld) (shard_slots : ShardSlots) (slots : CallSlots) (k : IsKeptStore base header calls w shard_slots slots) (n : ℕ) (a : CallAttempt) (above : 0 < n) (inside : n - 1 < length slots) (here : get_or slots (n - 1) None ≡ Some a) where
   is_here : (HasLiveNumber w.live n a.timestamp) × (a.number ≡ n) × (attempt_at a.timestamp (live_in slots w.live) ≡ Some a)
   is_here = attempt_here slots w.live n a above inside here k.attempts
 
@@ -112,35 +113,35 @@ module _ (base : Ledger) (header : Header) (calls : List CallData) (w : CallWorl
   agrees : Agrees a.reads (state_below same_item (at base) w.entries a.timestamp)
   agrees = found_attempt (λ (b : CallAttempt). Agrees b.reads (state_below same_item (at base) w.entries b.timestamp)) a.timestamp a (live_in slots w.live) is_here.2 k.store.consistent.schedule.live_agree
 
-  marked : AreMarked same_item (at base) (marks_of (versions_for places)) w.entries a.timestamp a.reads
-  marked = found_attempt (λ (b : CallAttempt). AreMarked same_item (at base) (marks_of (versions_for places)) w.entries b.timestamp b.reads) a.timestamp a (live_in slots w.live) is_here.2 k.store.consistent.schedule.live_marked
+  marked : AreMarked same_item (at base) (marks_of (versions_for shard_slots)) w.entries a.timestamp a.reads
+  marked = found_attempt (λ (b : CallAttempt). AreMarked same_item (at base) (marks_of (versions_for shard_slots)) w.entries b.timestamp b.reads) a.timestamp a (live_in slots w.live) is_here.2 k.store.consistent.schedule.live_marked
 
-  absent : (x : Item) → AllByRecursion (λ v. v.timestamp ≢ a.timestamp) (versions_for places x)
-  absent x = no_version_is_at_a_fresh_timestamp_lem Item ItemValue Outcome ItemValue (λ value. value) same_item (at base) w.low w.entries x (versions_for places x) (k.store.holds x) k.store.consistent.journal.rising a.timestamp positive fresh
+  absent : (x : Item) → AllByRecursion (λ v. v.timestamp ≢ a.timestamp) (versions_for shard_slots x)
+  absent x = no_version_is_at_a_fresh_timestamp_lem Item ItemValue Outcome ItemValue (λ value. value) same_item (at base) w.low w.entries x (versions_for shard_slots x) (k.store.holds x) k.store.consistent.journal.rising a.timestamp positive fresh
 
   -- ---- no read has moved, and no shard is foreign
 
   pub unmoved : moved_item (state_below same_item (at base) w.entries a.timestamp) a.reads ≡ None
   unmoved = agrees_unmoved (state_below same_item (at base) w.entries a.timestamp) a.reads agrees
 
-  no_write_at : (i : ℕ) (s : Shard) → get_or places i None ≡ Some s → (writes : ItemMap) → has_write_at i a.timestamp writes s ≡ false
+  no_write_at : (i : ℕ) (s : Shard) → get_or shard_slots i None ≡ Some s → (writes : ItemMap) → has_write_at i a.timestamp writes s ≡ false
   no_write_at i s there [] = refl
   no_write_at i s there (e ∷ es) = by (shard_of e.0 == i) (equals (shard_of e.0) i) (no_write_at i s there es)
     where
       by : (b : Bool) → Equals (shard_of e.0) i b → has_write_at i a.timestamp es s ≡ false → ((b && has_timestamp a.timestamp (versions_held s e.0)) || has_write_at i a.timestamp es s) ≡ false
       by b (equal h) rest =
-          let own : AllByRecursion (λ v. v.timestamp ≢ a.timestamp) (versions_held s e.0) = subst (λ o. AllByRecursion (λ v. v.timestamp ≢ a.timestamp) (versions_or_none o e.0)) (ap (λ j. get_or places j None) h ∙ there) (absent e.0) in
+          let own : AllByRecursion (λ v. v.timestamp ≢ a.timestamp) (versions_held s e.0) = subst (λ o. AllByRecursion (λ v. v.timestamp ≢ a.timestamp) (versions_or_none o e.0)) (ap (λ j. get_or shard_slots j None) h ∙ there) (absent e.0) in
           ap (λ c. c || has_write_at i a.timestamp es s) (none_at a.timestamp (versions_held s e.0) own) ∙ rest
       by b (unequal h) rest = rest
 
-  pub none_foreign : (writes : ItemMap) → NoneForeign a.timestamp writes places
-  none_foreign writes i = by (get_or places i None) refl (low_over base w.low a.timestamp places k.shards from i)
+  pub none_foreign : (writes : ItemMap) → NoneForeign a.timestamp writes shard_slots
+  none_foreign writes i = by (get_or shard_slots i None) refl (low_over base w.low a.timestamp shard_slots k.shards from i)
     where
       low_first : (s : Shard) → s.low ≤ a.timestamp → (b : Bool) → Compared a.timestamp s.low b → has_write_at i a.timestamp writes s ≡ false → (b || has_write_at i a.timestamp writes s) ≡ false
       low_first s low b (less h) none = absurd (omega (arith, low, h))
       low_first s low b (not_less h) none = none
 
-      by : (o : Option Shard) → get_or places i None ≡ o → IsLowAt a.timestamp o → is_foreign i a.timestamp writes o ≡ false
+      by : (o : Option Shard) → get_or shard_slots i None ≡ o → IsLowAt a.timestamp o → is_foreign i a.timestamp writes o ≡ false
       by None there low = refl
       by (Some s) there low = low_first s low (nat_lt a.timestamp s.low) (compared a.timestamp s.low) (no_write_at i s there writes)
 
@@ -149,44 +150,44 @@ module _ (base : Ledger) (header : Header) (calls : List CallData) (w : CallWorl
   abbrev followed : Item → ℕ
   followed x = (version_below same_item (at base) w.entries (suc a.timestamp) x).0
 
-  found_late : (x : Item) → lateness_in places a.timestamp x ≡ late_after a.timestamp (followed x) (mark_in (followed x) (versions_for places x))
+  found_late : (x : Item) → lateness_in shard_slots a.timestamp x ≡ late_after a.timestamp (followed x) (mark_in (followed x) (versions_for shard_slots x))
   found_late x =
-      let time : (newest_at a.timestamp (versions_for places x) no_version).timestamp ≡ followed x = ((k.store.holds x).found a.timestamp no_version from).timestamp in
-      let mark : (newest_at a.timestamp (versions_for places x) no_version).mark ≡ mark_in (followed x) (versions_for places x) = every_write_follows_the_version_below_lem Item ItemValue Outcome ItemValue (λ value. value) same_item (at base) w.low w.entries x (versions_for places x) (k.store.holds x) a.timestamp no_version from in
+      let time : (newest_at a.timestamp (versions_for shard_slots x) no_version).timestamp ≡ followed x = ((k.store.holds x).found a.timestamp no_version from).timestamp in
+      let mark : (newest_at a.timestamp (versions_for shard_slots x) no_version).mark ≡ mark_in (followed x) (versions_for shard_slots x) = every_write_follows_the_version_below_lem Item ItemValue Outcome ItemValue (λ value. value) same_item (at base) w.low w.entries x (versions_for shard_slots x) (k.store.holds x) a.timestamp no_version from in
       λ i. late_after a.timestamp (time i) (mark i)
 
-  module _ (index : Places) (read : AreMarkedByEntries base w.entries (versions_for index)) (below : AreMarksBelow base w.low w.entries (versions_for index) (versions_for places)) where
+  module _ (index : ShardSlots) (read : AreMarkedByEntries base w.entries (versions_for index)) (below : AreMarksBelow base w.low w.entries (versions_for index) (versions_for shard_slots)) where
     -- the mark that decides is the world's
-    late_here : (x : Item) → lateness_of base w.entries places a.timestamp x ≡ late_after a.timestamp (followed x) (greatest_mark same_item (marks_in places) x (followed x))
+    late_here : (x : Item) → lateness_of base w.entries shard_slots a.timestamp x ≡ late_after a.timestamp (followed x) (greatest_mark same_item (marks_in shard_slots) x (followed x))
     late_here x =
         let reached : (version_below same_item (at base) w.entries (suc w.low) x).0 ≤ followed x = version_below-monotone same_item (at base) (suc w.low) (suc a.timestamp) w.entries x (omega (arith, from)) k.store.consistent.journal.rising in
         ap (later (lateness_by base w.entries a.timestamp x)) (found_late x)
-        ∙ later_of a.timestamp (followed x) (greatest_reader base w.entries x (followed x)) (mark_in (followed x) (versions_for places x)) (subst (λ m. m ≤ mark_in (followed x) (versions_for places x)) (read x (followed x)) (below x (followed x) reached))
-        ∙ ap (late_after a.timestamp (followed x)) (sym (marks_are base header calls w places slots k x (followed x)))
+        ∙ later_of a.timestamp (followed x) (greatest_reader base w.entries x (followed x)) (mark_in (followed x) (versions_for shard_slots x)) (subst (λ m. m ≤ mark_in (followed x) (versions_for shard_slots x)) (read x (followed x)) (below x (followed x) reached))
+        ∙ ap (late_after a.timestamp (followed x)) (sym (marks_are base header calls w shard_slots slots k x (followed x)))
 
-    late_same : (writes : ItemMap) → parts.late_write (lateness_of base w.entries places a.timestamp) writes ≡ option_map as_parts (late_write (store_shown base header calls w places slots) a.timestamp writes)
+    late_same : (writes : ItemMap) → parts.late_write (lateness_of base w.entries shard_slots a.timestamp) writes ≡ option_map as_parts (late_write (store_shown base header calls w shard_slots slots) a.timestamp writes)
     late_same [] = refl
     late_same (e ∷ es) =
         (λ i. late_or e.0 (late_here e.0 i) (late_same es i))
-        ∙ by (nat_lt a.timestamp (greatest_mark same_item (marks_in places) e.0 (followed e.0))) (late_write (store_shown base header calls w places slots) a.timestamp es)
+        ∙ by (nat_lt a.timestamp (greatest_mark same_item (marks_in shard_slots) e.0 (followed e.0))) (late_write (store_shown base header calls w shard_slots slots) a.timestamp es)
       where
         mark : ℕ
-        mark = greatest_mark same_item (marks_in places) e.0 (followed e.0)
+        mark = greatest_mark same_item (marks_in shard_slots) e.0 (followed e.0)
 
         by : (b : Bool) (rest : Option CommitFault) → late_or e.0 (if b then Some (record { version = followed e.0; mark = mark }) else None) (option_map as_parts rest) ≡ option_map as_parts (if b then Some (fault.Late e.0 (followed e.0) mark) else rest)
         by true rest = refl
         by false rest = refl
 
-    pub in_time_here : (writes : ItemMap) → parts.late_write (lateness_of base w.entries places a.timestamp) writes ≡ None → late_write (store_shown base header calls w places slots) a.timestamp writes ≡ None
-    in_time_here writes none = by (late_write (store_shown base header calls w places slots) a.timestamp writes) (sym (late_same writes) ∙ none)
+    pub in_time_here : (writes : ItemMap) → parts.late_write (lateness_of base w.entries shard_slots a.timestamp) writes ≡ None → late_write (store_shown base header calls w shard_slots slots) a.timestamp writes ≡ None
+    in_time_here writes none = by (late_write (store_shown base header calls w shard_slots slots) a.timestamp writes) (sym (late_same writes) ∙ none)
       where
         by : (o : Option CommitFault) → option_map as_parts o ≡ None → o ≡ None
         by None h = refl
         by (Some f) h = absurd cc
 
-    pub late_shown : (writes : ItemMap) (x : Item) (version mark : ℕ) → parts.late_write (lateness_of base w.entries places a.timestamp) writes ≡ Some (parts_fault.Late x version mark)
-        → late_write (store_shown base header calls w places slots) a.timestamp writes ≡ Some (fault.Late x version mark)
-    late_shown writes x version mark is = by (late_write (store_shown base header calls w places slots) a.timestamp writes) (sym (late_same writes) ∙ is)
+    pub late_shown : (writes : ItemMap) (x : Item) (version mark : ℕ) → parts.late_write (lateness_of base w.entries shard_slots a.timestamp) writes ≡ Some (parts_fault.Late x version mark)
+        → late_write (store_shown base header calls w shard_slots slots) a.timestamp writes ≡ Some (fault.Late x version mark)
+    late_shown writes x version mark is = by (late_write (store_shown base header calls w shard_slots slots) a.timestamp writes) (sym (late_same writes) ∙ is)
       where
         by : (o : Option CommitFault) → option_map as_parts o ≡ Some (parts_fault.Late x version mark) → o ≡ Some (fault.Late x version mark)
         by None h = absurd cc
@@ -200,24 +201,24 @@ module _ (base : Ledger) (header : Header) (calls : List CallData) (w : CallWorl
 
   -- ---- the commit
 
-  module _ (f : CallRecord) (fin : IsFinishedCall f) (own : IsOwnCall calls header a f) (in_time : late_write (store_shown base header calls w places slots) a.timestamp f.writes ≡ None) (new : Places) (written : AreWritten a.timestamp a.reads f.writes places new) where
+  module _ (f : CallRecord) (fin : IsFinishedCall f) (own : IsOwnCall calls header a f) (in_time : late_write (store_shown base header calls w shard_slots slots) a.timestamp f.writes ≡ None) (new : ShardSlots) (written : AreWritten a.timestamp a.reads f.writes shard_slots new) where
     abbrev e : CallEntry
     e = entry_of a.timestamp n f
 
-    in_time_by : (writes : ItemMap) → late_write (store_shown base header calls w places slots) a.timestamp writes ≡ None
-        → AllByRecursion (λ write. marks_of (versions_for places) write.0 (version_below same_item (at base) w.entries (suc a.timestamp) write.0).0 ≤ a.timestamp) writes
+    in_time_by : (writes : ItemMap) → late_write (store_shown base header calls w shard_slots slots) a.timestamp writes ≡ None
+        → AllByRecursion (λ write. marks_of (versions_for shard_slots) write.0 (version_below same_item (at base) w.entries (suc a.timestamp) write.0).0 ≤ a.timestamp) writes
     in_time_by [] none = tt
-    in_time_by (x ∷ xs) none = by (nat_lt a.timestamp (greatest_mark same_item (marks_in places) x.0 (followed x.0))) (compared a.timestamp (greatest_mark same_item (marks_in places) x.0 (followed x.0))) none (in_time_by xs)
+    in_time_by (x ∷ xs) none = by (nat_lt a.timestamp (greatest_mark same_item (marks_in shard_slots) x.0 (followed x.0))) (compared a.timestamp (greatest_mark same_item (marks_in shard_slots) x.0 (followed x.0))) none (in_time_by xs)
       where
-        by : (b : Bool) → Compared a.timestamp (greatest_mark same_item (marks_in places) x.0 (followed x.0)) b
-            → (if b then Some (fault.Late x.0 (followed x.0) (greatest_mark same_item (marks_in places) x.0 (followed x.0))) else late_write (store_shown base header calls w places slots) a.timestamp xs) ≡ None
-            → (late_write (store_shown base header calls w places slots) a.timestamp xs ≡ None → AllByRecursion (λ write. marks_of (versions_for places) write.0 (version_below same_item (at base) w.entries (suc a.timestamp) write.0).0 ≤ a.timestamp) xs)
-            → AllByRecursion (λ write. marks_of (versions_for places) write.0 (version_below same_item (at base) w.entries (suc a.timestamp) write.0).0 ≤ a.timestamp) (x ∷ xs)
+        by : (b : Bool) → Compared a.timestamp (greatest_mark same_item (marks_in shard_slots) x.0 (followed x.0)) b
+            → (if b then Some (fault.Late x.0 (followed x.0) (greatest_mark same_item (marks_in shard_slots) x.0 (followed x.0))) else late_write (store_shown base header calls w shard_slots slots) a.timestamp xs) ≡ None
+            → (late_write (store_shown base header calls w shard_slots slots) a.timestamp xs ≡ None → AllByRecursion (λ write. marks_of (versions_for shard_slots) write.0 (version_below same_item (at base) w.entries (suc a.timestamp) write.0).0 ≤ a.timestamp) xs)
+            → AllByRecursion (λ write. marks_of (versions_for shard_slots) write.0 (version_below same_item (at base) w.entries (suc a.timestamp) write.0).0 ≤ a.timestamp) (x ∷ xs)
         by b (less h) never others = absurd cc
         by b (not_less h) rest others =
-            (subst (λ m. m ≤ a.timestamp) (marks_are base header calls w places slots k x.0 (followed x.0)) (let low : greatest_mark same_item (marks_in places) x.0 (followed x.0) ≤ a.timestamp = omega (arith, h) in low), others rest)
+            (subst (λ m. m ≤ a.timestamp) (marks_are base header calls w shard_slots slots k x.0 (followed x.0)) (let low : greatest_mark same_item (marks_in shard_slots) x.0 (followed x.0) ≤ a.timestamp = omega (arith, h) in low), others rest)
 
-    checked : IsCheckedCommit same_item IsOfLedger (meaning_of header calls) (at base) (marks_of (versions_for places)) w.entries a e
+    checked : IsCheckedCommit same_item IsOfLedger (meaning_of header calls) (at base) (marks_of (versions_for shard_slots)) w.entries a e
     checked = record {
       number = sym is_here.1;
       finished = subst (λ h. history.IsFinished same_item IsOfLedger (meaning_of h calls) e) own.header_same (finished_calls_are_entries calls f a.timestamp n fin (ap (call_of calls) (sym is_here.1) ∙ own.call));
@@ -225,46 +226,46 @@ module _ (base : Ledger) (header : Header) (calls : List CallData) (w : CallWorl
       in_time = in_time_by f.writes in_time;
     }
 
-    pub versions_new : (x : Item) → versions_for new x ≡ after_entry (λ value. value) same_item e (versions_for places) x
+    pub versions_new : (x : Item) → versions_for new x ≡ after_entry (λ value. value) same_item e (versions_for shard_slots) x
     versions_new x =
-        versions_written a.timestamp a.reads f.writes places new written x (held_all base w.low places k.shards x)
-        ∙ ap (λ reads. committed_versions a.timestamp reads f.writes x (versions_for places x)) (sym own.reads)
+        versions_written a.timestamp a.reads f.writes shard_slots new written x (held_all base w.low shard_slots k.shards x)
+        ∙ ap (λ reads. committed_versions a.timestamp reads f.writes x (versions_for shard_slots x)) (sym own.reads)
 
     live_new : live_in (set slots (n - 1) None) (attempts_without a.timestamp w.live) ≡ attempts_without a.timestamp (live_in slots w.live)
-    live_new = live_ended slots w.live n a.timestamp above is_here.0 (once base header calls w places slots k n)
+    live_new = live_ended slots w.live n a.timestamp above is_here.0 (once base header calls w shard_slots slots k n)
 
     store_new : IsStore (λ value. value) same_item IsOfLedger (meaning_of header calls) (at base) w.low w.clock w.low (entries_with e w.entries) (live_in (set slots (n - 1) None) (attempts_without a.timestamp w.live)) (versions_for new)
     store_new =
         subst (λ live. IsStore (λ value. value) same_item IsOfLedger (meaning_of header calls) (at base) w.low w.clock w.low (entries_with e w.entries) live (versions_for new)) (sym live_new)
-        (every_commit_leaves_a_store_lem Item ItemValue Outcome ItemValue IsOfLedger (λ value. value) same_item items_have_an_equality (meaning_of header calls) (at base) w.low w.clock w.low w.entries (live_in slots w.live) (versions_for places) (versions_for new)
+        (every_commit_leaves_a_store_lem Item ItemValue Outcome ItemValue IsOfLedger (λ value. value) same_item items_have_an_equality (meaning_of header calls) (at base) w.low w.clock w.low w.entries (live_in slots w.live) (versions_for shard_slots) (versions_for new)
         k.store a e is_here.2 checked from versions_new)
 
     -- what it read is marked already
-    marked_read : (x : Item) → (reads : ItemMap) → AreMarked same_item (at base) (marks_of (versions_for places)) w.entries a.timestamp reads → (m : ℕ)
-        → mark_after (lookup (same_item x) reads) (followed x) a.timestamp m (mark_in m (versions_for places x)) ≡ mark_in m (versions_for places x)
+    marked_read : (x : Item) → (reads : ItemMap) → AreMarked same_item (at base) (marks_of (versions_for shard_slots)) w.entries a.timestamp reads → (m : ℕ)
+        → mark_after (lookup (same_item x) reads) (followed x) a.timestamp m (mark_in m (versions_for shard_slots x)) ≡ mark_in m (versions_for shard_slots x)
     marked_read x [] h m = refl
     marked_read x (r ∷ rs) h m = by (same_item x r.0) refl (marked_read x rs h.1 m)
       where
         by : (b : Bool) → same_item x r.0 ≡ b
-            → mark_after (lookup (same_item x) rs) (followed x) a.timestamp m (mark_in m (versions_for places x)) ≡ mark_in m (versions_for places x)
-            → mark_after (if b then Some r.1 else lookup (same_item x) rs) (followed x) a.timestamp m (mark_in m (versions_for places x)) ≡ mark_in m (versions_for places x)
+            → mark_after (lookup (same_item x) rs) (followed x) a.timestamp m (mark_in m (versions_for shard_slots x)) ≡ mark_in m (versions_for shard_slots x)
+            → mark_after (if b then Some r.1 else lookup (same_item x) rs) (followed x) a.timestamp m (mark_in m (versions_for shard_slots x)) ≡ mark_in m (versions_for shard_slots x)
         by true same rest =
-            no_more (followed x) a.timestamp m (mark_in m (versions_for places x)) (followed x == m) (equals (followed x) m)
-            (λ at_m. subst (λ i. a.timestamp ≤ mark_in i (versions_for places x)) at_m
-            (subst (λ v. a.timestamp ≤ mark_in v.0 (versions_for places x)) (sym (next_below same_item a.timestamp w.entries x (0, at base x) fresh))
-            (subst (λ y. a.timestamp ≤ mark_in (version_below same_item (at base) w.entries a.timestamp y).0 (versions_for places y)) (sym (items_have_an_equality.exact x r.0 same)) h.0)))
+            no_more (followed x) a.timestamp m (mark_in m (versions_for shard_slots x)) (followed x == m) (equals (followed x) m)
+            (λ at_m. subst (λ i. a.timestamp ≤ mark_in i (versions_for shard_slots x)) at_m
+            (subst (λ v. a.timestamp ≤ mark_in v.0 (versions_for shard_slots x)) (sym (next_below same_item a.timestamp w.entries x (0, at base x) fresh))
+            (subst (λ y. a.timestamp ≤ mark_in (version_below same_item (at base) w.entries a.timestamp y).0 (versions_for shard_slots y)) (sym (items_have_an_equality.exact x r.0 same)) h.0)))
         by false other rest = rest
 
-    pub kept_committed : IsKeptStore base header calls (after_commit w e) new (set slots (n - 1) None) × IsCommitted (store_shown base header calls w places slots) (store_shown base header calls (after_commit w e) new (set slots (n - 1) None)) n a.timestamp f
+    pub kept_committed : IsKeptStore base header calls (after_commit w e) new (set slots (n - 1) None) × IsCommitted (store_shown base header calls w shard_slots slots) (store_shown base header calls (after_commit w e) new (set slots (n - 1) None)) n a.timestamp f
     kept_committed = (
       record {
         orderly = k.orderly;
         store = store_new;
-        shards = over_written base w.low a.timestamp a.reads f.writes places new written k.shards;
+        shards = over_written base w.low a.timestamp a.reads f.writes shard_slots new written k.shards;
         are_calls = all_with same_item (λ (g : CallEntry). IsSome (call_of calls g.number)) e w.entries (subst IsSome (sym own.call ∙ ap (call_of calls) is_here.1) refl) k.are_calls;
         live_calls = all_without (λ (b : CallAttempt). (0 < b.number) × (b.number ≤ length calls)) a.timestamp w.live k.live_calls;
         count = length-set slots (n - 1) None ∙ k.count;
-        attempts = places_ended slots w.live n a.timestamp above inside is_here.0 (once base header calls w places slots k n) k.attempts;
+        attempts = slots_ended slots w.live n a.timestamp above inside is_here.0 (once base header calls w shard_slots slots k n) k.attempts;
       },
       record {
         event = record { clock = refl; low = refl; entries = refl; live = live_new; marks = λ x m counts. same_marks x m };
@@ -273,9 +274,9 @@ module _ (base : Ledger) (header : Header) (calls : List CallData) (w : CallWorl
       },
     )
       where
-        same_marks : (x : Item) (m : ℕ) → greatest_mark same_item (marks_in new) x m ≡ greatest_mark same_item (marks_in places) x m
+        same_marks : (x : Item) (m : ℕ) → greatest_mark same_item (marks_in new) x m ≡ greatest_mark same_item (marks_in shard_slots) x m
         same_marks x m =
-            marks_of_places new (λ y. (store_new.holds y).chain) x m ∙ ap (mark_in m) (versions_new x)
-            ∙ commit_mark base w.entries k.store.consistent.journal.rising e fresh positive w.low (versions_for places) k.store.holds from x m
-            ∙ ap (λ reads. mark_after (lookup (same_item x) reads) (followed x) a.timestamp m (mark_in m (versions_for places x))) own.reads ∙ marked_read x a.reads marked m
-            ∙ sym (marks_are base header calls w places slots k x m)
+            marks_of_slots new (λ y. (store_new.holds y).chain) x m ∙ ap (mark_in m) (versions_new x)
+            ∙ commit_mark base w.entries k.store.consistent.journal.rising e fresh positive w.low (versions_for shard_slots) k.store.holds from x m
+            ∙ ap (λ reads. mark_after (lookup (same_item x) reads) (followed x) a.timestamp m (mark_in m (versions_for shard_slots x))) own.reads ∙ marked_read x a.reads marked m
+            ∙ sym (marks_are base header calls w shard_slots slots k x m)

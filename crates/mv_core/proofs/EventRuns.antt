@@ -17,7 +17,7 @@ use Rattle.mv_core.proofs.SameRuns.{every_same_run_goes_on}
 use Rattle.mv_core.specs.declared.world.Worker.{Worker}
 use Rattle.mv_core.specs.declared.world.Worker.TheVariants as worker
 use Rattle.mv_core.specs.Calls.{first_store}
-use Rattle.mv_core.specs.Stores.{Store}
+use Rattle.mv_core.specs.SeenStores.{Store}
 use Rattle.mv_core.specs.Worlds.{AreLiveIn, AreSound, IsRunTo, IsStep, input_of, running_of}
 
 running_more : (input : RunInput) (r : Running) (es : List Event) (e : Event) → running_from input r (es ++ e ∷ []) ≡ running_after input (running_from input r es) e

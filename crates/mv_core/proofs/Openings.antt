@@ -14,9 +14,9 @@ use Rattle.mv_agreement.specs.Stores.{marks_of}
 use Rattle.mv_agreement.proofs.Agreements.{every_first_version_agrees_lem}
 use Rattle.mv_calls.specs.CallHistory.{CallAttempt, same_item}
 use Rattle.mv_shards.specs.Writing.{versions_for}
-use Rattle.mv_parts.specs.Opening.{first_places}
+use Rattle.mv_parts.specs.Opening.{first_slots}
 use Rattle.mv_parts.proofs.Opens.{first_over, no_marks, versions_first}
-use Rattle.mv_core.specs.Places.{AreEmpty, IsPlaceOf}
+use Rattle.mv_core.specs.AttemptSlots.{AreEmpty, IsSlotOf}
 use Rattle.mv_core.specs.Stores.{CallSlots, IsKeptStore}
 
 pub none_empty : AreEmpty {Item = Item} {Value = ItemValue} 0 []
@@ -31,16 +31,16 @@ still_empty (x ∷ xs) h (suc i) = still_empty xs (λ k. h (suc k)) i
 pub one_more_empty : (n : ℕ) (xs : List (Option CallAttempt)) → AreEmpty n xs → AreEmpty (n + 1) (xs ++ None ∷ [])
 one_more_empty n xs k = record { are = omega (arith, length-append xs (None ∷ []), k.are); each = still_empty xs k.each }
 
-pub kept_first : (base : Ledger) (header : Header) (calls : List CallData) (slots : CallSlots) → IsOrderly base → AreEmpty (length calls) slots → IsKeptStore base header calls first_world (first_places base) slots
+pub kept_first : (base : Ledger) (header : Header) (calls : List CallData) (slots : CallSlots) → IsOrderly base → AreEmpty (length calls) slots → IsKeptStore base header calls first_world (first_slots base) slots
 kept_first base header calls slots orderly empty = record {
   orderly = orderly;
   store = record {
     holds = λ x. subst (HoldsVersions {Outcome = Outcome} (λ value. value) same_item (at base) 0 [] x) (sym (versions_first base x)) (every_first_version_agrees_lem Item ItemValue Outcome ItemValue (λ value. value) same_item (at base) 0 0 x);
-    consistent = record { journal = record { rising = tt; finished = tt; agree = tt }; schedule = schedule_first same_item (at base) (marks_of (versions_for (first_places base))) (no_marks base) };
+    consistent = record { journal = record { rising = tt; finished = tt; agree = tt }; schedule = schedule_first same_item (at base) (marks_of (versions_for (first_slots base))) (no_marks base) };
   };
   shards = first_over base;
   are_calls = tt;
   live_calls = tt;
   count = empty.are;
-  attempts = λ i within. subst (IsPlaceOf [] (i + 1)) (sym (empty.each i)) refl;
+  attempts = λ i within. subst (IsSlotOf [] (i + 1)) (sym (empty.each i)) refl;
 }

@@ -23,13 +23,14 @@ use Rattle.mv_history.specs.World.{live_count, Begin, Read, Commit, Abandon, Pru
 use Rattle.mv_history.proofs.Attempts.{attempt_at-last, attempt_at-other_read, attempt_at-push, attempt_at-with_read, attempt_at-without, found_attempt}
 use Rattle.mv_history.proofs.Lists.{all_map}
 use Rattle.mv_history.proofs.Worlds.{consistent}
-use Rattle.mv_calls.specs.CallHistory.{CallAttempt, CallWorld, call_of, meaning_of, same_item}
+use Rattle.mv_calls.specs.CallHistory.{CallAttempt, CallWorld, meaning_of, same_item}
+use Rattle.mv_calls.specs.CallNumbers.{call_of}
 use Rattle.mv_calls.specs.SerialCalls.{CallsLeadTo, EveryInterleavingOfCallsIsSerial}
 use Rattle.mv_calls.proofs.Histories.{finished_calls_are_entries}
 use Rattle.mv_calls.proofs.SerialCalls.{calls_lead_on, items_have_an_equality}
 use Rattle.mv_core.specs.declared.running.Event.{Event}
 use Rattle.mv_core.specs.declared.running.Event.TheVariants as event
-use Rattle.mv_core.specs.Running.{RunInput, Running, answer_of, by_worker, commit_by, entry_by, first_running, may_begin, place_among, read_by, running_after, running_from, version_before, with_worker, worker_at, writes_in_time}
+use Rattle.mv_core.specs.Running.{RunInput, Running, answer_of, by_worker, commit_by, entry_by, first_running, may_begin, index_among, read_by, running_after, running_from, version_before, with_worker, worker_at, writes_in_time}
 use Rattle.mv_core.specs.RunningLaws.{AreAtWork, EveryReadIsUsed, EveryRunIsSerial, EveryRunLeadsOn, EveryWorkerIsLive, IsAtWork}
 use Rattle.mv_core.proofs.Workers.{itself, other, after_set, with_item-new}
 
@@ -123,20 +124,20 @@ module _ (input : RunInput) where
       → answer_from (value_in a.reads) (call_result call input.header) ≡ Err x → IsKept (read_by input r w a (Some (Err x)))
   kept_read r w a call x k here is_call asks =
       kept_with r world w (Some after)
-      ((calls_lead_on input.base input.header input.calls).1 r.world (Read a.timestamp place x) k.leads tt (a, (k.at_work.each w a here).live, unknown))
+      ((calls_lead_on input.base input.header input.calls).1 r.world (Read a.timestamp index x) k.leads tt (a, (k.at_work.each w a here).live, unknown))
       (λ b is. subst (λ c. IsAtWork input (with_worker r world w (Some after)) c) (same_Some _ _ is) at_work)
-      (λ v b differs was live. attempt_at-other_read b.timestamp a.timestamp place read r.world.live (λ same. differs (k.at_work.own v w b a was here same)) ∙ live)
+      (λ v b differs was live. attempt_at-other_read b.timestamp a.timestamp index read r.world.live (λ same. differs (k.at_work.own v w b a was here same)) ∙ live)
       (λ b v c is differs was. subst (λ (d : CallAttempt). d.timestamp ≢ c.timestamp) (same_Some _ _ is) (λ same. differs (k.at_work.own v w c a was here (sym same))))
       k
     where
-      place : ℕ
-      place = place_among a.reads x
+      index : ℕ
+      index = index_among a.reads x
 
       read : Item × ItemValue
       read = (x, (version_before input r a.timestamp x).1)
 
       world : CallWorld
-      world = after_read same_item (at input.base) r.world a.timestamp place x
+      world = after_read same_item (at input.base) r.world a.timestamp index x
 
       after : CallAttempt
       after = record a { reads = with_item a.reads x (version_before input r a.timestamp x).1 }
@@ -149,7 +150,7 @@ module _ (input : RunInput) where
 
       at_work : IsAtWork input (with_worker r world w (Some after)) after
       at_work = record {
-        live = attempt_at-with_read a.timestamp place read a r.world.live (k.at_work.each w a here).live
+        live = attempt_at-with_read a.timestamp index read a r.world.live (k.at_work.each w a here).live
             ∙ ap (λ reads. Some (record a { reads = reads })) (sym (with_item-new a.reads x (version_before input r a.timestamp x).1 unknown));
         call = call;
         is_call = is_call;

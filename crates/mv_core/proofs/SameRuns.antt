@@ -14,13 +14,14 @@ use Rattle.mv_history.specs.World.{Abandon, Begin, Commit, Mark, Prune, Read, af
 use Rattle.mv_history.proofs.Attempts.{found_attempt}
 use Rattle.mv_history.proofs.SameWorlds.{after_same_event, version_below-monotone}
 use Rattle.mv_history.proofs.Worlds.{consistent}
-use Rattle.mv_calls.specs.CallHistory.{CallAttempt, call_of, meaning_of, same_item}
+use Rattle.mv_calls.specs.CallHistory.{CallAttempt, meaning_of, same_item}
+use Rattle.mv_calls.specs.CallNumbers.{call_of}
 use Rattle.mv_calls.specs.SerialCalls.{CallsLeadTo}
 use Rattle.mv_calls.proofs.SerialCalls.{items_have_an_equality}
 use Rattle.avm_items.specs.declared.item.Item.{Item}
 use Rattle.mv_core.specs.declared.running.Event.{Event}
 use Rattle.mv_core.specs.declared.running.Event.TheVariants as event
-use Rattle.mv_core.specs.Running.{RunInput, Running, answer_of, by_worker, commit_by, entry_by, may_begin, place_among, read_by, running_after, with_worker, worker_at, writes_in_time}
+use Rattle.mv_core.specs.Running.{RunInput, Running, answer_of, by_worker, commit_by, entry_by, may_begin, index_among, read_by, running_after, with_worker, worker_at, writes_in_time}
 use Rattle.mv_core.specs.RunningLaws.{AreAtWork, EverySameRunGoesOn, IsSameRunning, TestsAreInTime}
 use Rattle.mv_core.proofs.Runs.{in_time}
 
@@ -58,7 +59,7 @@ module _ (input : RunInput) (r : Running) (marks : List (Mark Item)) (leads : Ca
       by_answer a None = record { world = same_world; workers = refl }
       by_answer a (Some (Ok result)) = record { world = same_world; workers = refl }
       by_answer a (Some (Err x)) =
-          record { world = after_same_event same_item (at input.base) r.world (record r.world { marks = marks }) facts.journal.rising same_world (Read a.timestamp (place_among a.reads x) x) (Read a.timestamp (place_among a.reads x) x) refl; workers = refl }
+          record { world = after_same_event same_item (at input.base) r.world (record r.world { marks = marks }) facts.journal.rising same_world (Read a.timestamp (index_among a.reads x) x) (Read a.timestamp (index_among a.reads x) x) refl; workers = refl }
 
       by : (o : Option CallAttempt) → IsSameRunning input (by_worker r (λ a. read_by input r w a (answer_of input.header a.reads (call_of input.calls a.number))) o)
           (by_worker (record r { world = record r.world { marks = marks } }) (λ a. read_by input (record r { world = record r.world { marks = marks } }) w a (answer_of input.header a.reads (call_of input.calls a.number))) o)

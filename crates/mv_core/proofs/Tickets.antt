@@ -2,7 +2,7 @@
 use Rattle.std.proofs.Common.{◌≡◌, ◌≢◌, ℕ, zero, suc, ◌-◌, ◌<◌, ◌≤◌, List, [], ◌∷◌, length, Option, None, Some, get_or, refl, sym, ap, ◌∙◌, subst, arith}
 use Rattle.std.proofs.lemmas.Option.{same_Some}
 use Rattle.mv_history.specs.World.{Attempt}
-use Rattle.mv_core.specs.Places.{IsNowhere, AttemptSlots}
+use Rattle.mv_core.specs.AttemptSlots.{IsNowhere, AttemptSlots}
 
 beyond : {A : Type 0} (xs : List (Option A)) (i : ℕ) → length xs ≤ i → get_or xs i None ≡ None
 beyond [] i h = refl
@@ -18,17 +18,17 @@ module _ {Item Value : Type 0} (slots : AttemptSlots Item Value) (n t : ℕ) whe
   pub nowhere_zero : n ≡ 0 → IsNowhere slots n t
   nowhere_zero none a above found = absurd (omega (arith, none, above))
 
-  pub nowhere_beyond : (place : ℕ) → place ≡ n - 1 → length slots ≤ place → IsNowhere slots n t
-  nowhere_beyond place is past a above found = absurd (never (sym (beyond slots place past) ∙ ap (λ i. get_or slots i None) is ∙ found))
+  pub nowhere_beyond : (index : ℕ) → index ≡ n - 1 → length slots ≤ index → IsNowhere slots n t
+  nowhere_beyond index is past a above found = absurd (never (sym (beyond slots index past) ∙ ap (λ i. get_or slots i None) is ∙ found))
     where
       never : None ≡ Some a → ⊥
       never e = cc
 
-  pub nowhere_none : (place : ℕ) → place ≡ n - 1 → get_or slots place None ≡ None → IsNowhere slots n t
-  nowhere_none place is free a above found = absurd (never (sym free ∙ ap (λ i. get_or slots i None) is ∙ found))
+  pub nowhere_none : (index : ℕ) → index ≡ n - 1 → get_or slots index None ≡ None → IsNowhere slots n t
+  nowhere_none index is free a above found = absurd (never (sym free ∙ ap (λ i. get_or slots i None) is ∙ found))
     where
       never : None ≡ Some a → ⊥
       never e = cc
 
-  pub nowhere_other : (place : ℕ) (b : Attempt Item Value) → place ≡ n - 1 → get_or slots place None ≡ Some b → b.timestamp ≢ t → IsNowhere slots n t
-  nowhere_other place b is there other a above found = subst (λ (c : Attempt Item Value). c.timestamp ≢ t) (same_Some _ _ (sym there ∙ ap (λ i. get_or slots i None) is ∙ found)) other
+  pub nowhere_other : (index : ℕ) (b : Attempt Item Value) → index ≡ n - 1 → get_or slots index None ≡ Some b → b.timestamp ≢ t → IsNowhere slots n t
+  nowhere_other index b is there other a above found = subst (λ (c : Attempt Item Value). c.timestamp ≢ t) (same_Some _ _ (sym there ∙ ap (λ i. get_or slots i None) is ∙ found)) other

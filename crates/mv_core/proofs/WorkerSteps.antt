@@ -17,21 +17,24 @@ use Rattle.mv_history.specs.History.{commit_count, version_below}
 use Rattle.mv_history.specs.SameWorlds.{HaveSameMarks, IsSameWorld}
 use Rattle.mv_history.specs.World.{after_abandon, after_begin, after_commit, after_prune, after_read, fresh_attempt, greatest_mark, live_count}
 use Rattle.mv_history.proofs.SameWorlds.{same_world-itself, same_world-sym}
-use Rattle.mv_calls.specs.CallHistory.{CallAttempt, CallEntry, CallWorld, call_of, same_item}
+use Rattle.mv_calls.specs.CallHistory.{CallAttempt, CallEntry, CallWorld, same_item}
+use Rattle.mv_calls.specs.CallNumbers.{call_of}
 use Rattle.mv_calls.specs.Laws.{entry_of}
 use Rattle.mv_core.specs.declared.running.Event.{Event}
 use Rattle.mv_core.specs.declared.running.Event.TheVariants as event
 use Rattle.mv_core.specs.RunningLaws.{IsSameRunning}
-use Rattle.mv_core.specs.Running.{RunInput, Running, answer_of, by_worker, commit_by, entry_by, may_begin, place_among, read_by, running_after, with_worker, worker_at, writes_in_time}
+use Rattle.mv_core.specs.Running.{RunInput, Running, answer_of, by_worker, commit_by, entry_by, may_begin, index_among, read_by, running_after, with_worker, worker_at, writes_in_time}
 use Rattle.mv_core.specs.declared.faults.CommitFault.{CommitFault}
 use Rattle.mv_core.specs.declared.faults.CommitFault.TheVariants as fault
 use Rattle.mv_core.specs.declared.ticket.Ticket.{Ticket}
 use Rattle.mv_core.specs.declared.world.Worker.{Worker}
 use Rattle.mv_core.specs.declared.world.Worker.TheVariants as worker
 use Rattle.mv_core.specs.Commits.{late_write}
-use Rattle.mv_core.specs.Places.{HasLiveNumber}
-use Rattle.mv_core.specs.Stores.{IsFirstRead, IsPrune, IsReadAgain, Store}
-use Rattle.mv_core.specs.Worlds.{AreSound, TicketAsksFor, TicketHasEnded, IsAbandonBy, IsAdvanced, IsBegunBy, IsCommitBy, IsLiveIfAny, IsLiveWith, IsReadByStore, IsReadBy, IsSoundWorker, IsStep, IsWork, attempt_by, attempt_of, input_of, may_begin_call, reads_or_none, running_of, ticket_of, worker_in}
+use Rattle.mv_core.specs.AttemptSlots.{HasLiveNumber}
+use Rattle.mv_core.specs.Stores.{IsFirstRead, IsPrune, IsReadAgain}
+use Rattle.mv_core.specs.SeenStores.{Store}
+use Rattle.mv_core.specs.Worlds.{AreSound, TicketAsksFor, TicketHasEnded, IsLiveWith, IsSoundWorker, IsStep, attempt_by, attempt_of, input_of, reads_or_none, running_of, ticket_of}
+use Rattle.mv_core.specs.WorkerSteps.{IsAbandonBy, IsAdvanced, IsBegunBy, IsCommitBy, IsLiveIfAny, IsReadByStore, IsReadBy, IsWork, may_begin_call, worker_in}
 
 -- ---- a worker reads
 
@@ -92,7 +95,7 @@ module _ (old new : Store) (ticket : Ticket) (x : Item) (v : ItemValue) (p : Pro
       record {
         read = record {
           input = ap input_of read.others;
-          event = subst (λ (a : CallAttempt). IsSameWorld same_item (at old.base) new.world (after_read same_item (at old.base) old.world ticket.timestamp (place_among a.reads x) x)) own read.event;
+          event = subst (λ (a : CallAttempt). IsSameWorld same_item (at old.base) new.world (after_read same_item (at old.base) old.world ticket.timestamp (index_among a.reads x) x)) own read.event;
           joins = on.0;
         };
         sound = on.1;
@@ -121,7 +124,7 @@ pub ticket_live : (s : Store) (o : Option CallAttempt) (t : Ticket) → option_m
 ticket_live s None t is live = absurd cc
 ticket_live s (Some a) t is live = subst (λ (u : Ticket). HasLiveNumber s.world.live u.number u.timestamp) (same_Some _ _ is) (record { attempt = a; live = live; number = refl })
 
--- ---- at a worker's place
+-- ---- at a worker's index
 
 at_map : (ws : List Worker) (i : ℕ) (d : Worker) → i < length ws → d ≡ get_or ws i d → get_or (map attempt_of ws) i None ≡ attempt_of d
 at_map [] i d inside is = absurd (omega (arith, inside))
@@ -155,7 +158,7 @@ live_at s ws i d inside is live = by (attempt_of d) (at_map ws i d inside is)
     by None h = tt
     by (Some a) h = live i a h
 
--- taken from its place
+-- taken from its index
 pub live_here : (s : Store) (ws : List Worker) (i : ℕ) (w d : Worker) → i < length ws → w ≡ d → d ≡ get_or ws i d → ((v : ℕ) (a : CallAttempt) → get_or (map attempt_of ws) v None ≡ Some a → IsLiveWith s a) → IsLiveIfAny s (attempt_of w)
 live_here s ws i w d inside taken there live = subst (λ (v : Worker). IsLiveIfAny s (attempt_of v)) (sym taken) (live_at s ws i d inside there live)
 
@@ -301,9 +304,9 @@ module _ (old new : Store) (ws : List Worker) (i : ℕ) (w after : Worker) (insi
       → Worked (event.Read i)
   read_moves ticket run x own asks read = record {
     input = read.input;
-    running = moves (event.Read i) (after_read same_item (at old.base) old.world ticket.timestamp (place_among (reads_or_none run) x) x)
+    running = moves (event.Read i) (after_read same_item (at old.base) old.world ticket.timestamp (index_among (reads_or_none run) x) x)
         (Some (record (attempt_by ticket (reads_or_none run)) { reads = with_item (reads_or_none run) x (version_below same_item (at old.base) old.world.entries (suc ticket.timestamp) x).1 }))
-        (answers (attempt_by ticket (reads_or_none run)) (Some (Err x)) own (asked old ticket run x asks)).0 (same_world-sym same_item (at old.base) new.world (after_read same_item (at old.base) old.world ticket.timestamp (place_among (reads_or_none run) x) x) read.event) read.joins;
+        (answers (attempt_by ticket (reads_or_none run)) (Some (Err x)) own (asked old ticket run x asks)).0 (same_world-sym same_item (at old.base) new.world (after_read same_item (at old.base) old.world ticket.timestamp (index_among (reads_or_none run) x) x) read.event) read.joins;
   }
 
   read_by_worker : (v : Worker) → w ≡ v → IsSoundWorker (input_of old) v → IsReadBy old new v (attempt_of after) → Worked (event.Read i)
@@ -358,7 +361,7 @@ module _ (old new : Store) (ws : List Worker) (i : ℕ) (w after : Worker) (insi
   worked (event.Abandon k) own sound h = subst (λ j. Worked (event.Abandon j)) (sym (same_Some _ _ own)) (abandoned (attempt_of w) refl h)
   worked (event.Prune t) own sound h = absurd h
 
--- what was at its place comes back changed
+-- what was at its index comes back changed
 pub stepped : (e : Event) (old new : Store) (ws : List Worker) (i : ℕ) (w d x after : Worker) → worker_in e ≡ Some i → i < length ws → w ≡ d → d ≡ get_or ws i d → AreSound (input_of old) ws → IsSoundWorker (input_of old) after
     → IsWork e old new w (attempt_of after) → IsStep e old new ws (slice_set (slice_set ws i x) i after)
 stepped e old new ws i w d x after own inside taken there sound sound_after h =

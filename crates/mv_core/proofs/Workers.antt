@@ -8,7 +8,7 @@ use Rattle.std.specs.declared.cmp.Ordering.TheVariants.{Less, Equal, Greater}
 use Rattle.avm_items.specs.declared.item.Item.{Item}
 use Rattle.avm_items.specs.declared.item_value.ItemValue.{ItemValue}
 use Rattle.avm_items.specs.Items.{ItemMap, item_cmp, value_in, with_item}
-use Rattle.mv_core.specs.Running.{place_among}
+use Rattle.mv_core.specs.Running.{index_among}
 
 pub data AfterSet {X : Type 0} (xs : List (Option X)) (i : ℕ) (o : Option X) (w : ℕ) (a : X) : Type 0 where
   itself : w ≡ i → o ≡ Some a → AfterSet xs i o w a
@@ -25,12 +25,12 @@ after_set (x ∷ xs) (suc i) o (suc w) a e =
       | other h k ↦ other (λ same. h (omega (arith, same))) k
     ]
 
-pub with_item-new : (reads : ItemMap) (x : Item) (v : ItemValue) → value_in reads x ≡ None → with_item reads x v ≡ insert reads (place_among reads x) (x, v)
+pub with_item-new : (reads : ItemMap) (x : Item) (v : ItemValue) → value_in reads x ≡ None → with_item reads x v ≡ insert reads (index_among reads x) (x, v)
 with_item-new [] x v none = refl
 with_item-new (e ∷ es) x v none = by (item_cmp x e.0) none (with_item-new es x v)
   where
-    by : (r : Ordering) → cond (is_eq r) (Some e.1) (value_in es x) ≡ None → (value_in es x ≡ None → with_item es x v ≡ insert es (place_among es x) (x, v))
-        → match_ordering r ((x, v) ∷ e ∷ es) ((e.0, v) ∷ es) (e ∷ insert_entry item_cmp es x v) ≡ insert (e ∷ es) (match_ordering r 0 0 (suc (place_among es x))) (x, v)
+    by : (r : Ordering) → cond (is_eq r) (Some e.1) (value_in es x) ≡ None → (value_in es x ≡ None → with_item es x v ≡ insert es (index_among es x) (x, v))
+        → match_ordering r ((x, v) ∷ e ∷ es) ((e.0, v) ∷ es) (e ∷ insert_entry item_cmp es x v) ≡ insert (e ∷ es) (match_ordering r 0 0 (suc (index_among es x))) (x, v)
     by Less is rest = refl
     by Equal is rest = absurd cc
     by Greater is rest = ap (λ l. e ∷ l) (rest is)

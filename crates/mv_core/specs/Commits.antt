@@ -12,7 +12,7 @@ use Rattle.mv_history.specs.World.{after_commit, attempt_at, greatest_mark}
 use Rattle.mv_agreement.specs.Stores.{after_entry}
 use Rattle.mv_calls.specs.CallHistory.{CallAttempt, same_item}
 use Rattle.mv_calls.specs.Laws.{entry_of}
-use Rattle.mv_shards.specs.Helds.{IsHeld, Places}
+use Rattle.mv_shards.specs.Helds.{IsHeld, ShardSlots}
 use Rattle.mv_shards.specs.Writing.{versions_for}
 use Rattle.mv_parts.specs.declared.commit_fault.CommitFault.{CommitFault as PartsFault}
 use Rattle.mv_parts.specs.declared.commit_fault.CommitFault.TheVariants as parts_fault
@@ -21,8 +21,9 @@ use Rattle.mv_parts.specs.Commits.{IsOwnCall}
 use Rattle.mv_parts.specs.Commits as parts
 use Rattle.mv_core.specs.declared.faults.CommitFault.{CommitFault}
 use Rattle.mv_core.specs.declared.faults.CommitFault.TheVariants as fault
-use Rattle.mv_core.specs.Places.{HasLiveNumber}
-use Rattle.mv_core.specs.Stores.{CallSlots, Store}
+use Rattle.mv_core.specs.AttemptSlots.{HasLiveNumber}
+use Rattle.mv_core.specs.Stores.{CallSlots}
+use Rattle.mv_core.specs.SeenStores.{Store}
 
 -- the finished call is that of the live attempt: the call of its number, for the store's header, over what it has read
 pub record IsOwn (s : Store) (n t : ℕ) (f : CallRecord) : Type 0 where
@@ -68,17 +69,17 @@ IsCommitRefusal s n t f (failure.Fault found) = IsTestRefusal s n t f found
 -- The call is an entry at the timestamp, and its attempt has ended. What it read is marked, and what it wrote are versions.
 pub record IsCommitted (old new : Store) (n t : ℕ) (f : CallRecord) : Type 0 where
   pub event : IsSameWorld same_item (at old.base) new.world (after_commit old.world (entry_of t n f))
-  pub versions : (x : Item) → versions_for new.places x ≡ after_entry (λ value. value) same_item (entry_of t n f) (versions_for old.places) x
-  pub others : new ≡ record old { world = new.world; places = new.places }
+  pub versions : (x : Item) → versions_for new.shard_slots x ≡ after_entry (λ value. value) same_item (entry_of t n f) (versions_for old.shard_slots) x
+  pub others : new ≡ record old { world = new.world; shard_slots = new.shard_slots }
 
 -- ---- by the journal
 
 -- every item's shard is held
-abbrev pub AreAllHeld : Places → Type 0
-AreAllHeld places = (x : Item) → IsHeld places x
+abbrev pub AreAllHeld : ShardSlots → Type 0
+AreAllHeld shard_slots = (x : Item) → IsHeld shard_slots x
 
--- the attempt at a place, committed by the journal
-pub record IsCommittedPlace (old new : Journal) (before after : Places) (slots new_slots : CallSlots) (i : ℕ) (f : CallRecord) (t : ℕ) : Type 0 where
+-- the attempt in a slot, committed by the journal
+pub record IsCommittedSlot (old new : Journal) (before after : ShardSlots) (slots new_slots : CallSlots) (i : ℕ) (f : CallRecord) (t : ℕ) : Type 0 where
   pub attempt : CallAttempt
   pub found : get_or slots i None ≡ Some attempt
   pub time : t ≡ attempt.timestamp
@@ -86,9 +87,9 @@ pub record IsCommittedPlace (old new : Journal) (before after : Places) (slots n
   pub committed : parts.IsCommitted old new before after attempt f
   pub others : new_slots ≡ set slots i None
 
-abbrev pub IsRefusedFor : Journal → Places → Option CallAttempt → CallRecord → Failure PartsFault → Type 0
-IsRefusedFor j places None f error = ⊥
-IsRefusedFor j places (Some a) f error = parts.IsCommitRefusal j places a f error
+abbrev pub IsRefusedFor : Journal → ShardSlots → Option CallAttempt → CallRecord → Failure PartsFault → Type 0
+IsRefusedFor j shard_slots None f error = ⊥
+IsRefusedFor j shard_slots (Some a) f error = parts.IsCommitRefusal j shard_slots a f error
 
 -- what a refusal by the journal is to a store, where all shards are held and agree with the journal
 abbrev pub store_error : Failure PartsFault → Option (Failure CommitFault)

@@ -1,10 +1,12 @@
-pub mod Places
+pub mod AttemptSlots
 pub mod Running
 pub mod RunningLaws
 pub mod Marks
+pub mod SeenStores
 pub mod Stores
 pub mod Laws
 pub mod Calls
 pub mod Commits
 pub mod Worlds
+pub mod WorkerSteps
 pub mod FaultNames

@@ -12,7 +12,8 @@ use Rattle.avm_items.specs.Asks.{Answer, answer_from}
 use Rattle.avm_call.specs.Calls.{CallResult, call_result}
 use Rattle.mv_history.specs.History.{commit_count, version_below}
 use Rattle.mv_history.specs.World.{after_begin, after_read, after_commit, after_abandon, after_prune, first_world, fresh_attempt, greatest_mark, live_count}
-use Rattle.mv_calls.specs.CallHistory.{CallAttempt, CallEntry, CallWorld, call_of, same_item}
+use Rattle.mv_calls.specs.CallHistory.{CallAttempt, CallEntry, CallWorld, same_item}
+use Rattle.mv_calls.specs.CallNumbers.{call_of}
 use Rattle.mv_core.specs.declared.running.Event.{Event}
 use Rattle.mv_core.specs.declared.running.Event.TheVariants as event
 
@@ -48,9 +49,9 @@ may_begin input r w number =
     nat_lt w (length r.workers) && is_none (worker_at r w) && is_some (call_of input.calls number) && (commit_count number r.world.entries == 0) && (live_count number r.world.live == 0) && nat_lt r.world.clock (2 ^ 64 - 1)
 
 -- where a sorted map lists a new item
-abbrev pub place_among : ItemMap → Item → ℕ
-place_among [] x = 0
-place_among (e ∷ es) x = match_ordering (item_cmp x e.0) 0 0 (suc (place_among es x))
+abbrev pub index_among : ItemMap → Item → ℕ
+index_among [] x = 0
+index_among (e ∷ es) x = match_ordering (item_cmp x e.0) 0 0 (suc (index_among es x))
 
 -- the version that an attempt at a timestamp finds, as (timestamp, value)
 abbrev pub version_before : RunInput → Running → ℕ → Item → ℕ × ItemValue
@@ -59,7 +60,7 @@ version_before input r t x = version_below same_item (at input.base) r.world.ent
 -- Read: where the call asks for an item, the version found joins the reads, and is marked
 abbrev pub read_by : RunInput → Running → ℕ → CallAttempt → Option (Answer CallResult) → Running
 read_by input r w a (Some (Err x)) =
-    with_worker r (after_read same_item (at input.base) r.world a.timestamp (place_among a.reads x) x) w (Some (record a { reads = with_item a.reads x (version_before input r a.timestamp x).1 }))
+    with_worker r (after_read same_item (at input.base) r.world a.timestamp (index_among a.reads x) x) w (Some (record a { reads = with_item a.reads x (version_before input r a.timestamp x).1 }))
 read_by input r w a answer = r
 
 -- no version that one of the writes follows was read above the timestamp

@@ -1,5 +1,5 @@
 -- The store: what is seen of it, what it keeps, and what its calls do.
-use Rattle.std.specs.Prelude.{◌≡◌, ℕ, suc, ◌+◌, List, [], ◌∷◌, ◌++◌, length, get_or, set, Option, None, Some}
+use Rattle.std.specs.Prelude.{◌≡◌, ℕ, suc, List, [], ◌∷◌, ◌++◌, length, get_or, set, Option, None, Some}
 use Rattle.std.specs.Map.{keys_of}
 use Rattle.avm_ledger.specs.declared.header.Header.{Header}
 use Rattle.avm_ledger.specs.Ledgers.{IsOrderly, Ledger}
@@ -17,59 +17,52 @@ use Rattle.mv_agreement.specs.Stores.{IsStore, after_item_read}
 use Rattle.mv_calls.specs.CallHistory.{CallAttempt, CallWorld, meaning_of, same_item}
 use Rattle.mv_calls.specs.SerialCalls.{AreOfCalls}
 use Rattle.mv_shards.specs.Shards.{Shard}
-use Rattle.mv_shards.specs.Helds.{IsHeldPruned, IsHeldRead, Places}
+use Rattle.mv_shards.specs.Helds.{IsHeldPruned, IsHeldRead, ShardSlots}
 use Rattle.mv_shards.specs.Writing.{versions_for}
 use Rattle.mv_parts.specs.Journals.{AreAllOver, AreLiveCalls}
-use Rattle.mv_core.specs.Running.{place_among}
+use Rattle.mv_core.specs.Running.{index_among}
 use Rattle.mv_core.specs.Marks.{marks_among}
-use Rattle.mv_core.specs.Places.{ArePlacesOf, AttemptSlots, live_in}
-
--- what is seen of it: the world that its events lead to, and the versions of all items, in shards
-pub record Store : Type 0 where
-  pub base : Ledger
-  pub header : Header
-  pub calls : List CallData
-  pub world : CallWorld
-  pub places : Places
+use Rattle.mv_core.specs.AttemptSlots.{AreSlotsOf, AttemptSlots, live_in}
+use Rattle.mv_core.specs.SeenStores.{Store}
 
 -- the items that were read or written in the shards that are held
 abbrev pub items_or_none : Option Shard → List Item
 items_or_none None = []
 items_or_none (Some s) = keys_of s.chains
 
-abbrev pub items_in : Places → List Item
+abbrev pub items_in : ShardSlots → List Item
 items_in [] = []
 items_in (o ∷ os) = items_or_none o ++ items_in os
 
 -- the marks of their versions
-abbrev pub marks_in : Places → List (Mark Item)
-marks_in places = marks_among (versions_for places) (items_in places)
+abbrev pub marks_in : ShardSlots → List (Mark Item)
+marks_in shard_slots = marks_among (versions_for shard_slots) (items_in shard_slots)
 
 abbrev pub CallSlots : Type 0
 CallSlots = AttemptSlots Item ItemValue
 
 -- what is seen, where a journal's world lists no marks and no reads
-abbrev pub store_shown : Ledger → Header → List CallData → CallWorld → Places → CallSlots → Store
-store_shown base header calls w places slots = record {
+abbrev pub store_shown : Ledger → Header → List CallData → CallWorld → ShardSlots → CallSlots → Store
+store_shown base header calls w shard_slots slots = record {
   base = base;
   header = header;
   calls = calls;
-  places = places;
-  world = record { clock = w.clock; low = w.low; entries = w.entries; marks = marks_in places; live = live_in slots w.live };
+  shard_slots = shard_slots;
+  world = record { clock = w.clock; low = w.low; entries = w.entries; marks = marks_in shard_slots; live = live_in slots w.live };
 }
 
 -- ---- what it keeps
 
 -- The facts of the order theorem, with the marks of its versions, each of which is an entry's; all shards, as far as the
--- journal is; a place for each call. `w` is the journal's world.
-pub record IsKeptStore (base : Ledger) (header : Header) (calls : List CallData) (w : CallWorld) (places : Places) (slots : CallSlots) : Type 0 where
+-- journal is; a slot for each call. `w` is the journal's world.
+pub record IsKeptStore (base : Ledger) (header : Header) (calls : List CallData) (w : CallWorld) (shard_slots : ShardSlots) (slots : CallSlots) : Type 0 where
   pub orderly : IsOrderly base
-  pub store : IsStore (λ value. value) same_item IsOfLedger (meaning_of header calls) (at base) w.low w.clock w.low w.entries (live_in slots w.live) (versions_for places)
-  pub shards : AreAllOver base w.low places
+  pub store : IsStore (λ value. value) same_item IsOfLedger (meaning_of header calls) (at base) w.low w.clock w.low w.entries (live_in slots w.live) (versions_for shard_slots)
+  pub shards : AreAllOver base w.low shard_slots
   pub are_calls : AreOfCalls calls w.entries
   pub live_calls : AreLiveCalls calls w.live
   pub count : length slots ≡ length calls
-  pub attempts : ArePlacesOf w.live slots
+  pub attempts : AreSlotsOf w.live slots
 
 -- ---- what its calls do
 
@@ -81,9 +74,9 @@ pub record IsFirstRead (old new : Store) (n t : ℕ) (x : Item) (v : ItemValue) 
   pub number : attempt.number ≡ n
   pub first : value_in attempt.reads x ≡ None
   pub value : v ≡ (version_below same_item (at old.base) old.world.entries (suc t) x).1
-  pub event : IsSameWorld same_item (at old.base) new.world (after_read same_item (at old.base) old.world t (place_among attempt.reads x) x)
-  pub versions : (y : Item) → versions_for new.places y ≡ after_item_read same_item t x (versions_for old.places) y
-  pub others : new ≡ record old { world = new.world; places = new.places }
+  pub event : IsSameWorld same_item (at old.base) new.world (after_read same_item (at old.base) old.world t (index_among attempt.reads x) x)
+  pub versions : (y : Item) → versions_for new.shard_slots y ≡ after_item_read same_item t x (versions_for old.shard_slots) y
+  pub others : new ≡ record old { world = new.world; shard_slots = new.shard_slots }
 
 -- an item that was read gives its value again, and nothing changes
 pub record IsReadAgain (old new : Store) (n t : ℕ) (x : Item) (v : ItemValue) : Type 0 where
@@ -99,21 +92,21 @@ pub record IsPrune (old new : Store) (t : ℕ) : Type 0 where
   pub event : new.world ≡ after_prune old.world t new.world.marks
   pub same : HaveSameMarks same_item (at old.base) new.world.low old.world.entries old.world.marks new.world.marks
   pub marks : KeepsNeededMarks same_item (at old.base) new.world.low old.world.entries old.world.marks new.world.marks
-  pub versions : (x : Item) → versions_for new.places x ≡ versions_from new.world.low (versions_for old.places x)
-  pub others : new ≡ record old { world = new.world; places = new.places }
+  pub versions : (x : Item) → versions_for new.shard_slots x ≡ versions_from new.world.low (versions_for old.shard_slots x)
+  pub others : new ≡ record old { world = new.world; shard_slots = new.shard_slots }
 
--- ---- a read of the attempt at a place
+-- ---- a read of the attempt in a slot
 
-pub record IsReadPlace (old new : Places) (slots new_slots : CallSlots) (i : ℕ) (x : Item) (v : ItemValue) : Type 0 where
+pub record IsReadSlot (old new : ShardSlots) (slots new_slots : CallSlots) (i : ℕ) (x : Item) (v : ItemValue) : Type 0 where
   pub before : CallAttempt
   pub after : CallAttempt
   pub found : get_or slots i None ≡ Some before
   pub read : IsHeldRead old new before after x v
   pub others : new_slots ≡ set slots i (Some after)
 
-abbrev pub IsPrunedFor : Places → Option CallAttempt → Item → Type 0
-IsPrunedFor places None x = ⊥
-IsPrunedFor places (Some a) x = IsHeldPruned places a x
+abbrev pub IsPrunedFor : ShardSlots → Option CallAttempt → Item → Type 0
+IsPrunedFor shard_slots None x = ⊥
+IsPrunedFor shard_slots (Some a) x = IsHeldPruned shard_slots a x
 
-abbrev pub IsPrunedPlace : Places → CallSlots → ℕ → Item → Type 0
-IsPrunedPlace places slots i x = IsPrunedFor places (get_or slots i None) x
+abbrev pub IsPrunedAttempt : ShardSlots → CallSlots → ℕ → Item → Type 0
+IsPrunedAttempt shard_slots slots i x = IsPrunedFor shard_slots (get_or slots i None) x

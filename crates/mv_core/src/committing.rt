@@ -1,7 +1,7 @@
-//! Commits of the attempt at a place.
+//! Commits of the attempt in a slot.
 
 ghost use Rattle.std.specs.Prelude.{◌≡◌, None, Some, IfErr, IfOk, IsSome, OnErr, get_or};
-ghost use Rattle.mv_core.specs.Commits.{AreAllHeld, IsCommittedPlace, IsRefusedFor, store_error};
+ghost use Rattle.mv_core.specs.Commits.{AreAllHeld, IsCommittedSlot, IsRefusedFor, store_error};
 
 use crate::faults::{CommitError, CommitFault};
 use avm_run::Finished;
@@ -11,32 +11,32 @@ use teal_value::Failure;
 
 /// A commit that the journal refused.
 #[derive(Drop)]
-pub(crate) struct RefusedPlace {
+pub(crate) struct RefusedAttempt {
     pub error: mv_parts::CommitError,
     pub finished: Finished,
 }
 
-/// Commits a finished call, for the attempt at a place, which is then free.
+/// Commits a finished call, for the attempt in a slot, which is then free.
 pub(crate) fn commit_at(
     journal: &mut Journal,
     held: &mut Held,
     attempts: &mut Vec<Option<Attempt>>,
-    place: usize,
+    index: usize,
     finished: Finished,
-) -> Result<u64, RefusedPlace>
+) -> Result<u64, RefusedAttempt>
     requires held { AreAllHeld held.old }
-    requires there { IsSome (get_or attempts.old.items place None) }
-    ensures ok { IfOk result (λ timestamp. IsCommittedPlace journal.old journal.new held.old held.new attempts.old.items attempts.new.items place finished timestamp) }
-    ensures refused { IfErr result (λ refused. IsRefusedFor journal.old held.old (get_or attempts.old.items place None) finished refused.error) }
+    requires there { IsSome (get_or attempts.old.items index None) }
+    ensures ok { IfOk result (λ timestamp. IsCommittedSlot journal.old journal.new held.old held.new attempts.old.items attempts.new.items index finished timestamp) }
+    ensures refused { IfErr result (λ refused. IsRefusedFor journal.old held.old (get_or attempts.old.items index None) finished refused.error) }
     ensures back { IfErr result (λ refused. refused.finished ≡ finished) }
     ensures unchanged { OnErr result ((journal.new ≡ journal.old) × (held.new ≡ held.old) × (attempts.new.items ≡ attempts.old.items)) }
 {
-    match attempts[place].take() {
+    match attempts[index].take() {
         Some(attempt) => match journal.commit(held, attempt, finished) {
             Ok(timestamp) => Ok(timestamp),
             Err(refused) => {
-                attempts[place] = Some(refused.attempt);
-                Err(RefusedPlace {
+                attempts[index] = Some(refused.attempt);
+                Err(RefusedAttempt {
                     error: refused.error,
                     finished: refused.finished,
                 })

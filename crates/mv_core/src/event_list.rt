@@ -2,10 +2,11 @@
 
 ghost use Rattle.std.specs.Prelude.{◌≡◌, [], None, Some, IfOk, OnOk, replicate};
 ghost use Rattle.std.specs.Arc.{arc_value};
-ghost use Rattle.avm_ops.specs.Objects.{IsFull};
+ghost use Rattle.avm_ops.specs.OpSets.{IsFull};
 ghost use Rattle.mv_parts.specs.Opening.{open_fault};
 ghost use Rattle.mv_core.specs.declared.world.Worker.TheVariants.{Idle};
-ghost use Rattle.mv_core.specs.Worlds.{AreLiveIn, AreSound, IsRun, IsRunTo, IsStep, input_of, worker_in};
+ghost use Rattle.mv_core.specs.Worlds.{AreLiveIn, AreSound, IsRun, IsRunTo, IsStep, input_of};
+ghost use Rattle.mv_core.specs.WorkerSteps.{worker_in};
 
 use crate::running::Event;
 use crate::steps::work;
@@ -117,14 +118,14 @@ fn act(
     requires own { worker_in event ≡ Some number }
     ensures { OnOk result (IsStep event store.old store.new workers.old.items workers.new.items) }
 {
-    let place = usize::from(number);
-    if place >= workers.len() {
+    let index = usize::from(number);
+    if index >= workers.len() {
         return Ok(());
     }
-    let worker = mem::replace(&mut workers[place], Worker::Idle);
+    let worker = mem::replace(&mut workers[index], Worker::Idle);
     match work(alloc, ops, store, worker, event) {
         Ok(after) => {
-            workers[place] = after;
+            workers[index] = after;
             Ok(())
         }
         Err(refused) => Err(refused),

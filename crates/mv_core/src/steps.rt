@@ -1,8 +1,9 @@
 //! What a worker's event makes of its attempt and of the store.
 
 ghost use Rattle.std.specs.Prelude.{◌≡◌, Some, IfOk, IsSome};
-ghost use Rattle.avm_ops.specs.Objects.{IsFull};
-ghost use Rattle.mv_core.specs.Worlds.{TicketAsksFor, TicketHasEnded, IsAbandonBy, IsAdvanced, IsBegun, IsBegunBy, IsCommit, IsCommitBy, IsGoing, IsLiveIfAny, IsLiveWith, IsReadByStore, IsReadBy, IsSoundWorker, IsWork, attempt_by, attempt_of, input_of, reads_or_none, worker_in};
+ghost use Rattle.avm_ops.specs.OpSets.{IsFull};
+ghost use Rattle.mv_core.specs.Worlds.{TicketAsksFor, TicketHasEnded, IsLiveWith, IsSoundWorker, attempt_by, attempt_of, input_of, reads_or_none};
+ghost use Rattle.mv_core.specs.WorkerSteps.{IsAbandonBy, IsAdvanced, IsBegun, IsBegunBy, IsCommit, IsCommitBy, IsGoing, IsLiveIfAny, IsReadByStore, IsReadBy, IsWork, worker_in};
 
 use crate::faults::{CommitFault, RefusedCommit};
 use crate::running::Event;

@@ -9,13 +9,14 @@ ghost use Rattle.mv_history.specs.History.{entries_below};
 ghost use Rattle.mv_history.specs.Schedule.{IsConsistentWorld};
 ghost use Rattle.mv_history.specs.World.{after_abandon, after_begin};
 ghost use Rattle.mv_agreement.specs.Stores.{HoldEntries};
-ghost use Rattle.mv_calls.specs.CallHistory.{call_of, meaning_of, same_item};
+ghost use Rattle.mv_calls.specs.CallHistory.{meaning_of, same_item};
+ghost use Rattle.mv_calls.specs.CallNumbers.{call_of};
 ghost use Rattle.mv_calls.specs.SerialCalls.{AreSerialCalls, ledger_of};
 ghost use Rattle.mv_shards.specs.Writing.{versions_for};
 ghost use Rattle.mv_parts.specs.Journals.{IsBeginRefusal, begin_fault};
 ghost use Rattle.mv_core.specs.declared.faults.ReadFault.TheVariants.{Unknown};
 ghost use Rattle.mv_core.specs.declared.faults.StateFault.TheVariants.{Pruned};
-ghost use Rattle.mv_core.specs.Places.{HasLiveNumber};
+ghost use Rattle.mv_core.specs.AttemptSlots.{HasLiveNumber};
 ghost use Rattle.std.specs.Arc.{arc_value};
 ghost use Rattle.mv_parts.specs.Opening.{IsOpenRefusal, open_fault};
 ghost use Rattle.mv_core.specs.Calls.{as_journal, first_store};
@@ -26,9 +27,9 @@ use crate::committing::{commit_at, store_error};
 use crate::faults::{
     AbandonFault, CommitFault, ReadError, ReadFault, RefusedCommit, StateError, StateFault,
 };
-use crate::opening::empty_places;
+use crate::opening::empty_slots;
 use crate::reading::read_at;
-use crate::ticket::{Ticket, place_of};
+use crate::ticket::{Ticket, index_of};
 use avm_call::Call;
 use avm_items::{Item, ItemValue};
 use avm_ledger::{Header, Ledger};
@@ -41,7 +42,7 @@ use std::marker::Model;
 use std::sync::Arc;
 use teal_value::Failure;
 
-/// A journal, all shards, and a place for the attempt of each call.
+/// A journal, all shards, and a slot for the attempt of each call.
 #[derive(Drop)]
 pub struct Store {
     pub(crate) journal: Journal,
@@ -51,7 +52,7 @@ pub struct Store {
 
 impl Model for Store {
     ghost use Rattle.mv_core.specs.Calls.{IsKeptByJournal, shown_by};
-    ghost use Rattle.mv_core.specs.Stores.{Store};
+    ghost use Rattle.mv_core.specs.SeenStores.{Store};
 
     ghost Value = { Store };
 
@@ -75,7 +76,7 @@ impl Store {
         let count = calls.len();
         base.holds();
         match open_parts(alloc, base, header, calls) {
-            Ok((journal, held)) => match empty_places(alloc, count) {
+            Ok((journal, held)) => match empty_slots(alloc, count) {
                 Ok(attempts) => Ok(Store {
                     journal,
                     held,
@@ -112,8 +113,8 @@ impl Store {
         ensures unchanged { OnErr result (self.new ≡ self.old) }
         ensures unknown { IsErrOf result (Fault Unknown) ↔ (HasLiveNumber self.old.world.live ticket.now.number ticket.now.timestamp → ⊥) }
     {
-        match place_of(&self.attempts, ticket) {
-            Some(place) => match read_at(&mut self.held, &mut self.attempts, place, item) {
+        match index_of(&self.attempts, ticket) {
+            Some(index) => match read_at(&mut self.held, &mut self.attempts, index, item) {
                 Ok(value) => Ok(value),
                 Err(Failure::Memory) => Err(Failure::Memory),
                 Err(Failure::Fault(_pruned)) => unreachable!(),
@@ -132,8 +133,8 @@ impl Store {
         ensures back { IfErr result (λ refused. refused.finished ≡ finished) }
         ensures unchanged { OnErr result (self.new ≡ self.old) }
     {
-        match place_of(&self.attempts, ticket) {
-            Some(place) => {
+        match index_of(&self.attempts, ticket) {
+            Some(index) => {
                 // What a finished call and a journal keep, as they say.
                 finished.holds();
                 self.journal.holds();
@@ -141,7 +142,7 @@ impl Store {
                     &mut self.journal,
                     &mut self.held,
                     &mut self.attempts,
-                    place,
+                    index,
                     finished,
                 ) {
                     Ok(timestamp) => Ok(timestamp),
@@ -165,8 +166,8 @@ impl Store {
         ensures unknown { OnErr result (HasLiveNumber self.old.world.live ticket.now.number ticket.now.timestamp → ⊥) }
         ensures unchanged { OnErr result (self.new ≡ self.old) }
     {
-        match place_of(&self.attempts, ticket) {
-            Some(place) => match self.attempts[place].take() {
+        match index_of(&self.attempts, ticket) {
+            Some(index) => match self.attempts[index].take() {
                 Some(attempt) => match self.journal.abandon(attempt) {
                     Ok(()) => Ok(()),
                     Err(_back) => unreachable!(),
@@ -199,7 +200,7 @@ impl Store {
     /// How many versions of an item are held: one where no commit has written it. It takes no memory, and looks only at
     /// the item's own versions.
     pub fn versions(&self, item: &Item) -> usize
-        ensures { result ≡ length (versions_for self.now.places item.now) }
+        ensures { result ≡ length (versions_for self.now.shard_slots item.now) }
     {
         self.held.version_count(item)
     }
@@ -244,7 +245,7 @@ impl Store {
     pub fn holds(&self)
         ensures serial { AreSerialCalls self.now.base self.now.header self.now.calls self.now.world }
         ensures consistent { IsConsistentWorld same_item IsOfLedger (meaning_of self.now.header self.now.calls) (at self.now.base) self.now.world }
-        ensures versions { HoldEntries (λ value. value) same_item (at self.now.base) self.now.world.low self.now.world.entries (versions_for self.now.places) }
+        ensures versions { HoldEntries (λ value. value) same_item (at self.now.base) self.now.world.low self.now.world.entries (versions_for self.now.shard_slots) }
     {
         let _count = self.attempts.len();
         every_consistent_world_of_calls_is_serial();

@@ -1,7 +1,7 @@
 //! Tickets.
 
 ghost use Rattle.std.specs.Prelude.{IfNone, IfSome};
-ghost use Rattle.mv_core.specs.Places.{IsNowhere, IsPlaced};
+ghost use Rattle.mv_core.specs.AttemptSlots.{IsNowhere, IsAttemptAt};
 
 use mv_shards::Attempt;
 
@@ -15,22 +15,22 @@ pub struct Ticket {
     pub timestamp: u64,
 }
 
-/// The place of a ticket's attempt.
-pub(crate) fn place_of(attempts: &[Option<Attempt>], ticket: &Ticket) -> Option<usize>
-    ensures placed { IfSome result (λ place. IsPlaced attempts.now ticket.now.number ticket.now.timestamp place) }
+/// The index of a ticket's attempt.
+pub(crate) fn index_of(attempts: &[Option<Attempt>], ticket: &Ticket) -> Option<usize>
+    ensures attempt { IfSome result (λ index. IsAttemptAt attempts.now ticket.now.number ticket.now.timestamp index) }
     ensures nowhere { IfNone result (IsNowhere attempts.now ticket.now.number ticket.now.timestamp) }
 {
     if ticket.number == 0 {
         return None;
     }
-    let place = ticket.number as usize - 1;
-    if place >= attempts.len() {
+    let index = ticket.number as usize - 1;
+    if index >= attempts.len() {
         return None;
     }
-    match &attempts[place] {
+    match &attempts[index] {
         Some(attempt) => {
             if attempt.timestamp() == ticket.timestamp {
-                Some(place)
+                Some(index)
             } else {
                 None
             }

@@ -24,12 +24,12 @@ module _ {Item Value : Type 0} where
       at_test c (equal k) rest = rest
       at_test c (unequal k) rest = (k, rest)
 
-  pub all_with_read : (P : Attempt Item Value → Type 0) (t place : ℕ) (read : Item × Value) (live : List (Attempt Item Value))
-      → ((a : Attempt Item Value) → a.timestamp ≡ t → P a → P (record a { reads = insert a.reads place read })) → AllByRecursion P live → AllByRecursion P (attempts_with_read t place read live)
-  all_with_read P t place read [] f h = tt
-  all_with_read P t place read (a ∷ as') f h = at_test (a.timestamp == t) (equals a.timestamp t) (all_with_read P t place read as' f h.1)
+  pub all_with_read : (P : Attempt Item Value → Type 0) (t index : ℕ) (read : Item × Value) (live : List (Attempt Item Value))
+      → ((a : Attempt Item Value) → a.timestamp ≡ t → P a → P (record a { reads = insert a.reads index read })) → AllByRecursion P live → AllByRecursion P (attempts_with_read t index read live)
+  all_with_read P t index read [] f h = tt
+  all_with_read P t index read (a ∷ as') f h = at_test (a.timestamp == t) (equals a.timestamp t) (all_with_read P t index read as' f h.1)
     where
-      at_test : (c : Bool) → Equals a.timestamp t c → AllByRecursion P (attempts_with_read t place read as') → AllByRecursion P (if c then record a { reads = insert a.reads place read } ∷ as' else a ∷ attempts_with_read t place read as')
+      at_test : (c : Bool) → Equals a.timestamp t c → AllByRecursion P (attempts_with_read t index read as') → AllByRecursion P (if c then record a { reads = insert a.reads index read } ∷ as' else a ∷ attempts_with_read t index read as')
       at_test c (equal k) rest = (f a k h.0, h.1)
       at_test c (unequal k) rest = (h.0, rest)
 
@@ -69,28 +69,28 @@ module _ {Item Value : Type 0} where
       at_test d (equal k) rest = absurd (h.0 k)
       at_test d (unequal k) rest = rest
 
-  pub attempt_at-with_read : (t place : ℕ) (read : Item × Value) (a : Attempt Item Value) (live : List (Attempt Item Value)) → attempt_at t live ≡ Some a
-      → attempt_at t (attempts_with_read t place read live) ≡ Some (record a { reads = insert a.reads place read })
-  attempt_at-with_read t place read a [] h = absurd cc
-  attempt_at-with_read t place read a (b ∷ bs) h = at_test (b.timestamp == t) refl h (attempt_at-with_read t place read a bs)
+  pub attempt_at-with_read : (t index : ℕ) (read : Item × Value) (a : Attempt Item Value) (live : List (Attempt Item Value)) → attempt_at t live ≡ Some a
+      → attempt_at t (attempts_with_read t index read live) ≡ Some (record a { reads = insert a.reads index read })
+  attempt_at-with_read t index read a [] h = absurd cc
+  attempt_at-with_read t index read a (b ∷ bs) h = at_test (b.timestamp == t) refl h (attempt_at-with_read t index read a bs)
     where
       at_test : (c : Bool) → (b.timestamp == t) ≡ c → (if c then Some b else attempt_at t bs) ≡ Some a
-          → (attempt_at t bs ≡ Some a → attempt_at t (attempts_with_read t place read bs) ≡ Some (record a { reads = insert a.reads place read }))
-          → attempt_at t (if c then record b { reads = insert b.reads place read } ∷ bs else b ∷ attempts_with_read t place read bs) ≡ Some (record a { reads = insert a.reads place read })
+          → (attempt_at t bs ≡ Some a → attempt_at t (attempts_with_read t index read bs) ≡ Some (record a { reads = insert a.reads index read }))
+          → attempt_at t (if c then record b { reads = insert b.reads index read } ∷ bs else b ∷ attempts_with_read t index read bs) ≡ Some (record a { reads = insert a.reads index read })
       at_test true same is rest =
-          ap (λ c. if c then Some (record b { reads = insert b.reads place read }) else attempt_at t bs) same ∙ ap (λ (x : Attempt Item Value). Some (record x { reads = insert x.reads place read })) (same_Some _ _ is)
-      at_test false other is rest = ap (λ c. if c then Some b else attempt_at t (attempts_with_read t place read bs)) other ∙ rest is
+          ap (λ c. if c then Some (record b { reads = insert b.reads index read }) else attempt_at t bs) same ∙ ap (λ (x : Attempt Item Value). Some (record x { reads = insert x.reads index read })) (same_Some _ _ is)
+      at_test false other is rest = ap (λ c. if c then Some b else attempt_at t (attempts_with_read t index read bs)) other ∙ rest is
 
-  pub attempt_at-other_read : (s t place : ℕ) (read : Item × Value) (live : List (Attempt Item Value)) → s ≢ t → attempt_at s (attempts_with_read t place read live) ≡ attempt_at s live
-  attempt_at-other_read s t place read [] other = refl
-  attempt_at-other_read s t place read (b ∷ bs) other = at_test (b.timestamp == t) (equals b.timestamp t) (attempt_at-other_read s t place read bs other)
+  pub attempt_at-other_read : (s t index : ℕ) (read : Item × Value) (live : List (Attempt Item Value)) → s ≢ t → attempt_at s (attempts_with_read t index read live) ≡ attempt_at s live
+  attempt_at-other_read s t index read [] other = refl
+  attempt_at-other_read s t index read (b ∷ bs) other = at_test (b.timestamp == t) (equals b.timestamp t) (attempt_at-other_read s t index read bs other)
     where
-      at_same : b.timestamp ≡ t → (c : Bool) → Equals b.timestamp s c → (if c then Some (record b { reads = insert b.reads place read }) else attempt_at s bs) ≡ (if c then Some b else attempt_at s bs)
+      at_same : b.timestamp ≡ t → (c : Bool) → Equals b.timestamp s c → (if c then Some (record b { reads = insert b.reads index read }) else attempt_at s bs) ≡ (if c then Some b else attempt_at s bs)
       at_same e c (equal k) = absurd (other (sym k ∙ e))
       at_same e c (unequal k) = refl
 
-      at_test : (c : Bool) → Equals b.timestamp t c → attempt_at s (attempts_with_read t place read bs) ≡ attempt_at s bs
-          → attempt_at s (if c then record b { reads = insert b.reads place read } ∷ bs else b ∷ attempts_with_read t place read bs) ≡ attempt_at s (b ∷ bs)
+      at_test : (c : Bool) → Equals b.timestamp t c → attempt_at s (attempts_with_read t index read bs) ≡ attempt_at s bs
+          → attempt_at s (if c then record b { reads = insert b.reads index read } ∷ bs else b ∷ attempts_with_read t index read bs) ≡ attempt_at s (b ∷ bs)
       at_test c (equal k) rest = at_same k (b.timestamp == s) (equals b.timestamp s)
       at_test c (unequal k) rest = ap (λ o. if b.timestamp == s then Some b else o) rest
 
@@ -111,11 +111,11 @@ module _ {Item Value : Type 0} where
   live_count-push n a [] = omega arith
   live_count-push n a (b ∷ bs) = omega (arith, live_count-push n a bs)
 
-  pub live_count-with_read : (n t place : ℕ) (read : Item × Value) (live : List (Attempt Item Value)) → live_count n (attempts_with_read t place read live) ≡ live_count n live
-  live_count-with_read n t place read [] = refl
-  live_count-with_read n t place read (a ∷ as') = at_test (a.timestamp == t) (live_count-with_read n t place read as')
+  pub live_count-with_read : (n t index : ℕ) (read : Item × Value) (live : List (Attempt Item Value)) → live_count n (attempts_with_read t index read live) ≡ live_count n live
+  live_count-with_read n t index read [] = refl
+  live_count-with_read n t index read (a ∷ as') = at_test (a.timestamp == t) (live_count-with_read n t index read as')
     where
-      at_test : (c : Bool) → live_count n (attempts_with_read t place read as') ≡ live_count n as' → live_count n (if c then record a { reads = insert a.reads place read } ∷ as' else a ∷ attempts_with_read t place read as') ≡ live_count n (a ∷ as')
+      at_test : (c : Bool) → live_count n (attempts_with_read t index read as') ≡ live_count n as' → live_count n (if c then record a { reads = insert a.reads index read } ∷ as' else a ∷ attempts_with_read t index read as') ≡ live_count n (a ∷ as')
       at_test true rest = refl
       at_test false rest = ap (λ k. (if a.number == n then 1 else 0) + k) rest
 

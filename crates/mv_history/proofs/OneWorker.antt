@@ -19,23 +19,23 @@ module _ {Item Value : Type 0} where
   numbers-begin a [] = refl
   numbers-begin a (b ∷ bs) = ap (λ l. b.number ∷ l) (numbers-begin a bs)
 
-  numbers-read : (t place : ℕ) (read : Item × Value) (live : List (Attempt Item Value)) → map (λ b. b.number) (attempts_with_read t place read live) ≡ map (λ b. b.number) live
-  numbers-read t place read [] = refl
-  numbers-read t place read (a ∷ as') = at_test (a.timestamp == t) (numbers-read t place read as')
+  numbers-read : (t index : ℕ) (read : Item × Value) (live : List (Attempt Item Value)) → map (λ b. b.number) (attempts_with_read t index read live) ≡ map (λ b. b.number) live
+  numbers-read t index read [] = refl
+  numbers-read t index read (a ∷ as') = at_test (a.timestamp == t) (numbers-read t index read as')
     where
-      at_test : (c : Bool) → map (λ b. b.number) (attempts_with_read t place read as') ≡ map (λ b. b.number) as'
-          → map (λ b. b.number) (if c then record a { reads = insert a.reads place read } ∷ as' else a ∷ attempts_with_read t place read as') ≡ a.number ∷ map (λ b. b.number) as'
+      at_test : (c : Bool) → map (λ b. b.number) (attempts_with_read t index read as') ≡ map (λ b. b.number) as'
+          → map (λ b. b.number) (if c then record a { reads = insert a.reads index read } ∷ as' else a ∷ attempts_with_read t index read as') ≡ a.number ∷ map (λ b. b.number) as'
       at_test true rest = refl
       at_test false rest = ap (λ l. a.number ∷ l) rest
 
-  alone_after_read : (clock t place : ℕ) (read : Item × Value) (live : List (Attempt Item Value)) → IsAlone clock live → IsAlone clock (attempts_with_read t place read live)
-  alone_after_read clock t place read [] h = absurd h
-  alone_after_read clock t place read (a ∷ []) h = at_test (a.timestamp == t)
+  alone_after_read : (clock t index : ℕ) (read : Item × Value) (live : List (Attempt Item Value)) → IsAlone clock live → IsAlone clock (attempts_with_read t index read live)
+  alone_after_read clock t index read [] h = absurd h
+  alone_after_read clock t index read (a ∷ []) h = at_test (a.timestamp == t)
     where
-      at_test : (c : Bool) → IsAlone clock (if c then record a { reads = insert a.reads place read } ∷ [] else a ∷ [])
+      at_test : (c : Bool) → IsAlone clock (if c then record a { reads = insert a.reads index read } ∷ [] else a ∷ [])
       at_test true = h
       at_test false = h
-  alone_after_read clock t place read (a ∷ b ∷ bs) h = absurd h
+  alone_after_read clock t index read (a ∷ b ∷ bs) h = absurd h
 
   -- the attempt that commits is the one that is live
   pub record CommitsAlone (clock t number : ℕ) (live : List (Attempt Item Value)) : Type 0 where
@@ -79,9 +79,9 @@ module _ {Item Value Outcome : Type 0} (same : Item → Item → Bool) (Proper :
       (subst (λ live. IsAlone (w.clock + 1) (live ++ fresh_attempt number (w.clock + 1) ∷ [])) (sym at.0) refl, all_map (λ e. e.timestamp ≤ w.clock) _ w.entries (λ e h. omega arith) at.1)
       ∙ ap (λ l. (map (λ e. e.number) w.entries ++ l) ++ numbers_begun events) (numbers-begin (fresh_attempt number (w.clock + 1)) w.live)
       ∙ simp append_assoc
-  runs_in_order Busy (Read t place x ∷ events) w apply runs at =
-      runs_in_order Busy events (after_event same base w (Read t place x)) apply.1 runs (alone_after_read w.clock t place _ w.live at.0, at.1)
-      ∙ ap (λ l. (map (λ e. e.number) w.entries ++ l) ++ numbers_begun events) (numbers-read t place _ w.live)
+  runs_in_order Busy (Read t index x ∷ events) w apply runs at =
+      runs_in_order Busy events (after_event same base w (Read t index x)) apply.1 runs (alone_after_read w.clock t index _ w.live at.0, at.1)
+      ∙ ap (λ l. (map (λ e. e.number) w.entries ++ l) ++ numbers_begun events) (numbers-read t index _ w.live)
   runs_in_order Busy (Commit e ∷ events) w apply runs at =
       runs_in_order Idle events (after_event same base w (Commit e)) apply.1 runs (
         alone.none_left,
@@ -106,7 +106,7 @@ module _ {Item Value Outcome : Type 0} (same : Item → Item → Bool) (Proper :
           ∙ ap (λ l. map (λ f. f.number) w.entries ++ l) (sym alone.numbers)
   runs_in_order Idle (Prune t marks ∷ events) w apply runs at = runs_in_order Idle events (after_event same base w (Prune t marks)) apply.1 runs at
   runs_in_order Busy (Prune t marks ∷ events) w apply runs at = runs_in_order Busy events (after_event same base w (Prune t marks)) apply.1 runs at
-  runs_in_order Idle (Read t place x ∷ events) w apply runs at = absurd runs
+  runs_in_order Idle (Read t index x ∷ events) w apply runs at = absurd runs
   runs_in_order Idle (Commit e ∷ events) w apply runs at = absurd runs
   runs_in_order Idle (Abandon t ∷ events) w apply runs at = absurd runs
   runs_in_order Busy (Begin number ∷ events) w apply runs at = absurd runs

@@ -26,19 +26,19 @@ module _ {Item Value : Type 0} where
   length-begin a [] = refl
   length-begin a (b ∷ bs) = ap suc (length-begin a bs)
 
-  rise-read : (clock bound t place : ℕ) (read : Item × Value) (live : List (Attempt Item Value)) → RiseTo clock bound live → RiseTo clock bound (attempts_with_read t place read live)
-  rise-read clock bound t place read [] r = r
-  rise-read clock bound t place read (a ∷ as') r = at_test (a.timestamp == t) (rise-read clock a.timestamp t place read as' r.1)
+  rise-read : (clock bound t index : ℕ) (read : Item × Value) (live : List (Attempt Item Value)) → RiseTo clock bound live → RiseTo clock bound (attempts_with_read t index read live)
+  rise-read clock bound t index read [] r = r
+  rise-read clock bound t index read (a ∷ as') r = at_test (a.timestamp == t) (rise-read clock a.timestamp t index read as' r.1)
     where
-      at_test : (c : Bool) → RiseTo clock a.timestamp (attempts_with_read t place read as') → RiseTo clock bound (if c then record a { reads = insert a.reads place read } ∷ as' else a ∷ attempts_with_read t place read as')
+      at_test : (c : Bool) → RiseTo clock a.timestamp (attempts_with_read t index read as') → RiseTo clock bound (if c then record a { reads = insert a.reads index read } ∷ as' else a ∷ attempts_with_read t index read as')
       at_test true rest = r
       at_test false rest = (r.0, rest)
 
-  length-read : (t place : ℕ) (read : Item × Value) (live : List (Attempt Item Value)) → length (attempts_with_read t place read live) ≡ length live
-  length-read t place read [] = refl
-  length-read t place read (a ∷ as') = at_test (a.timestamp == t) (length-read t place read as')
+  length-read : (t index : ℕ) (read : Item × Value) (live : List (Attempt Item Value)) → length (attempts_with_read t index read live) ≡ length live
+  length-read t index read [] = refl
+  length-read t index read (a ∷ as') = at_test (a.timestamp == t) (length-read t index read as')
     where
-      at_test : (c : Bool) → length (attempts_with_read t place read as') ≡ length as' → length (if c then record a { reads = insert a.reads place read } ∷ as' else a ∷ attempts_with_read t place read as') ≡ suc (length as')
+      at_test : (c : Bool) → length (attempts_with_read t index read as') ≡ length as' → length (if c then record a { reads = insert a.reads index read } ∷ as' else a ∷ attempts_with_read t index read as') ≡ suc (length as')
       at_test true rest = refl
       at_test false rest = ap suc rest
 
@@ -88,11 +88,11 @@ module _ {Item Value Outcome : Type 0} (same : Item → Item → Bool) (Proper :
         rising = rise-begin w.clock 0 number w.live k.rising;
         counted = let counted : length w.entries + length w.live ≡ w.clock = k.counted in omega (arith, length-begin (fresh_attempt number (w.clock + 1)) w.live);
       }
-  complete_after_event w (Read t place x) applies plain k =
+  complete_after_event w (Read t index x) applies plain k =
       record {
         unpruned = k.unpruned;
-        rising = rise-read w.clock 0 t place _ w.live k.rising;
-        counted = rw (length-read t place _ w.live) k.counted;
+        rising = rise-read w.clock 0 t index _ w.live k.rising;
+        counted = rw (length-read t index _ w.live) k.counted;
       }
   complete_after_event w (Commit e) applies plain k =
       record {

@@ -95,13 +95,13 @@ module _ {Item Value Outcome : Type 0} (same : Item → Item → Bool) (base : I
       ∙ ap (λ n. if same x m.item && (m.version == version) then max m.reader n else n) (h x version above)
       ∙ sym (greatest_mark-push same m marks' x version)
 
-  after_same_read : (w v : World Item Value Outcome) (t place : ℕ) (x : Item) → IsSameWorld same base w v → IsSameWorld same base (after_read same base w t place x) (after_read same base v t place x)
-  after_same_read w v t place x h =
+  after_same_read : (w v : World Item Value Outcome) (t index : ℕ) (x : Item) → IsSameWorld same base w v → IsSameWorld same base (after_read same base w t index x) (after_read same base v t index x)
+  after_same_read w v t index x h =
       record {
         clock = h.clock;
         low = h.low;
         entries = h.entries;
-        live = ap (λ found. attempts_with_read t place (x, found.1) w.live) same_found ∙ ap (attempts_with_read t place (x, (version_below same base v.entries (suc t) x).1)) h.live;
+        live = ap (λ found. attempts_with_read t index (x, found.1) w.live) same_found ∙ ap (attempts_with_read t index (x, (version_below same base v.entries (suc t) x).1)) h.live;
         marks = subst (λ (found : ℕ × Value). HaveSameMarks same base w.low w.entries (w.marks ++ mark_of (version_below same base w.entries (suc t) x) ∷ []) (v.marks ++ mark_of found ∷ [])) same_found
             (marks_with w.low w.entries (mark_of (version_below same base w.entries (suc t) x)) w.marks v.marks h.marks);
       }
@@ -116,7 +116,7 @@ module _ {Item Value Outcome : Type 0} (same : Item → Item → Bool) (base : I
       → IsSameWorld same base (after_event same base w event) (after_event same base v event')
   after_same_event w v r h (Begin number) event' is = subst (λ f. IsSameWorld same base (after_event same base w (Begin number)) (after_event same base v f)) is
       (record { clock = ap (λ n. n + 1) h.clock; low = h.low; entries = h.entries; live = ap (λ n. w.live ++ fresh_attempt number (n + 1) ∷ []) h.clock ∙ ap (λ l. l ++ fresh_attempt number (v.clock + 1) ∷ []) h.live; marks = h.marks })
-  after_same_event w v r h (Read t place x) event' is = subst (λ f. IsSameWorld same base (after_event same base w (Read t place x)) (after_event same base v f)) is (after_same_read w v t place x h)
+  after_same_event w v r h (Read t index x) event' is = subst (λ f. IsSameWorld same base (after_event same base w (Read t index x)) (after_event same base v f)) is (after_same_read w v t index x h)
   after_same_event w v r h (Commit e) event' is = subst (λ f. IsSameWorld same base (after_event same base w (Commit e)) (after_event same base v f)) is
       (record {
         clock = h.clock;
@@ -133,7 +133,7 @@ module _ {Item Value Outcome : Type 0} (same : Item → Item → Bool) (base : I
       same_low = ap (λ n. max n (lowest_live (min t w.clock) w.live)) h.low ∙ ap (λ n. max v.low (lowest_live (min n w.clock) w.live)) is.0
           ∙ ap (λ n. max v.low (lowest_live (min u n) w.live)) h.clock ∙ ap (λ l. max v.low (lowest_live (min u v.clock) l)) h.live
   after_same_event w v r h (Prune t marks) (Begin number) is = absurd cc
-  after_same_event w v r h (Prune t marks) (Read u place x) is = absurd cc
+  after_same_event w v r h (Prune t marks) (Read u index x) is = absurd cc
   after_same_event w v r h (Prune t marks) (Commit e) is = absurd cc
   after_same_event w v r h (Prune t marks) (Abandon u) is = absurd cc
 

@@ -50,13 +50,13 @@ module _ {Item : Type 0} (same : Item → Item → Bool) where
 
 module _ {Item Value Outcome : Type 0} (same : Item → Item → Bool) (Proper : (Item → Value) → Type 0) (means : CallMeaning Item Value Outcome) (base : Item → Value) where
   -- Read, where marks are a list; `found` is the version below the next timestamp
-  pub schedule_after_marked_read : ((x : Item) → same x x ≡ true) → (clock low t place : ℕ) (x : Item) (found : ℕ × Value) (es : List (Entry Item Value Outcome)) (marks : List (Mark Item)) (live : List (Attempt Item Value)) (a : Attempt Item Value)
+  pub schedule_after_marked_read : ((x : Item) → same x x ≡ true) → (clock low t index : ℕ) (x : Item) (found : ℕ × Value) (es : List (Entry Item Value Outcome)) (marks : List (Mark Item)) (live : List (Attempt Item Value)) (a : Attempt Item Value)
       → attempt_at t live ≡ Some a → version_below same base es (suc t) x ≡ found
       → IsSchedule same base (greatest_mark same marks) clock low es live
-      → IsSchedule same base (greatest_mark same (marks ++ record { item = x; version = found.0; reader = t } ∷ [])) clock low es (attempts_with_read t place (x, found.1) live)
-  schedule_after_marked_read itself clock low t place x found es marks live a is_live is_found k =
-      subst (λ v. IsSchedule same base (greatest_mark same (marks ++ record { item = x; version = v.0; reader = t } ∷ [])) clock low es (attempts_with_read t place (x, v.1) live)) is_found
-      (schedule_after_read same base (greatest_mark same marks) (greatest_mark same (marks ++ record { item = x; version = (version_below same base es (suc t) x).0; reader = t } ∷ [])) clock low t place x es live a is_live
+      → IsSchedule same base (greatest_mark same (marks ++ record { item = x; version = found.0; reader = t } ∷ [])) clock low es (attempts_with_read t index (x, found.1) live)
+  schedule_after_marked_read itself clock low t index x found es marks live a is_live is_found k =
+      subst (λ v. IsSchedule same base (greatest_mark same (marks ++ record { item = x; version = v.0; reader = t } ∷ [])) clock low es (attempts_with_read t index (x, v.1) live)) is_found
+      (schedule_after_read same base (greatest_mark same marks) (greatest_mark same (marks ++ record { item = x; version = (version_below same base es (suc t) x).0; reader = t } ∷ [])) clock low t index x es live a is_live
       (marks_more same (record { item = x; version = (version_below same base es (suc t) x).0; reader = t }) marks)
       (marks_not_more same (record { item = x; version = (version_below same base es (suc t) x).0; reader = t }) marks)
       (is_marked same itself marks x (version_below same base es (suc t) x).0 t)
@@ -69,8 +69,8 @@ module _ {Item Value Outcome : Type 0} (same : Item → Item → Bool) (Proper :
       → IsConsistentWorld same Proper means base w → IsConsistentWorld same Proper means base (after_event same base w event)
   consistent_after_event equality w (Begin number) applies k =
       record { journal = k.journal; schedule = schedule_after_begin same base (greatest_mark same w.marks) w.clock w.low number w.entries w.live applies.0 applies.1 k.schedule }
-  consistent_after_event equality w (Read t place x) applies k =
-      record { journal = k.journal; schedule = schedule_after_marked_read equality.itself w.clock w.low t place x (version_below same base w.entries (suc t) x) w.entries w.marks w.live applies.0 applies.1 refl k.schedule }
+  consistent_after_event equality w (Read t index x) applies k =
+      record { journal = k.journal; schedule = schedule_after_marked_read equality.itself w.clock w.low t index x (version_below same base w.entries (suc t) x) w.entries w.marks w.live applies.0 applies.1 refl k.schedule }
   consistent_after_event equality w (Commit e) applies k =
       consistent_after_commit same Proper means base equality.exact (greatest_mark same w.marks) w.clock w.low w.entries w.live applies.0 e applies.1 applies.2 applies.3 k
   consistent_after_event equality w (Abandon t) applies k =

@@ -119,7 +119,7 @@ pub data Worker : Type 0 where
 abbrev pub RunsEachCall : {Item Value Outcome : Type 0} → Worker → List (Event Item Value Outcome) → Type 0
 RunsEachCall worker [] = Unit {0}
 RunsEachCall Idle (Begin number ∷ events) = RunsEachCall Busy events
-RunsEachCall Busy (Read t place x ∷ events) = RunsEachCall Busy events
+RunsEachCall Busy (Read t index x ∷ events) = RunsEachCall Busy events
 RunsEachCall Busy (Commit e ∷ events) = RunsEachCall Idle events
 RunsEachCall worker (Prune t marks ∷ events) = RunsEachCall worker events
 RunsEachCall worker (event ∷ events) = ⊥

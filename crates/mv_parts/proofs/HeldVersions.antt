@@ -24,17 +24,17 @@ has_after_marks n t None vs = refl
 has_after_marks n t (Some value) vs = has_after_read n t vs
 
 has_inserted : (n : ℕ) (v : Version ItemValue) → v.timestamp ≢ n → (i : ℕ) (vs : List (Version ItemValue)) → has_timestamp n (insert vs i v) ≡ has_timestamp n vs
-has_inserted n v other i vs = at_place i vs
+has_inserted n v other i vs = at_index i vs
   where
     new : (rest : Bool) (b : Bool) → Equals v.timestamp n b → (b || rest) ≡ rest
     new rest b (equal e) = absurd (other e)
     new rest b (unequal e) = refl
 
-    at_place : (i : ℕ) (vs : List (Version ItemValue)) → has_timestamp n (insert vs i v) ≡ has_timestamp n vs
-    at_place zero [] = new false (v.timestamp == n) (equals v.timestamp n)
-    at_place (suc i) [] = new false (v.timestamp == n) (equals v.timestamp n)
-    at_place zero (u ∷ us) = new (has_timestamp n (u ∷ us)) (v.timestamp == n) (equals v.timestamp n)
-    at_place (suc i) (u ∷ us) = ap (λ b. (u.timestamp == n) || b) (at_place i us)
+    at_index : (i : ℕ) (vs : List (Version ItemValue)) → has_timestamp n (insert vs i v) ≡ has_timestamp n vs
+    at_index zero [] = new false (v.timestamp == n) (equals v.timestamp n)
+    at_index (suc i) [] = new false (v.timestamp == n) (equals v.timestamp n)
+    at_index zero (u ∷ us) = new (has_timestamp n (u ∷ us)) (v.timestamp == n) (equals v.timestamp n)
+    at_index (suc i) (u ∷ us) = ap (λ b. (u.timestamp == n) || b) (at_index i us)
 
 -- a write adds the version of its own timestamp alone
 pub has_after_write : (n t : ℕ) → t ≢ n → (o : Option ItemValue) (vs : List (Version ItemValue)) → has_timestamp n (written_where (λ value. value) o t vs) ≡ has_timestamp n vs

@@ -52,21 +52,21 @@ pub(crate) fn entry_of(attempt: Attempt, finished: Finished) -> Entry
     }
 }
 
-/// Adds an entry at its place by timestamp. There is room for it.
+/// Adds an entry at its index by timestamp. There is room for it.
 pub(crate) fn insert_entry(entries: &mut Vec<Entry>, entry: Entry)
     requires room { 0 < vec_capacity entries.old - vec_len entries.old }
     requires rising { IsRising 0 entries.old.items }
     ensures { entries.new.items ≡ entries_with entry entries.old.items }
 {
-    let place = place_of(entries, entry.timestamp);
-    match entries.insert(place, entry) {
+    let index = index_of(entries, entry.timestamp);
+    match entries.insert(index, entry) {
         Ok(()) => {}
         Err(_refused) => unreachable!(),
     }
 }
 
 /// How many entries are not above a timestamp.
-fn place_of(entries: &[Entry], timestamp: u64) -> usize
+fn index_of(entries: &[Entry], timestamp: u64) -> usize
     requires { IsRising 0 entries.now }
     ensures { result ≡ entries_not_above timestamp entries.now }
 {

@@ -4,7 +4,7 @@ ghost use Rattle.std.specs.Prelude.{◌≡◌, ◌+◌, ◌↔◌, ◌<◌, ◌�
 ghost use Rattle.std.specs.Option.{option_copied};
 ghost use Rattle.avm_ledger.specs.Ledgers.{IsOrderly};
 ghost use Rattle.mv_history.specs.World.{after_abandon, after_begin, fresh_attempt, low_after_prune};
-ghost use Rattle.mv_calls.specs.CallHistory.{call_of};
+ghost use Rattle.mv_calls.specs.CallNumbers.{call_of};
 ghost use Rattle.mv_calls.specs.SerialCalls.{AreOfCalls, AreSerialCalls};
 ghost use Rattle.mv_shards.specs.Helds.{ArePruned};
 ghost use Rattle.teal_value.specs.declared.failure.Failure.TheVariants.{Memory};
@@ -164,7 +164,7 @@ impl Journal {
         ensures back { IfErr result (λ refused. (refused.attempt ≡ attempt) × (refused.finished ≡ finished)) }
         ensures unchanged { OnErr result ((self.new ≡ self.old) × (held.new ≡ held.old)) }
     {
-        self.place(held, attempt.reads(), finished.writes());
+        self.add_chains(held, attempt.reads(), finished.writes());
         if let Some(fault) = self.commit_fault(held, &attempt, &finished) {
             return Err(RefusedCommit {
                 error: Failure::Fault(fault),
@@ -177,14 +177,14 @@ impl Journal {
 
     /// Gives what a commit reads and writes chains of their own, in the journal's versions and in the shards that are held,
     /// so that neither its tests nor its writes search for an item that is not there. Nothing that is seen changes.
-    fn place(&mut self, held: &mut Held, reads: &ItemMap, writes: &ItemMap)
+    fn add_chains(&mut self, held: &mut Held, reads: &ItemMap, writes: &ItemMap)
         requires { AreCovered held.old reads.now writes.now }
         ensures { (self.new ≡ self.old) × (held.new ≡ held.old) }
     {
-        self.index.place(reads);
-        self.index.place(writes);
-        held.place(reads);
-        held.place(writes);
+        self.index.add_chains(reads);
+        self.index.add_chains(writes);
+        held.add_chains(reads);
+        held.add_chains(writes);
     }
 
     /// Why an attempt does not commit, other than that memory ran out.

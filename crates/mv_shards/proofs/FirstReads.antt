@@ -14,8 +14,10 @@ use Rattle.avm_items.proofs.Puts.{item_same, item_total}
 use Rattle.mv_chain.specs.declared.Version.{Version}
 use Rattle.mv_chain.specs.Versions.{newest_at, oldest_timestamp, versions_read_at}
 use Rattle.mv_shards.specs.Attempts.{CallAttempt}
-use Rattle.mv_shards.specs.Chains.{AreChains, ChainMap, IsReadable, chain_in, is_untouched, list_or, touched, versions_in, versions_of, versions_or, with_versions}
-use Rattle.mv_shards.specs.Shards.{IsFirstRead, IsMarkedRead, Shard}
+use Rattle.mv_shards.specs.Chains.{versions_in, versions_or, with_versions}
+use Rattle.mv_shards.specs.KeptChains.{AreChains, ChainMap, IsReadable, chain_in, is_untouched, list_or, touched, versions_of}
+use Rattle.mv_shards.specs.Shards.{IsFirstRead, Shard}
+use Rattle.mv_shards.specs.KeptShards.{IsMarkedRead}
 use Rattle.mv_shards.proofs.Touched.{found_inserted, found_touched, marked_touched, sorted_touched, touched_or}
 use Rattle.mv_shards.proofs.OneChain.{some_of}
 

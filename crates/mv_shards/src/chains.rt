@@ -13,7 +13,7 @@ use std::alloc::{AllocError, Global};
 use std::collections::BTreeMap;
 use std::marker::Model;
 
-/// The chains of some items, in the order in which they were made. A chain's number is its place there, and stays.
+/// The chains of some items, in the order in which they were made. A chain's number is its index there, and stays.
 #[derive(Drop)]
 pub(crate) struct Chains {
     numbers: BTreeMap<Item, usize>,
@@ -25,7 +25,7 @@ pub(crate) struct Chains {
 
 impl Model for Chains {
     ghost use Rattle.avm_items.specs.declared.item_value.ItemValue.{ItemValue};
-    ghost use Rattle.mv_shards.specs.Chains.{AreNumbered, ChainMap};
+    ghost use Rattle.mv_shards.specs.KeptChains.{AreNumbered, ChainMap};
 
     ghost Value = { ChainMap ItemValue };
 
@@ -35,7 +35,7 @@ impl Model for Chains {
 }
 
 impl Chains {
-    ghost use Rattle.mv_shards.specs.Chains.{AreChains, IsGrown, IsInstalled, IsMarked, IsReadable, IsRoomier, HasRoomFor, TakesVersion, chain_in, number_in, versions_of};
+    ghost use Rattle.mv_shards.specs.KeptChains.{AreChains, IsGrown, IsInstalled, IsMarked, IsReadable, IsRoomier, HasRoomFor, TakesVersion, chain_in, number_in, versions_of};
 
     /// No chains. It takes no memory.
     pub(crate) fn new(alloc: Global) -> Chains
@@ -138,9 +138,9 @@ impl Chains {
         }
     }
 
-    /// Adds a version to an item's chain, which has a place for it.
+    /// Adds a version to an item's chain, which takes it.
     pub(crate) fn install(&mut self, item: &Item, value: ItemValue, timestamp: u64)
-        requires place { TakesVersion timestamp self.old item.now }
+        requires takes { TakesVersion timestamp self.old item.now }
         requires positive { 0 < timestamp }
         ensures { IsInstalled timestamp item.now value self.old self.new }
     {

@@ -5,16 +5,18 @@ ghost use Rattle.std.proofs.Common.{replicate};
 ghost use Rattle.teal_value.specs.declared.failure.Failure.TheVariants.{Fault};
 ghost use Rattle.mv_shards.specs.declared.read_fault.ReadFault.TheVariants.{Pruned};
 ghost use Rattle.mv_shards.specs.Indexes.{shard_count};
-ghost use Rattle.mv_shards.specs.Helds.{AreAtPlaces, AreFree, AreFreeFrom, AreHeld, IsHeld, IsHeldPruned, IsHeldRead, IsLastTaken, IsPartOrNone, IsTakenFrom, ArePruned, seen_all, seen_or_none};
+ghost use Rattle.mv_shards.specs.Helds.{AreFree, AreHeld, IsHeld, IsHeldPruned, IsHeldRead, IsLastTaken, IsTakenFrom, ArePruned};
+ghost use Rattle.mv_shards.specs.KeptHelds.{AreInSlots, AreFreeFrom, IsPartOrNone, seen_all, seen_or_none};
 ghost use Rattle.avm_items.specs.SameValues.{is_same_value};
-ghost use Rattle.mv_shards.specs.Writing.{AreLow, AreWritten, CanTake, IsAbove, IsFirstForeign, IsLeastWith, IsLowAt, NoneForeign, has_timestamp_in, versions_for};
+ghost use Rattle.mv_shards.specs.Writing.{AreLow, AreWritten, CanTake, IsFirstForeign, IsLowAt, NoneForeign, versions_for};
+ghost use Rattle.mv_shards.specs.PartWriting.{IsAbove, IsLeastWith, has_timestamp_in};
 ghost use Rattle.mv_chain.specs.Versions.{lateness, newest_at};
 
 use crate::attempt::Attempt;
 use crate::index::{SHARD_COUNT, shard_of};
 use crate::part::{Part, has_value, has_version, late, prune, read, version_count};
 use crate::read_fault::ReadError;
-use crate::room::{Parts, place_all};
+use crate::room::{Parts, chain_all};
 use crate::shard::Shard;
 use crate::writing::write_parts;
 use avm_items::{Item, ItemMap, ItemValue};
@@ -22,20 +24,21 @@ use mv_chain::Late;
 use std::alloc::{AllocError, Global};
 use std::marker::Model;
 
-/// Some of the shards, each at the place of its index.
+/// Some of the shards, each at its index.
 #[derive(Drop)]
 pub struct Held {
     parts: Parts,
 }
 
 impl Model for Held {
-    ghost use Rattle.mv_shards.specs.Helds.{AreAtPlaces, Places, seen_all};
+    ghost use Rattle.mv_shards.specs.Helds.{ShardSlots};
+    ghost use Rattle.mv_shards.specs.KeptHelds.{AreInSlots, seen_all};
 
-    ghost Value = { Places };
+    ghost Value = { ShardSlots };
 
     ghost view = { λ h. seen_all h.parts };
 
-    ghost invariant = { λ h. AreAtPlaces h.parts };
+    ghost invariant = { λ h. AreInSlots h.parts };
 }
 
 impl Held {
@@ -58,11 +61,11 @@ impl Held {
         ensures err { OnErr result (IsTakenFrom self.old shard.index × (self.new ≡ self.old)) }
         ensures back { IfErr result (λ back. back ≡ shard) }
     {
-        let place = usize::from(shard.index());
-        if place < end_of(&self.parts) {
+        let index = usize::from(shard.index());
+        if index < end_of(&self.parts) {
             return Err(shard);
         }
-        self.parts[place] = Some(shard.part);
+        self.parts[index] = Some(shard.part);
         Ok(())
     }
 
@@ -101,8 +104,8 @@ impl Held {
         ensures unchanged { OnErr result (self.new ≡ self.old) }
         ensures attempt { OnErr result (attempt.new ≡ attempt.old) }
     {
-        let place = usize::from(shard_of(&item));
-        match &mut self.parts[place] {
+        let index = usize::from(shard_of(&item));
+        match &mut self.parts[index] {
             Some(part) => read(part, attempt, item),
             None => unreachable!(),
         }
@@ -110,11 +113,11 @@ impl Held {
 
     /// Gives each of these items a chain in its shard, if it has none. What is seen of the shards stays, also where memory
     /// is refused. What is asked of an item after that mostly finds it at once.
-    pub fn place(&mut self, items: &ItemMap)
+    pub fn add_chains(&mut self, items: &ItemMap)
         requires { AreHeld self.old items.now }
         ensures { self.new ≡ self.old }
     {
-        let _placed = place_all(&mut self.parts, items);
+        let _placed = chain_all(&mut self.parts, items);
     }
 
     /// Whether a write of an item at a timestamp is late: the version that it would follow was read above it. The
@@ -175,8 +178,8 @@ impl Held {
     pub fn prune(&mut self, timestamp: u64)
         ensures { ArePruned timestamp self.old self.new }
     {
-        for place in 0..SHARD_COUNT {
-            if let Some(part) = &mut self.parts[place] {
+        for index in 0..SHARD_COUNT {
+            if let Some(part) = &mut self.parts[index] {
                 prune(part, timestamp);
             }
         }
@@ -209,16 +212,16 @@ impl Held {
     }
 }
 
-/// The place of the first part whose low mark is above a timestamp, or how many places there are.
+/// The index of the first part whose low mark is above a timestamp, or how many parts there may be.
 fn first_above(parts: &Parts, timestamp: u64) -> usize
-    requires { AreAtPlaces parts.now }
+    requires { AreInSlots parts.now }
     ensures few { result ≤ shard_count }
     ensures low { (i : _) → i < result → IsLowAt timestamp (seen_or_none (get_or parts.now i None)) }
     ensures above { result < shard_count → IsAbove timestamp (seen_or_none (get_or parts.now result None)) }
 {
-    for place in 0..SHARD_COUNT {
-        if is_above(&parts[place], timestamp) {
-            return place;
+    for index in 0..SHARD_COUNT {
+        if is_above(&parts[index], timestamp) {
+            return index;
         }
     }
     SHARD_COUNT
@@ -235,20 +238,20 @@ fn is_above(part: &Option<Part>, timestamp: u64) -> bool
     }
 }
 
-/// The place of an item's shard, where it is below another one and the item has a version at a timestamp there; else that
+/// The index of an item's shard, where it is below another one and the item has a version at a timestamp there; else that
 /// other one.
 fn least_with(parts: &Parts, item: &Item, timestamp: u64, least: usize) -> usize
-    requires places { AreAtPlaces parts.now }
+    requires slots { AreInSlots parts.now }
     requires few { least ≤ shard_count }
     requires low { (i : _) → i < least → IsLowAt timestamp (seen_or_none (get_or parts.now i None)) }
     ensures { IsLeastWith timestamp item.now least (seen_all parts.now) result }
 {
-    let place = usize::from(shard_of(item));
-    if least <= place {
+    let index = usize::from(shard_of(item));
+    if least <= index {
         return least;
     }
-    if has_version_at(&parts[place], item, timestamp) {
-        place
+    if has_version_at(&parts[index], item, timestamp) {
+        index
     } else {
         least
     }
@@ -266,7 +269,7 @@ fn has_version_at(part: &Option<Part>, item: &Item, timestamp: u64) -> bool
     }
 }
 
-/// One more than the place of the last part, or 0 where there is none.
+/// One more than the index of the last part, or 0 where there is none.
 fn end_of(parts: &Parts) -> usize
     ensures free { AreFreeFrom parts.now result }
     ensures last { 0 < result → IsSome (get_or parts.now (result - 1) None) }

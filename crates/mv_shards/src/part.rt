@@ -7,9 +7,10 @@ ghost use Rattle.avm_items.specs.LedgerItems.{at};
 ghost use Rattle.avm_items.specs.SameValues.{is_same_value};
 ghost use Rattle.mv_chain.specs.Versions.{lateness, newest_at, oldest_timestamp};
 ghost use Rattle.mv_shards.specs.declared.read_fault.ReadFault.TheVariants.{Pruned};
-ghost use Rattle.mv_shards.specs.Chains.{AreChains, IsGrown, IsReadable, IsRoomier, chain_in, versions_of};
+ghost use Rattle.mv_shards.specs.KeptChains.{AreChains, IsGrown, IsReadable, IsRoomier, chain_in, versions_of};
 ghost use Rattle.mv_shards.specs.Writing.{has_timestamp};
-ghost use Rattle.mv_shards.specs.Shards.{IsFirstRead, IsMarkedRead, IsPart, IsPruned, IsPrunedShard, IsReadAgain, shard_shown, versions_held};
+ghost use Rattle.mv_shards.specs.Shards.{IsFirstRead, IsPruned, IsPrunedShard, IsReadAgain, versions_held};
+ghost use Rattle.mv_shards.specs.KeptShards.{IsMarkedRead, IsPart, shard_shown};
 
 use crate::attempt::Attempt;
 use crate::chains::Chains;
@@ -32,7 +33,7 @@ pub(crate) struct Part {
 }
 
 /// Gives an item a chain, if it has none.
-pub(crate) fn place(
+pub(crate) fn add_chain(
     alloc: Global,
     chains: &mut Chains,
     base: &Ledger,
@@ -76,7 +77,7 @@ fn first_read(
     ensures attempt { OnErr result (attempt.new ≡ attempt.old) }
     ensures kept { (low : _) → AreChains (at base.now) low chains.old → AreChains (at base.now) low chains.new }
 {
-    place(alloc, chains, base, &item)?;
+    add_chain(alloc, chains, base, &item)?;
     let value = value_at(chains, &item, attempt.timestamp)?;
     attempt.reads.insert(item.copied(), value.clone()?)?;
     chains.mark(&item, attempt.timestamp);

@@ -4,27 +4,27 @@ ghost use Rattle.std.specs.Prelude.{◌≡◌, ◌<◌, IfOk, IsSome, OnOk};
 ghost use Rattle.std.specs.List.{AllByRecursion};
 ghost use Rattle.avm_items.specs.Items.{IsInItemOrder};
 ghost use Rattle.mv_shards.specs.Indexes.{shard_count, shard_of as shard_index};
-ghost use Rattle.mv_shards.specs.Chains.{HasRoomFor, chain_in};
-ghost use Rattle.mv_shards.specs.Helds.{IsHeldIn};
-ghost use Rattle.mv_shards.specs.Writing.{AreGrown, AreRoomier, chains_for};
+ghost use Rattle.mv_shards.specs.KeptChains.{HasRoomFor, chain_in};
+ghost use Rattle.mv_shards.specs.KeptHelds.{IsHeldIn};
+ghost use Rattle.mv_shards.specs.PartWriting.{AreGrown, AreRoomier, chains_for};
 
 use crate::index::shard_of;
-use crate::part::{Part, place};
+use crate::part::{Part, add_chain};
 use avm_items::{Item, ItemMap, ItemValue};
 use std::alloc::{AllocError, Global};
 
-/// The shards that are held, each at the place of its index.
+/// The shards that are held, each at its index.
 pub(crate) type Parts = [Option<Part>; 16];
 
 /// Gives an item a chain in its shard, if it has none.
-fn place_item(parts: &mut Parts, item: &Item) -> Result<(), AllocError>
+fn chain_item(parts: &mut Parts, item: &Item) -> Result<(), AllocError>
     requires { IsHeldIn parts.old item.now }
     ensures grown { AreGrown parts.old parts.new }
     ensures roomier { OnOk result (AreRoomier parts.old parts.new) }
     ensures there { OnOk result (IsSome (chain_in (chains_for parts.new item.now) item.now)) }
 {
     match &mut parts[usize::from(shard_of(item))] {
-        Some(part) => place(part.alloc, &mut part.chains, &part.base, item),
+        Some(part) => add_chain(part.alloc, &mut part.chains, &part.base, item),
         None => unreachable!(),
     }
 }
@@ -50,12 +50,12 @@ fn room_item(parts: &mut Parts, item: &Item) -> Result<(), AllocError>
     ensures roomier { OnOk result (AreRoomier parts.old parts.new) }
     ensures room { OnOk result (HasRoomFor (chains_for parts.new item.now) item.now) }
 {
-    place_item(parts, item)?;
+    chain_item(parts, item)?;
     space_item(parts, item)
 }
 
 /// Gives each item a chain in its shard, if it has none.
-pub(crate) fn place_all(parts: &mut Parts, items: &ItemMap) -> Result<(), AllocError>
+pub(crate) fn chain_all(parts: &mut Parts, items: &ItemMap) -> Result<(), AllocError>
     requires { AllByRecursion (λ e. IsHeldIn parts.old e.0) items.now }
     ensures grown { AreGrown parts.old parts.new }
     ensures roomier { OnOk result (AreRoomier parts.old parts.new) }
@@ -63,7 +63,7 @@ pub(crate) fn place_all(parts: &mut Parts, items: &ItemMap) -> Result<(), AllocE
     ensures order { OnOk result (IsInItemOrder items.now) }
 {
     for (item, _value) in items.as_slice() {
-        place_item(parts, item)?;
+        chain_item(parts, item)?;
     }
     Ok(())
 }
@@ -109,7 +109,7 @@ pub(crate) fn make_room(
     ensures copies { IfOk result (λ copies. copies.items ≡ writes.now) }
     ensures order { OnOk result (IsInItemOrder reads.now × IsInItemOrder writes.now) }
 {
-    place_all(parts, reads)?;
+    chain_all(parts, reads)?;
     room_writes(parts, writes)?;
     copies_of(alloc, writes)
 }

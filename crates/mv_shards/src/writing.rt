@@ -2,9 +2,9 @@
 
 ghost use Rattle.std.specs.Prelude.{◌<◌, ◌≢◌, OnErr, OnOk};
 ghost use Rattle.std.specs.List.{AllByRecursion};
-ghost use Rattle.mv_shards.specs.Writing.{AreGrown, AreInstalledAt, AreMarkedAt, AreReady, AreWrittenParts, HasPlaceIn, IsInstalledItem, IsMarkedItem, IsReadableIn, chains_at, chains_for, first_at};
-ghost use Rattle.mv_shards.specs.Chains.{AreChains, versions_of};
-ghost use Rattle.mv_shards.specs.Helds.{IsHeldIn};
+ghost use Rattle.mv_shards.specs.PartWriting.{AreGrown, AreInstalledAt, AreMarkedAt, AreReady, AreWrittenParts, TakesVersionIn, IsInstalledItem, IsMarkedItem, IsReadableIn, chains_at, chains_for, first_at};
+ghost use Rattle.mv_shards.specs.KeptChains.{AreChains, versions_of};
+ghost use Rattle.mv_shards.specs.KeptHelds.{IsHeldIn};
 ghost use Rattle.mv_shards.specs.Indexes.{shard_of as shard_index};
 
 use crate::index::shard_of;
@@ -24,9 +24,9 @@ fn mark_item(parts: &mut Parts, item: &Item, timestamp: u64)
     }
 }
 
-/// Adds a version to an item's chain, which has a place for it.
+/// Adds a version to an item's chain, which takes it.
 fn install_item(parts: &mut Parts, item: &Item, value: ItemValue, timestamp: u64)
-    requires place { HasPlaceIn timestamp parts.old item.now }
+    requires takes { TakesVersionIn timestamp parts.old item.now }
     requires positive { 0 < timestamp }
     ensures { IsInstalledItem timestamp item.now value parts.old parts.new }
 {

@@ -8,7 +8,7 @@
 //! - `steps WORDS` makes a run of a call, instruction by instruction, over the ledger: how many there are, where the program
 //!   then stands, and how the call ends.
 
-ghost use Rattle.avm_ops.specs.Objects.{IsFull};
+ghost use Rattle.avm_ops.specs.OpSets.{IsFull};
 
 use crate::ledgers::{Bench, digits_of, profile_of};
 use avm_block::{Block, Entry, encode};

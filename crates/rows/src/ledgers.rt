@@ -11,7 +11,7 @@
 //!
 //! `sample_calls` has the words of calls and the pieces of bytes.
 
-ghost use Rattle.avm_ops.specs.Objects.{IsFull};
+ghost use Rattle.avm_ops.specs.OpSets.{IsFull};
 
 use avm_block::{BlockFault, decode, encode};
 use avm_call_codec::{CallCodec, CallDataFault};

@@ -12,7 +12,7 @@
 //! Others, as `# TEXT`, say nothing.
 #![tactic(auto)]
 
-ghost use Rattle.avm_ops.specs.Objects.{IsFull};
+ghost use Rattle.avm_ops.specs.OpSets.{IsFull};
 
 mod blocks;
 mod ledgers;

@@ -3,7 +3,7 @@
 ghost use Rattle.std.specs.Prelude.{◌≡◌, [], IfOk};
 ghost use Rattle.avm_items.specs.declared.item_value.ItemValue.TheVariants.{Absent};
 ghost use Rattle.avm_items.specs.Items.{with_item};
-ghost use Rattle.avm_ops.specs.Objects.{IsFull};
+ghost use Rattle.avm_ops.specs.OpSets.{IsFull};
 
 use crate::said::Said;
 use crate::script::name;

@@ -9,7 +9,7 @@
 //! `script` says how rows read, `stores` and `journals` what they do.
 #![tactic(auto)]
 
-ghost use Rattle.avm_ops.specs.Objects.{IsFull};
+ghost use Rattle.avm_ops.specs.OpSets.{IsFull};
 
 mod journals;
 mod said;

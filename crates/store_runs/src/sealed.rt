@@ -1,6 +1,6 @@
 //! Looks at a sealed block.
 
-ghost use Rattle.avm_ops.specs.Objects.{IsFull};
+ghost use Rattle.avm_ops.specs.OpSets.{IsFull};
 
 use crate::said::Said;
 use crate::texts::digits_of;

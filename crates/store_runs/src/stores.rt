@@ -1,6 +1,6 @@
 //! Events of a store, and looks at it.
 
-ghost use Rattle.avm_ops.specs.Objects.{IsFull};
+ghost use Rattle.avm_ops.specs.OpSets.{IsFull};
 
 use crate::said::Said;
 use crate::script::Step;

@@ -1,6 +1,6 @@
 use Rattle.std.proofs.Common.{leb, rules}
 use Rattle.std.proofs.lemmas.List.Sorted.{IsPartitionPoint-from_clause, IsPartitionedBy-leb}
-use Rattle.mv_chain.proofs.Places.{chain-non_decreasing, count_not_above-partition}
+use Rattle.mv_chain.proofs.Indexes.{chain-non_decreasing, count_not_above-partition}
 use Rattle.mv_chain.proofs.bisect.Goals as goal
 
 pub returns-clause-count : goal.returns-clause-count

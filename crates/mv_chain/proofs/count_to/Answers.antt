@@ -1,5 +1,5 @@
 use Rattle.std.proofs.Common.{◌-◌, length, arith}
-use Rattle.mv_chain.proofs.Places.{count_not_above-all, chain-length}
+use Rattle.mv_chain.proofs.Indexes.{count_not_above-all, chain-length}
 use Rattle.mv_chain.proofs.count_to.Goals as goal
 
 pub returns-then-versions-len-clause-count : goal.returns-then-versions-len-clause-count

@@ -1,6 +1,6 @@
 use Rattle.std.proofs.Common.{sym, ap, ◌∙◌}
 use Rattle.std.proofs.lemmas.Bool.{eqb-true}
-use Rattle.avm_ops.specs.Objects.{object_at}
+use Rattle.avm_ops.specs.OpSets.{object_at}
 use Rattle.avm_ops.proofs.Sets.{has_at}
 use Rattle.avm_ops.proofs.set.Ops.has.Goals as goal
 

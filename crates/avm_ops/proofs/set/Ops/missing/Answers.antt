@@ -1,6 +1,6 @@
 use Rattle.std.proofs.Common.{sym, refl, arith, ◌∙◌}
 use Rattle.teal_table.proofs.Codes.{code_of-opcode_at}
-use Rattle.avm_ops.specs.Objects.{Has}
+use Rattle.avm_ops.specs.OpSets.{Has}
 use Rattle.avm_ops.proofs.Sets.{with_next, at_opcode, at_no_opcode, code_of-below}
 use Rattle.avm_ops.proofs.set.Ops.missing.Goals.{in-Some+else-not-has, in_default}
 use Rattle.avm_ops.proofs.set.Ops.missing.Goals as goal

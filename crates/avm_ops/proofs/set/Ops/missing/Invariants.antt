@@ -1,6 +1,6 @@
 use Rattle.std.proofs.Common.{◌<◌}
 use Rattle.teal_table.specs.Table.{code_of}
-use Rattle.avm_ops.specs.Objects.{Has}
+use Rattle.avm_ops.specs.OpSets.{Has}
 use Rattle.avm_ops.proofs.set.Ops.missing.Given as goal
 
 -- the opcodes of the codes before have objects

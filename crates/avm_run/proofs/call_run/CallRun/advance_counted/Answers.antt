@@ -2,7 +2,8 @@ use Rattle.std.proofs.Common.{Option, Some, Ok, sym, ap, ◌∙◌, subst}
 use Rattle.avm_run.specs.declared.call_run.Advance.TheVariants.{Need}
 use Rattle.avm_run.specs.Advances.{Advances}
 use Rattle.avm_run.specs.Progress.{reads_of, steps_of}
-use Rattle.avm_run.specs.RunState.{IsKeptRun, IsSoundState, Progress, progress, progress_of}
+use Rattle.avm_run.specs.RunState.{Progress}
+use Rattle.avm_run.specs.KeptRuns.{IsKeptRun, IsSoundState, progress, progress_of}
 use Rattle.avm_run.proofs.LiveRuns.{asks_kept, asked_by_end, ends_over_reads}
 use Rattle.avm_run.proofs.Answering.{asks_for}
 use Rattle.avm_run.proofs.call_run.CallRun.advance_counted.Goals as goal

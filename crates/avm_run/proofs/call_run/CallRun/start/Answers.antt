@@ -1,5 +1,5 @@
 use Rattle.std.proofs.Common.{sym, subst}
-use Rattle.avm_run.specs.RunState.{IsSoundState}
+use Rattle.avm_run.specs.KeptRuns.{IsSoundState}
 use Rattle.avm_run.proofs.LiveRuns.{starts_alive}
 use Rattle.avm_run.proofs.call_run.CallRun.start.Goals as goal
 

@@ -2,7 +2,8 @@ use Rattle.std.proofs.Common.{Option, Some, Ok, sym, ap, ◌∙◌, subst}
 use Rattle.avm_run.specs.declared.call_run.Step.TheVariants as step
 use Rattle.avm_run.specs.Advances.{AsksFor, Steps}
 use Rattle.avm_run.specs.Progress.{reads_of, steps_of}
-use Rattle.avm_run.specs.RunState.{IsKeptRun, IsSoundState, Progress, progress, progress_of}
+use Rattle.avm_run.specs.RunState.{Progress}
+use Rattle.avm_run.specs.KeptRuns.{IsKeptRun, IsSoundState, progress, progress_of}
 use Rattle.avm_run.proofs.LiveRuns.{asks_kept, asked_by_end, ends_kept, ends_over_reads, goes_kept}
 use Rattle.avm_run.proofs.Answering.{asks_for, ends_there, makes_step}
 use Rattle.avm_run.proofs.call_run.CallRun.step_one_counted.Goals as goal

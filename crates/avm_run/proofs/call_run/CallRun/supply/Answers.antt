@@ -7,7 +7,8 @@ use Rattle.avm_call.specs.Calls.{call_result}
 use Rattle.avm_run.specs.declared.call_run.RunFault.TheVariants as fault
 use Rattle.avm_run.specs.Advances.{Supplies}
 use Rattle.avm_run.specs.Progress.{reads_of}
-use Rattle.avm_run.specs.RunState.{IsKeptRun, IsSoundState, Progress, is_asked, progress, progress_of}
+use Rattle.avm_run.specs.RunState.{Progress, is_asked}
+use Rattle.avm_run.specs.KeptRuns.{IsKeptRun, IsSoundState, progress, progress_of}
 use Rattle.avm_run.proofs.LiveRuns.{supplied, was_asked, was_not_asked}
 use Rattle.avm_run.proofs.call_run.CallRun.supply.Goals.{in-Some-3, in-None-3}
 use Rattle.avm_run.proofs.call_run.CallRun.supply.Goals as goal

@@ -1,20 +1,20 @@
-use Rattle.std.proofs.Common.{◌∙◌, Err, None, Some, refl, ap, subst}
+use Rattle.std.proofs.Common.{◌∙◌, Err, refl, ap, subst}
 use Rattle.teal_value.specs.declared.failure.Failure.TheVariants.{Fault}
-use Rattle.mv_core.specs.Places.{IsNowhere, IsPlaced}
+use Rattle.mv_core.specs.AttemptSlots.{IsNowhere, IsAttemptAt}
 use Rattle.mv_core.proofs.Calls.{only_pruned, store_never_pruned, store_nowhere, store_placed, store_read, store_same}
 use Rattle.mv_core.proofs.store.Store.read.Goals.{in-Ok, in-Err-Memory}
 use Rattle.mv_core.proofs.store.Store.read.Goals as goal
 
 pub unreachable-requires : goal.unreachable-requires
 unreachable-requires c =
-    store_never_pruned c.self.inside.journal c.self.inside.held c.self.inside.attempts.items c.args.ticket.now.number c.args.ticket.now.timestamp c.in-Some.place (subst (λ xs. IsPlaced xs c.args.ticket.now.number c.args.ticket.now.timestamp c.in-Some.place) c.deref.ensures.value c.in-Some.ensures.placed) c.self.invariant c.args.item
+    store_never_pruned c.self.inside.journal c.self.inside.held c.self.inside.attempts.items c.args.ticket.now.number c.args.ticket.now.timestamp c.in-Some.index (subst (λ xs. IsAttemptAt xs c.args.ticket.now.number c.args.ticket.now.timestamp c.in-Some.index) c.deref.ensures.value c.in-Some.ensures.attempt) c.self.invariant c.args.item
     (c.in-Err-Fault.ensures.pruned.0 (ap (λ f. Err f) (c.in-Err-Fault.field-0-is ∙ ap Fault (only_pruned c.in-Err-Fault._pruned))))
 
 pub invariant_of-self : goal.invariant_of-self
 invariant_of-self c =
     elim c.match-read_at.branch [
       | in-Ok w ↦
-          (store_read c.self.inside.journal c.self.inside.held c.self.inside.attempts.items c.args.ticket.now.number c.args.ticket.now.timestamp c.in-Some.place (subst (λ xs. IsPlaced xs c.args.ticket.now.number c.args.ticket.now.timestamp c.in-Some.place) c.deref.ensures.value c.in-Some.ensures.placed) c.self.invariant c.read_at.new.held c.read_at.new.attempts.items c.args.item w.in-Ok.value w.in-Ok.ensures.ok).0
+          (store_read c.self.inside.journal c.self.inside.held c.self.inside.attempts.items c.args.ticket.now.number c.args.ticket.now.timestamp c.in-Some.index (subst (λ xs. IsAttemptAt xs c.args.ticket.now.number c.args.ticket.now.timestamp c.in-Some.index) c.deref.ensures.value c.in-Some.ensures.attempt) c.self.invariant c.read_at.new.held c.read_at.new.attempts.items c.args.item w.in-Ok.value w.in-Ok.ensures.ok).0
       | in-Err-Memory w ↦ store_same c.self.inside.journal c.self.inside.held c.self.inside.attempts.items c.read_at.new.held c.read_at.new.attempts.items w.in-Err-Memory.ensures.held w.in-Err-Memory.ensures.attempts c.self.invariant
     ]
 
@@ -24,7 +24,7 @@ returns-after-read_at-clause-ok c =
     (elim c.match-read_at.branch [
       | in-Ok w ↦
           rw w.result-is
-          (store_read c.self.inside.journal c.self.inside.held c.self.inside.attempts.items c.args.ticket.now.number c.args.ticket.now.timestamp c.in-Some.place (subst (λ xs. IsPlaced xs c.args.ticket.now.number c.args.ticket.now.timestamp c.in-Some.place) c.deref.ensures.value c.in-Some.ensures.placed) c.self.invariant c.read_at.new.held c.read_at.new.attempts.items c.args.item w.in-Ok.value w.in-Ok.ensures.ok).1
+          (store_read c.self.inside.journal c.self.inside.held c.self.inside.attempts.items c.args.ticket.now.number c.args.ticket.now.timestamp c.in-Some.index (subst (λ xs. IsAttemptAt xs c.args.ticket.now.number c.args.ticket.now.timestamp c.in-Some.index) c.deref.ensures.value c.in-Some.ensures.attempt) c.self.invariant c.read_at.new.held c.read_at.new.attempts.items c.args.item w.in-Ok.value w.in-Ok.ensures.ok).1
       | in-Err-Memory w ↦ rw w.result-is tt
     ])
 
@@ -34,10 +34,10 @@ returns-after-read_at-clause-unknown c =
     (elim c.match-read_at.branch [
       | in-Ok w ↦
           rw w.result-is
-          ((λ e l. absurd cc), (λ h. absurd (h (store_placed c.self.inside.journal c.self.inside.held c.self.inside.attempts.items c.args.ticket.now.number c.args.ticket.now.timestamp c.in-Some.place (subst (λ xs. IsPlaced xs c.args.ticket.now.number c.args.ticket.now.timestamp c.in-Some.place) c.deref.ensures.value c.in-Some.ensures.placed) c.self.invariant))))
+          ((λ e l. absurd cc), (λ h. absurd (h (store_placed c.self.inside.journal c.self.inside.held c.self.inside.attempts.items c.args.ticket.now.number c.args.ticket.now.timestamp c.in-Some.index (subst (λ xs. IsAttemptAt xs c.args.ticket.now.number c.args.ticket.now.timestamp c.in-Some.index) c.deref.ensures.value c.in-Some.ensures.attempt) c.self.invariant))))
       | in-Err-Memory w ↦
           rw w.result-is
-          ((λ e l. absurd cc), (λ h. absurd (h (store_placed c.self.inside.journal c.self.inside.held c.self.inside.attempts.items c.args.ticket.now.number c.args.ticket.now.timestamp c.in-Some.place (subst (λ xs. IsPlaced xs c.args.ticket.now.number c.args.ticket.now.timestamp c.in-Some.place) c.deref.ensures.value c.in-Some.ensures.placed) c.self.invariant))))
+          ((λ e l. absurd cc), (λ h. absurd (h (store_placed c.self.inside.journal c.self.inside.held c.self.inside.attempts.items c.args.ticket.now.number c.args.ticket.now.timestamp c.in-Some.index (subst (λ xs. IsAttemptAt xs c.args.ticket.now.number c.args.ticket.now.timestamp c.in-Some.index) c.deref.ensures.value c.in-Some.ensures.attempt) c.self.invariant))))
     ])
 
 pub returns-in-None-clause-unknown : goal.returns-in-None-clause-unknown

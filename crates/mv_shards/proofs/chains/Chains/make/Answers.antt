@@ -2,7 +2,7 @@ use Rattle.std.proofs.Common.{◌≡◌, ◌∙◌, None, Some, [], ◌∷◌, �
 use Rattle.std.specs.BTreeMap.{insert_entry}
 use Rattle.avm_items.specs.declared.item.Item.{Item}
 use Rattle.avm_items.specs.Items.{item_cmp}
-use Rattle.mv_shards.specs.Chains.{AreNumbered, chain_in}
+use Rattle.mv_shards.specs.KeptChains.{AreNumbered, chain_in}
 use Rattle.mv_shards.proofs.Numbers.{numbered_more, numbered_there}
 use Rattle.mv_shards.proofs.OneChain.{made_grown, made_number, made_roomier}
 use Rattle.mv_shards.proofs.chains.Chains.make.Goals as goal

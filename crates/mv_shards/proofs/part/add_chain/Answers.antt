@@ -1,8 +1,8 @@
 use Rattle.std.proofs.Common.{◌∙◌, sym, ap, subst}
 use Rattle.std.specs.Prelude.{IsSome}
-use Rattle.mv_shards.specs.Chains.{chain_in}
+use Rattle.mv_shards.specs.KeptChains.{chain_in}
 use Rattle.mv_shards.proofs.Numbers.{none_numbered, numbered_there}
-use Rattle.mv_shards.proofs.part.place.Goals as goal
+use Rattle.mv_shards.proofs.part.add_chain.Goals as goal
 
 pub returns-in-Some-clause-there : goal.returns-in-Some-clause-there
 returns-in-Some-clause-there c =

@@ -1,0 +1,27 @@
+-- A shard as it is kept, and what is seen of it.
+use Rattle.std.specs.Prelude.{◌≡◌, ◌<◌}
+use Rattle.std.specs.Arc.{arc_value}
+use Rattle.avm_items.specs.declared.item.Item.{Item}
+use Rattle.avm_items.specs.declared.item_value.ItemValue.{ItemValue}
+use Rattle.avm_items.specs.Items.{with_item}
+use Rattle.avm_items.specs.LedgerItems.{at}
+use Rattle.mv_chain.specs.declared.Version.{Version}
+use Rattle.mv_chain.specs.Versions.{newest_at}
+use Rattle.mv_shards.specs.declared.part.Part.{Part}
+use Rattle.mv_shards.specs.Attempts.{CallAttempt}
+use Rattle.mv_shards.specs.Indexes.{shard_count}
+use Rattle.mv_shards.specs.KeptChains.{AreChains, ChainMap, one_marked, touched, versions_of}
+use Rattle.mv_shards.specs.Shards.{Shard}
+
+abbrev pub shard_shown : Part → Shard
+shard_shown p = record { index = p.index; low = p.low; base = arc_value p.base; chains = touched p.chains }
+
+pub record IsPart (p : Part) : Type 0 where
+  pub within : p.index < shard_count
+  pub chains : AreChains (at (arc_value p.base)) p.low p.chains
+
+-- the first read of an item, by the versions of all items
+pub record IsMarkedRead (first : Item → ItemValue) (old new : ChainMap ItemValue) (before after : CallAttempt) (x : Item) (v : ItemValue) : Type 0 where
+  pub value : (d : Version ItemValue) → v ≡ (newest_at before.timestamp (versions_of first old x) d).value
+  pub marked : (y : Item) → versions_of first new y ≡ one_marked before.timestamp x (versions_of first old) y
+  pub joins : after ≡ record before { reads = with_item before.reads x v }
