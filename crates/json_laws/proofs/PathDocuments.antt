@@ -1,0 +1,368 @@
+-- The paths of faults of accounts, applications, transactions and whole documents.
+use Rattle.std.proofs.Common.{◌≡◌, ℕ, ◌+◌, inl, inr, Bool, true, false, cond, ◌&&◌, List, [], ◌∷◌, ◌++◌, length, length-append, Option, Some, None, Result, Ok, Err, refl, sym, ap, subst, ◌∙◌, arith}
+use Rattle.std.specs.Prelude.{◌==◌, is_some, codes, nat_le, nat_lt, option_and_then}
+use Rattle.std.specs.Str.{bytes_eq}
+use Rattle.std.proofs.lemmas.Bool.{eqb-false, true≢false}
+use Rattle.std.proofs.lemmas.List.{append-nil}
+use Rattle.std.proofs.lemmas.Slice.Eq.{bytes_eq-Decides}
+use Rattle.teal_value.specs.Answer.{◌>>=◌}
+use Rattle.teal_value.specs.declared.address.Address.{Address}
+use Rattle.avm_states.specs.Entries.{Entries}
+use Rattle.avm_states.specs.Schemas.{most_global_entries, most_local_entries, no_entries}
+use Rattle.avm_ledger.specs.declared.application.StoredApplication.{StoredApplication}
+use Rattle.avm_ledger.specs.LedgerReader.{local_room, room_of_schema, stored_in}
+use Rattle.avm_ledger.specs.Ledgers.{Ledger, application_at, local_state_at, with_local_state}
+use Rattle.avm_items.specs.declared.call_data.Completion.TheVariants as completion
+use Rattle.avm_items.specs.declared.call_data.CallData.{CallData}
+use Rattle.avm_block.specs.Blocks.{most_calls}
+use Rattle.avm_call.specs.declared.call_fault.CallFault.{CallFault}
+use Rattle.avm_call.specs.declared.call_fault.CallFault.TheVariants as call
+use Rattle.avm_call.specs.CallRules.{call_fault}
+use Rattle.json.specs.Json.{Json, Members}
+use Rattle.json.specs.Find.{as_object, as_str, at, get, is_null}
+use Rattle.json_fields.specs.declared.what.What.{What}
+use Rattle.json_fields.specs.declared.what.What.TheVariants as what
+use Rattle.json_fields.specs.Steps.{Step, at_index, at_name}
+use Rattle.json_fields.specs.Faults.{Fault, here, in_step}
+use Rattle.json_fields.specs.Members.{known, member, unless_null, needed, needed_in, optional}
+use Rattle.json_fields.specs.Arrays.{each}
+use Rattle.json_fields.specs.Plain.{address, bytes, text, uint}
+use Rattle.json_documents.specs.Ids.{end_of_ids, id_below, in_range, next_id}
+use Rattle.json_documents.specs.Schemas.{schema}
+use Rattle.json_documents.specs.States.{state}
+use Rattle.json_documents.specs.Programs.{given_or, program}
+use Rattle.json_documents.specs.Sources.{Sources, no_sources, program_for, targets, with_source}
+use Rattle.json_documents.specs.Drafts.{application_beside, is_same_state, is_same_stored, local_state_beside, raised}
+use Rattle.json_documents.specs.Accounts.{account, local}
+use Rattle.json_documents.specs.Applications.{application, limits, params}
+use Rattle.json_documents.specs.Transactions.{action, call_type, completion_of, lease, lone_call, only_appl, target, terms, transaction, transactions, ungrouped, unless_broken, whole_lease, with_address, with_bytes, with_signed, with_uint, zero_address, zeros, fields}
+use Rattle.json_documents.specs.Documents.{Document, Front, bare_ledger, document, front, ledger}
+use Rattle.json_documents.specs.Reading.{on_value, value_of_text}
+use Rattle.json_documents.specs.Tables.{account_names, application_names, document_names, local_names, params_names, signed_names, transaction_names}
+use Rattle.json_laws.specs.Paths.{applications_of, next_id_of, behind, Before, IsRefusedCall, IsSecondApplication, IsSecondLocalState, IsObject, IsWrong, LeadsFor, LeadsIn, NamesMissing, PathsLead, PathsOfTextsLead, ValuesAreWrong, ValuesOfTextsAreWrong, sources_of, table, value_at}
+use Rattle.json_laws.proofs.AcceptedSteps.{each_keeps, nothing_asked, optional_gives, passed, same_value}
+use Rattle.json_laws.proofs.PathSteps.{ArePlain, Spot, into, IsLocated, OnFault, Locates, Located, bind_ok, known_object, needed_read, located_all, located_bind, located_each, located_here, located_known, located_needed, located_optional, located_step, then}
+use Rattle.json_laws.proofs.PathPlain.{located_address, located_bytes, located_id_below, located_if, located_next_id, located_of_bytes, located_of_text, located_of_uint, located_refused, located_schema, located_uint}
+use Rattle.json_laws.proofs.PathStates.{located_program, located_state}
+use Rattle.json_laws.proofs.PathSources.{located_sources, located_targets}
+
+-- ---- what may stand twice
+
+beside_located : (p : Spot) (old : Option StoredApplication) (l : Ledger) (id : ℕ) (app : StoredApplication) → (application_beside old l id app ≡ Err (here what.Differs) → IsSecondApplication p.document p.path p.value) → Located p (application_beside old l id app)
+beside_located p None l id app second = record { located = tt }
+beside_located p (Some old) l id app second = located_refused p (is_same_stored old app) l what.Differs (λ e. inl (second e))
+
+state_beside_located : (p : Spot) (old : Option Entries) (l : Ledger) (who : Address) (id : ℕ) (entries : Entries) → (local_state_beside old l who id entries ≡ Err (here what.Differs) → IsSecondLocalState p.document p.path p.value) → Located p (local_state_beside old l who id entries)
+state_beside_located p None l who id entries second = record { located = tt }
+state_beside_located p (Some old) l who id entries second = located_refused p (is_same_state old entries) l what.Differs (λ e. inr (second e))
+
+-- ---- accounts leave the applications as they are
+
+beside_same : (old : Option Entries) (l y : Ledger) (who : Address) (id : ℕ) (entries : Entries) → local_state_beside old l who id entries ≡ Ok y → y.applications ≡ l.applications
+beside_same None l y who id entries e = ap (λ (x : Ledger). x.applications) (sym (same_value (raised id (with_local_state l who id entries)) y e))
+beside_same (Some old) l y who id entries e = ap (λ (x : Ledger). x.applications) (sym (passed (is_same_state old entries) l y (here what.Differs) e).1)
+
+local_same : (end : ℕ) (who : Address) (l : Ledger) (j : Json) (y : Ledger) → local end who l j ≡ Ok y → y.applications ≡ l.applications
+local_same end who l j y e =
+    let u = bind_ok (known local_names j) _ y e in
+    let id = bind_ok (needed (codes "id") (id_below end) j) _ y u.2 in
+    let entries = bind_ok (optional (codes "key-value") (state (local_room (application_at l id.0))) [] j) _ y id.2 in
+    beside_same (local_state_at l who id.0) l y who id.0 entries.0 entries.2
+
+account_same : (end : ℕ) (l : Ledger) (j : Json) (y : Ledger) → account end l j ≡ Ok y → y.applications ≡ l.applications
+account_same end l j y e =
+    let u = bind_ok (known account_names j) _ y e in
+    let who = bind_ok (needed (codes "address") address j) _ y u.2 in
+    optional_gives nothing_asked (λ (x : Ledger). x.applications ≡ l.applications) (codes "apps-local-state") (each (local end who.0) l) l refl
+    (each_keeps nothing_asked (λ (x : Ledger). x.applications ≡ l.applications) (local end who.0) l (λ so_far v x q kept read. local_same end who.0 so_far v x read ∙ kept) refl) j y tt who.2
+
+-- ---- accounts
+
+id_is_uint : (end : ℕ) (j : Json) (id : ℕ) → needed (codes "id") (id_below end) j ≡ Ok id → needed (codes "id") uint j ≡ Ok id
+id_is_uint end j id e =
+    let there = needed_read (codes "id") (id_below end) j id e in
+    let read = bind_ok (uint there.0) (in_range end) id there.2 in
+    ap (needed_in (codes "id") uint) there.1 ∙ ap (in_step (at_name (codes "id"))) (read.1 ∙ ap (λ n. Ok n) (passed (nat_le 1 read.0 && nat_lt read.0 end) read.0 id (here what.IdRange) read.2).1)
+
+-- apps is the ledger of the document's applications
+located_local : (next : Option ℕ) (who : Address) (apps l : Ledger) (p : Spot) → local_names ≡ table p.path → next_id_of p.document ≡ Ok next → applications_of p.document ≡ Ok apps → l.applications ≡ apps.applications
+    → (local (end_of_ids next) who l p.value ≡ Err (here what.Differs) → IsSecondLocalState p.document p.path p.value) → Located p (local (end_of_ids next) who l p.value)
+located_local next who apps l p names given read same second =
+    located_bind p (known local_names p.value) _ (located_known local_names p names) (λ u is.
+    located_bind p (needed (codes "id") (id_below (end_of_ids next)) p.value) _ (located_needed (codes "id") refl (id_below (end_of_ids next)) p (known_object local_names p.value u is) (λ v e. located_id_below next (into p (at_name (codes "id")) v e) given (p.path, refl))) (λ id i.
+    located_bind p (optional (codes "key-value") (state (local_room (application_at l id))) [] p.value) _
+    (located_optional (codes "key-value") refl (state (local_room (application_at l id))) [] p (λ v e. located_state (local_room (application_at l id)) (into p (at_name (codes "key-value")) v e) refl (λ full.
+    (p.value, local_room (application_at l id), p.leads, inr (refl, (id, apps, id_is_uint (end_of_ids next) p.value id i, read, ap (λ stored. local_room (stored_in stored id)) same)), full)))) (λ entries e.
+    state_beside_located p (local_state_at l who id) l who id entries (λ differ. second (then _ _ _ _ is (then _ _ _ _ i (then _ _ _ _ e differ)))))))
+
+located_account : (next : Option ℕ) (apps l : Ledger) (p : Spot) → account_names ≡ table p.path → next_id_of p.document ≡ Ok next → applications_of p.document ≡ Ok apps → l.applications ≡ apps.applications
+    → Before (account (end_of_ids next)) apps p.path p.document l → Located p (account (end_of_ids next) l p.value)
+located_account next apps l p names given read same before =
+    located_bind p (known account_names p.value) _ (located_known account_names p names) (λ u is.
+    located_bind p (needed (codes "address") address p.value) _ (located_needed (codes "address") refl address p (known_object account_names p.value u is) (λ v e. located_address _)) (λ who w.
+    located_optional (codes "apps-local-state") refl (each (local (end_of_ids next) who) l) l p (λ v e.
+    located_each (λ (i : ℕ) (x : Ledger). x.applications ≡ apps.applications) (local (end_of_ids next) who) l (into p (at_name (codes "apps-local-state")) v e) (record {
+      begins = same;
+      goes_on = λ i x y k at kept one. local_same (end_of_ids next) who x k y one ∙ kept;
+      reads = λ i x k at there kept. located_local next who apps x (into (into p (at_name (codes "apps-local-state")) v e) (at_index i) k at) refl given read kept (λ differ. (refl, (next, apps, l, x, p.value, who, given, read, p.leads, w, before, there, differ)));
+    }))))
+
+-- ---- applications
+
+located_given_or : (p : Spot) (o : Option (List ℕ)) (r : Result (List ℕ) Fault) → Located p r → Located p (given_or o r)
+located_given_or p None r h = h
+located_given_or p (Some code) r h = record { located = tt }
+
+located_limits : (p : Spot) → Located p (limits p.value)
+located_limits p =
+    located_bind p (optional (codes "global-state-schema") (schema (codes "num-byte-slice") (codes "num-uint") most_global_entries) no_entries p.value) _
+    (located_optional (codes "global-state-schema") refl (schema (codes "num-byte-slice") (codes "num-uint") most_global_entries) no_entries p (λ v e. located_schema (codes "num-byte-slice") (codes "num-uint") most_global_entries refl refl (into p (at_name (codes "global-state-schema")) v e) refl (λ large. inl ((p.path, refl), large)))) (λ global g.
+    located_bind p (optional (codes "local-state-schema") (schema (codes "num-byte-slice") (codes "num-uint") most_local_entries) no_entries p.value) _
+    (located_optional (codes "local-state-schema") refl (schema (codes "num-byte-slice") (codes "num-uint") most_local_entries) no_entries p (λ v e. located_schema (codes "num-byte-slice") (codes "num-uint") most_local_entries refl refl (into p (at_name (codes "local-state-schema")) v e) refl (λ large. inr (inl ((p.path, refl), large))))) (λ local l.
+    located_bind p (optional (codes "global-state") (state (room_of_schema global)) [] p.value) _
+    (located_optional (codes "global-state") refl (state (room_of_schema global)) [] p (λ v e. located_state (room_of_schema global) (into p (at_name (codes "global-state")) v e) refl (λ full. (p.value, room_of_schema global, p.leads, inl (refl, (global, g, refl)), full)))) (λ entries e.
+    record { located = tt })))
+
+located_params : (sources : Sources) (id : ℕ) (p : Spot) → params_names ≡ table p.path → Located p (params sources id p.value)
+located_params sources id p names =
+    located_bind p (known params_names p.value) _ (located_known params_names p names) (λ u is.
+    located_bind p (given_or (program_for sources.approvals id) (needed (codes "approval-program") program p.value)) _
+    (located_given_or p (program_for sources.approvals id) (needed (codes "approval-program") program p.value) (located_needed (codes "approval-program") refl program p (known_object params_names p.value u is) (λ v e. located_program (into p (at_name (codes "approval-program")) v e) (inl (p.path, refl))))) (λ approval a.
+    located_bind p (given_or (program_for sources.clears id) (needed (codes "clear-state-program") program p.value)) _
+    (located_given_or p (program_for sources.clears id) (needed (codes "clear-state-program") program p.value) (located_needed (codes "clear-state-program") refl program p (known_object params_names p.value u is) (λ v e. located_program (into p (at_name (codes "clear-state-program")) v e) (inr (p.path, refl))))) (λ clear c.
+    located_bind p (needed (codes "creator") address p.value) _ (located_needed (codes "creator") refl address p (known_object params_names p.value u is) (λ v e. located_address _)) (λ creator w.
+    located_bind p (limits p.value) _ (located_limits p) (λ l m.
+    record { located = tt })))))
+
+located_application : (next : Option ℕ) (sources : Sources) (l : Ledger) (p : Spot) → application_names ≡ table p.path → next_id_of p.document ≡ Ok next
+    → (application (end_of_ids next) sources l p.value ≡ Err (here what.Differs) → IsSecondApplication p.document p.path p.value) → Located p (application (end_of_ids next) sources l p.value)
+located_application next sources l p names given second =
+    located_bind p (known application_names p.value) _ (located_known application_names p names) (λ u is.
+    located_bind p (needed (codes "id") (id_below (end_of_ids next)) p.value) _ (located_needed (codes "id") refl (id_below (end_of_ids next)) p (known_object application_names p.value u is) (λ v e. located_id_below next (into p (at_name (codes "id")) v e) given (p.path, refl))) (λ id i.
+    located_bind p (needed (codes "params") (params sources id) p.value) _ (located_needed (codes "params") refl (params sources id) p (known_object application_names p.value u is) (λ v e. located_params sources id (into p (at_name (codes "params")) v e) refl)) (λ app a.
+    beside_located p (application_at l id) l id app (λ differ. second (then _ _ _ _ is (then _ _ _ _ i (then _ _ _ _ a differ)))))))
+
+-- ---- transactions
+
+appl_located : (p : Spot) (s : List ℕ) (appl : Bool) → as_str p.value ≡ Some s → bytes_eq s (codes "appl") ≡ appl → Located {A = Unit {0}} p (cond appl (Ok tt) (Err (here what.TxnType)))
+appl_located p s true is e = record { located = tt }
+appl_located p s false is e = located_here p _ (s, is, λ same. absurd (true≢false (sym ((bytes_eq-Decides s (codes "appl")).1 same) ∙ e)))
+
+located_call_type : (p : Spot) → Located p (call_type p.value)
+located_call_type p = located_of_text p only_appl (λ s is. appl_located p s (bytes_eq s (codes "appl")) is refl)
+
+completion_located : (at : Spot) (n : ℕ) (a b c d e f : Bool) → uint at.value ≡ Ok n → (n == 0) ≡ a → (n == 1) ≡ b → (n == 2) ≡ c → (n == 3) ≡ d → (n == 4) ≡ e → (n == 5) ≡ f
+    → Located at (cond a (Ok completion.NoOp) (cond b (Ok completion.OptIn) (cond c (Ok completion.CloseOut) (cond d (Ok completion.ClearState) (cond e (Ok completion.UpdateApplication) (cond f (Ok completion.DeleteApplication) (Err (here what.Completion))))))))
+completion_located at n true b c d e f is p q r s t u = record { located = tt }
+completion_located at n false true c d e f is p q r s t u = record { located = tt }
+completion_located at n false false true d e f is p q r s t u = record { located = tt }
+completion_located at n false false false true e f is p q r s t u = record { located = tt }
+completion_located at n false false false false true f is p q r s t u = record { located = tt }
+completion_located at n false false false false false true is p q r s t u = record { located = tt }
+completion_located at n false false false false false false is p q r s t u =
+    located_here at _ (n, is, omega (arith, eqb-false n 0 p, eqb-false n 1 q, eqb-false n 2 r, eqb-false n 3 s, eqb-false n 4 t, eqb-false n 5 u))
+
+located_action : (p : Spot) → Located p (action p.value)
+located_action p = located_of_uint p completion_of (λ n is. completion_located p n (n == 0) (n == 1) (n == 2) (n == 3) (n == 4) (n == 5) is refl refl refl refl refl refl)
+
+located_lease : (p : Spot) → Located p (lease p.value)
+located_lease p = located_of_bytes p whole_lease (λ s is. located_if p (length s == 32) s what.LeaseLength (λ other. (s, is, eqb-false (length s) 32 other)))
+
+located_with_bytes : (so_far : List (List ℕ)) (p : Spot) → Located p (with_bytes so_far p.value)
+located_with_bytes so_far p = located_of_bytes p _ (λ s is. record { located = tt })
+
+located_with_address : (so_far : List Address) (p : Spot) → Located p (with_address so_far p.value)
+located_with_address so_far p = located_bind p (address p.value) _ (located_address p) (λ who is. record { located = tt })
+
+located_with_uint : (so_far : List ℕ) (p : Spot) → Located p (with_uint so_far p.value)
+located_with_uint so_far p = located_of_uint p _ (λ n is. record { located = tt })
+
+located_target : (sources : Sources) (i : ℕ) (p : Spot) → Located p (target sources i p.value)
+located_target sources i p =
+    located_bind p (optional (codes "apaa") (each with_bytes []) [] p.value) _ (located_optional (codes "apaa") refl (each with_bytes []) [] p (λ v e. located_all with_bytes [] (into p (at_name (codes "apaa")) v e) (λ i x k at before. located_with_bytes x _))) (λ arguments e.
+    located_bind p (optional (codes "apan") action completion.NoOp p.value) _ (located_optional (codes "apan") refl action completion.NoOp p (λ v e. located_action _)) (λ after e.
+    located_bind p (given_or (program_for sources.call_approvals i) (optional (codes "apap") bytes [] p.value)) _
+    (located_given_or p (program_for sources.call_approvals i) (optional (codes "apap") bytes [] p.value) (located_optional (codes "apap") refl bytes [] p (λ v e. located_bytes _))) (λ approval e.
+    located_bind p (optional (codes "apat") (each with_address []) [] p.value) _ (located_optional (codes "apat") refl (each with_address []) [] p (λ v e. located_all with_address [] (into p (at_name (codes "apat")) v e) (λ i x k at before. located_with_address x _))) (λ accounts e.
+    located_bind p (optional (codes "apfa") (each with_uint []) [] p.value) _ (located_optional (codes "apfa") refl (each with_uint []) [] p (λ v e. located_all with_uint [] (into p (at_name (codes "apfa")) v e) (λ i x k at before. located_with_uint x _))) (λ foreign e.
+    located_bind p (optional (codes "apgs") (schema (codes "nbs") (codes "nui") most_global_entries) no_entries p.value) _ (located_optional (codes "apgs") refl (schema (codes "nbs") (codes "nui") most_global_entries) no_entries p (λ v e. located_schema (codes "nbs") (codes "nui") most_global_entries refl refl (into p (at_name (codes "apgs")) v e) refl (λ large. inr (inr (inl ((p.path, refl), large)))))) (λ global e.
+    located_bind p (optional (codes "apid") uint 0 p.value) _ (located_optional (codes "apid") refl uint 0 p (λ v e. located_uint _)) (λ application e.
+    located_bind p (optional (codes "apls") (schema (codes "nbs") (codes "nui") most_local_entries) no_entries p.value) _ (located_optional (codes "apls") refl (schema (codes "nbs") (codes "nui") most_local_entries) no_entries p (λ v e. located_schema (codes "nbs") (codes "nui") most_local_entries refl refl (into p (at_name (codes "apls")) v e) refl (λ large. inr (inr (inr ((p.path, refl), large)))))) (λ local e.
+    located_bind p (given_or (program_for sources.call_clears i) (optional (codes "apsu") bytes [] p.value)) _
+    (located_given_or p (program_for sources.call_clears i) (optional (codes "apsu") bytes [] p.value) (located_optional (codes "apsu") refl bytes [] p (λ v e. located_bytes _))) (λ clear e.
+    record { located = tt })))))))))
+
+located_terms : (p : Spot) → IsObject p.value → Located p (terms p.value)
+located_terms p is =
+    located_bind p (optional (codes "fee") uint 0 p.value) _ (located_optional (codes "fee") refl uint 0 p (λ v e. located_uint _)) (λ fee e.
+    located_bind p (optional (codes "fv") uint 0 p.value) _ (located_optional (codes "fv") refl uint 0 p (λ v e. located_uint _)) (λ first e.
+    located_bind p (optional (codes "lv") uint 0 p.value) _ (located_optional (codes "lv") refl uint 0 p (λ v e. located_uint _)) (λ last e.
+    located_bind p (optional (codes "lx") lease zeros p.value) _ (located_optional (codes "lx") refl lease zeros p (λ v e. located_lease _)) (λ own e.
+    located_bind p (optional (codes "note") bytes [] p.value) _ (located_optional (codes "note") refl bytes [] p (λ v e. located_bytes _)) (λ note e.
+    located_bind p (optional (codes "rekey") address zero_address p.value) _ (located_optional (codes "rekey") refl address zero_address p (λ v e. located_address _)) (λ rekey e.
+    located_bind p (needed (codes "snd") address p.value) _ (located_needed (codes "snd") refl address p is (λ v e. located_address _)) (λ sender e.
+    record { located = tt })))))))
+
+call_located : (p : Spot) (c : CallData) (o : Option CallFault) → ((w : What) → unless_broken c o ≡ Err (here w) → IsRefusedCall p.document w p.path p.value) → Located p (unless_broken c o)
+call_located p c None breaks = record { located = tt }
+call_located p c (Some call.Accounts) breaks = located_here p _ (breaks what.Accounts refl)
+call_located p c (Some call.Args) breaks = located_here p _ (breaks what.Args refl)
+call_located p c (Some call.ArgBytes) breaks = located_here p _ (breaks what.ArgBytes refl)
+call_located p c (Some call.Foreign) breaks = located_here p _ (breaks what.Foreign refl)
+call_located p c (Some call.Note) breaks = located_here p _ (breaks what.Note refl)
+call_located p c (Some call.ProgramsMissing) breaks = located_here p _ (breaks what.ProgramsMissing refl)
+call_located p c (Some call.ProgramsGiven) breaks = located_here p _ (breaks what.ProgramsGiven refl)
+call_located p c (Some call.SchemaSize) breaks = located_here p _ (inr (breaks what.SchemaSize refl))
+call_located p c (Some call.ClearOnCreate) breaks = located_here p _ (breaks what.ClearOnCreate refl)
+call_located p c (Some (call.Program f)) breaks = located_here p _ (inr (inr (breaks (what.Program f) refl)))
+
+-- a member is not `null`
+not_null : (o : Option Json) (v : Json) → unless_null o ≡ Some v → is_null v ≡ false
+not_null None v e = absurd cc
+not_null (Some w) v e = null_if (is_null w) refl e
+  where
+    null_if : (null : Bool) → is_null w ≡ null → cond null None (Some w) ≡ Some v → is_null v ≡ false
+    null_if true is same = absurd cc
+    null_if false is same = let it : w ≡ v = cc in ap is_null (sym it) ∙ is
+
+group_located : (p : Spot) (o : Option Json) → member (codes "grp") p.value ≡ o → Located {A = Unit {0}} p (cond (is_some o) (in_step (at_name (codes "grp")) (Err (here what.Group))) (Ok tt))
+group_located p None e = record { located = tt }
+group_located p (Some v) e = located_step (at_name (codes "grp")) refl p v (Err (here what.Group)) e (located_here (into p (at_name (codes "grp")) v e) _ ((p.path, refl), not_null (get (codes "grp") p.value) v e))
+
+lone_located : (p : Spot) (o : Option Members) → as_object p.value ≡ o → Located p (cond (is_some o) (needed (codes "type") call_type p.value >>= λ _. ungrouped p.value) (Err (here what.NotObject)))
+lone_located p None e = located_here p _ e
+lone_located p (Some ms) e =
+    located_bind p (needed (codes "type") call_type p.value) (λ _. ungrouped p.value) (located_needed (codes "type") refl call_type p (ap is_some e) (λ v e. located_call_type _)) (λ u t. group_located p (member (codes "grp") p.value) refl)
+
+located_transaction : (sources : Sources) (i : ℕ) (p : Spot) → transaction_names ≡ table p.path → ((w : What) → transaction sources i p.value ≡ Err (here w) → IsRefusedCall p.document w p.path p.value) → Located p (transaction sources i p.value)
+located_transaction sources i p names refused =
+    located_bind p (lone_call p.value) _ (lone_located p (as_object p.value) refl) (λ u l.
+    located_bind p (known transaction_names p.value) _ (located_known transaction_names p names) (λ w is.
+    located_bind p (target sources i p.value) _ (located_target sources i p) (λ of t.
+    located_bind p (terms p.value) _ (located_terms p (known_object transaction_names p.value w is)) (λ by m.
+    call_located p (fields of by) (call_fault (fields of by)) (λ broken last. refused broken (then _ _ _ _ l (then _ _ _ _ is (then _ _ _ _ t (then _ _ _ _ m last)))))))))
+
+located_with_signed : (sources : Sources) (calls : List CallData) (p : Spot) → signed_names ≡ table p.path
+    → ((w : What) (v : Json) → transaction sources (length calls) v ≡ Err (here w) → IsRefusedCall p.document w (at_name (codes "txn") ∷ p.path) v) → Located p (with_signed sources calls p.value)
+located_with_signed sources calls p names refused =
+    located_bind p (known signed_names p.value) _ (located_known signed_names p names) (λ u is.
+    located_bind p (needed (codes "txn") (transaction sources (length calls)) p.value) _
+    (located_needed (codes "txn") refl (transaction sources (length calls)) p (known_object signed_names p.value u is) (λ v e. located_transaction sources (length calls) (into p (at_name (codes "txn")) v e) refl (λ w. refused w v))) (λ c t.
+    record { located = tt }))
+
+signed_counts : (sources : Sources) (calls : List CallData) (j : Json) (y : List CallData) → with_signed sources calls j ≡ Ok y → length y ≡ length calls + 1
+signed_counts sources calls j y e =
+    let u = bind_ok (known signed_names j) _ y e in
+    let c = bind_ok (needed (codes "txn") (transaction sources (length calls)) j) _ y u.2 in
+    ap length (sym (same_value (calls ++ c.0 ∷ []) y c.2)) ∙ length-append calls (c.0 ∷ [])
+
+many_located : (sources : Sources) (p : Spot) (many : Bool) → is_some (at most_calls p.value) ≡ many → signed_names ≡ table p.path → sources_of p.document ≡ Ok sources → Located p (cond many (Err (here what.TooMany)) (each (with_signed sources) [] p.value))
+many_located sources p true e names given = located_here p _ e
+many_located sources p false e names given =
+    located_each (λ (i : ℕ) (calls : List CallData). length calls ≡ i) (with_signed sources) [] p (record {
+      begins = refl;
+      goes_on = λ i x y v at count read. signed_counts sources x v y read ∙ ap (λ n. n + 1) count;
+      reads = λ i x v at before count. located_with_signed sources x (into p (at_index i) v at) names (λ w k refused. (refl, (sources, given, subst (λ n. transaction sources n k ≡ Err (here w)) count refused)));
+    })
+
+located_transactions : (sources : Sources) (p : Spot) → signed_names ≡ table p.path → sources_of p.document ≡ Ok sources → Located p (transactions sources p.value)
+located_transactions sources p names given = many_located sources p (is_some (at most_calls p.value)) refl names given
+
+-- ---- documents
+
+-- the document as its own value
+abbrev root : Json → Spot
+root j = record { document = j; path = []; value = j; leads = refl }
+
+located_front : (p : Spot) → Located p (front p.value)
+located_front p =
+    located_bind p (optional (codes "latest-timestamp") uint 0 p.value) _ (located_optional (codes "latest-timestamp") refl uint 0 p (λ v e. located_uint _)) (λ latest e.
+    located_bind p (optional (codes "max-life") uint 1000 p.value) _ (located_optional (codes "max-life") refl uint 1000 p (λ v e. located_uint _)) (λ life e.
+    located_bind p (optional (codes "min-balance") uint 100000 p.value) _ (located_optional (codes "min-balance") refl uint 100000 p (λ v e. located_uint _)) (λ balance e.
+    located_bind p (optional (codes "min-fee") uint 1000 p.value) _ (located_optional (codes "min-fee") refl uint 1000 p (λ v e. located_uint _)) (λ fee e.
+    located_bind p (optional (codes "next-id") next_id None p.value) _ (located_optional (codes "next-id") refl next_id None p (λ v e. located_next_id (into p (at_name (codes "next-id")) v e) (p.path, refl))) (λ next e.
+    located_bind p (optional (codes "round") uint 0 p.value) _ (located_optional (codes "round") refl uint 0 p (λ v e. located_uint _)) (λ round e.
+    record { located = tt }))))))
+
+next_given : (j : Json) (f : Front) → front j ≡ Ok f → next_id_of j ≡ Ok f.next_id
+next_given j f e =
+    let latest = bind_ok (optional (codes "latest-timestamp") uint 0 j) _ f e in
+    let life = bind_ok (optional (codes "max-life") uint 1000 j) _ f latest.2 in
+    let balance = bind_ok (optional (codes "min-balance") uint 100000 j) _ f life.2 in
+    let fee = bind_ok (optional (codes "min-fee") uint 1000 j) _ f balance.2 in
+    let next = bind_ok (optional (codes "next-id") next_id None j) _ f fee.2 in
+    let round = bind_ok (optional (codes "round") uint 0 j) _ f next.2 in
+    next.1 ∙ ap (λ (x : Front). Ok x.next_id) (same_value _ f round.2)
+
+located_ledger : (next : Option ℕ) (sources : Sources) (j : Json) → next_id_of j ≡ Ok next → sources_of j ≡ Ok sources → Located (root j) (ledger next sources j)
+located_ledger next sources j given read =
+    located_bind (root j) (optional (codes "apps") (each (application (end_of_ids next) sources) (bare_ledger next)) (bare_ledger next) j) _
+    (located_optional (codes "apps") refl (each (application (end_of_ids next) sources) (bare_ledger next)) (bare_ledger next) (root j) (λ v e.
+    located_all (application (end_of_ids next) sources) (bare_ledger next) (into (root j) (at_name (codes "apps")) v e) (λ i l k at before.
+    located_application next sources l (into (into (root j) (at_name (codes "apps")) v e) (at_index i) k at) refl given (λ differ. ((i, [], refl), (next, sources, l, given, read, before, differ)))))) (λ apps a.
+    let of_document : applications_of j ≡ Ok apps = then _ _ _ _ given (then _ _ _ _ read a) in
+    located_optional (codes "accounts") refl (each (account (end_of_ids next)) apps) apps (root j) (λ v e.
+    located_each (λ (i : ℕ) (x : Ledger). x.applications ≡ apps.applications) (account (end_of_ids next)) apps (into (root j) (at_name (codes "accounts")) v e) (record {
+      begins = refl;
+      goes_on = λ i x y k at kept one. account_same (end_of_ids next) x k y one ∙ kept;
+      reads = λ i x k at before kept. located_account next apps x (into (into (root j) (at_name (codes "accounts")) v e) (at_index i) k at) refl given of_document kept before;
+    })))
+
+located_document : (j : Json) → Located (root j) (document j)
+located_document j =
+    located_bind (root j) (known document_names j) _ (located_known document_names (root j) refl) (λ u is.
+    located_bind (root j) (front j) _ (located_front (root j)) (λ f given.
+    located_bind (root j) (optional (codes "sources") (each with_source no_sources) no_sources j) _
+    (located_optional (codes "sources") refl (each with_source no_sources) no_sources (root j) (λ v e.
+    located_sources (into (root j) (at_name (codes "sources")) v e) refl ([], refl))) (λ sources read.
+    located_bind (root j) (ledger f.next_id sources j) _ (located_ledger f.next_id sources j (next_given j f given) read) (λ l le.
+    located_bind (root j) (optional (codes "txns") (transactions sources) [] j) _ (located_optional (codes "txns") refl (transactions sources) [] (root j) (λ v e. located_transactions sources (into (root j) (at_name (codes "txns")) v e) refl read)) (λ calls c.
+    located_bind (root j) (targets sources l (length calls)) _ (located_targets (root j) sources l (length calls) read (λ i p v placed missing. ((i, [], refl), (p, l, calls, placed, then _ _ _ _ (next_given j f given) (then _ _ _ _ read le), then _ _ _ _ read c, missing)))) (λ w e.
+    record { located = tt }))))))
+
+-- ---- the laws
+
+pub document_located : (j : Json) (f : Fault) → document j ≡ Err f → Locates f.what f.path j × ArePlain f.path
+document_located j f e =
+    let at : IsLocated (root j) f = subst (OnFault {A = Document} (IsLocated (root j))) e (located_document j).located in
+    (subst (λ path. Locates f.what path j) (append-nil f.path) at.0, at.1)
+
+locates_lead : (w : What) (path : List Step) (j : Json) → Locates w path j → LeadsFor w path j
+locates_lead what.Missing path j h = h
+locates_lead what.Syntax path j h = absurd h.2
+locates_lead w path j h = ap is_some h.1
+
+pub paths_lead : PathsLead
+paths_lead j f e = locates_lead f.what f.path j (document_located j f e).0
+
+text_lead : (o : Option Json) (f : Fault) → on_value o ≡ Err f → LeadsIn o f
+text_lead None f e = cc
+text_lead (Some j) f e = paths_lead j f e
+
+pub paths_of_texts_lead : PathsOfTextsLead
+paths_of_texts_lead text f e = text_lead (value_of_text text) f e
+
+nothing_missing : (path : List Step) (j v : Json) → NamesMissing path j → value_at path j ≡ Some v → ⊥
+nothing_missing [] j v h e = h
+nothing_missing (at_name name ∷ ss) j v h e =
+    let none : value_at (at_name name ∷ ss) j ≡ None = ap (option_and_then (behind (at_name name))) h.1 ∙ h.2.1 in
+    absurd cc
+nothing_missing (at_index i ∷ ss) j v h e = h.2
+
+locates_wrong : (w : What) (path : List Step) (j v : Json) → Locates w path j → value_at path j ≡ Some v → IsWrong j w path v
+locates_wrong what.Missing path j v h e = nothing_missing path j v h e
+locates_wrong what.Syntax path j v h e = absurd h.2
+locates_wrong w path j v h e = subst (IsWrong j w path) (same_json h.0 v (sym h.1 ∙ e)) h.2
+  where
+    same_json : (a b : Json) → Some a ≡ Some b → a ≡ b
+    same_json a b same = cc
+
+pub values_are_wrong : ValuesAreWrong
+values_are_wrong j f v e at = locates_wrong f.what f.path j v (document_located j f e).0 at
+
+text_wrong : (o : Option Json) (j : Json) (f : Fault) (v : Json) → o ≡ Some j → on_value o ≡ Err f → value_at f.path j ≡ Some v → IsWrong j f.what f.path v
+text_wrong None j f v is e at = absurd cc
+text_wrong (Some k) j f v is e at = let same : j ≡ k = cc in values_are_wrong j f v (ap document same ∙ e) at
+
+pub values_of_texts_are_wrong : ValuesOfTextsAreWrong
+values_of_texts_are_wrong text j f v is e at = text_wrong (value_of_text text) j f v is e at
