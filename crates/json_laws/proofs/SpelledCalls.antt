@@ -10,8 +10,8 @@ use Rattle.avm_block.specs.Blocks.{Block, calls_in, calls_of}
 use Rattle.avm_block.specs.BlockRoundTrip.{AreEntries, IsBlock}
 use Rattle.avm_block.specs.BlockSpelling.{magic, format_bytes, block_entry_bytes, body_bytes}
 use Rattle.avm_rule_laws.specs.Rules.{AreBytes, IsCallOfBytes}
-use Rattle.avm_rule_laws.proofs.SoundReading.{spelled_call}
-use Rattle.json_laws.proofs.SpelledParts.{counted_part, parts}
+use Rattle.avm_rule_laws.proofs.SoundReading.{parts, spelled_call}
+use Rattle.json_laws.proofs.SpelledParts.{counted_part}
 
 calls_parts : (accepted : CallData → Bool) (before : ℕ) (es : List Entry) → AreEntries accepted before es → All (λ (e : Entry). AreBytes (call_bytes e.call)) es → All IsCallOfBytes (calls_in es)
 calls_parts accepted before [] are all = All-nil IsCallOfBytes

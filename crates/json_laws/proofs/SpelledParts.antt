@@ -1,7 +1,7 @@
 -- The parts of what is spelled in bytes are of bytes.
 use Rattle.std.proofs.Common.{ℕ, ◌<◌, List, [], ◌∷◌, ◌++◌, length, All}
-use Rattle.std.specs.List.{AllByRecursion, flat_map}
-use Rattle.std.proofs.lemmas.List.Elements.{All-nil, All-cons, All-head, All-tail}
+use Rattle.std.specs.List.{flat_map}
+use Rattle.std.proofs.lemmas.List.Elements.{All-nil, All-cons, All-tail}
 use Rattle.teal_value.specs.declared.address.Address.{Address}
 use Rattle.teal_value.specs.declared.value.Value.{Value}
 use Rattle.teal_value.specs.declared.value.Value.TheVariants.{Uint, Bytes}
@@ -11,15 +11,8 @@ use Rattle.avm_ledger.specs.Ledgers.{Ledger}
 use Rattle.avm_ledger.specs.Spellings.{u8_bytes, u16_bytes, u32_bytes, u64_bytes, short_string_bytes, string_bytes, counted_bytes, value_bytes, entry_bytes, state_bytes, schema_bytes, application_bytes, local_state_bytes, ledger_bytes}
 use Rattle.avm_rule_laws.specs.Rules.{AreBytes, IsRowOfBytes}
 use Rattle.json_laws.specs.OfBytes.{IsApplicationOfBytes, IsEntryOfBytes, IsLocalStateOfBytes, IsValueOfBytes, IsWholeLedgerOfBytes}
-
-module _ {A : Type 0} (P : A → Type 0) where
-  front_all : (xs ys : List A) → All P (xs ++ ys) → All P xs
-  front_all [] ys all = All-nil P
-  front_all (x ∷ xs) ys all = All-cons P x xs (All-head P x (xs ++ ys) all) (front_all xs ys (All-tail P x (xs ++ ys) all))
-
-  rest_all : (xs ys : List A) → All P (xs ++ ys) → All P ys
-  rest_all [] ys all = all
-  rest_all (x ∷ xs) ys all = rest_all xs ys (All-tail P x (xs ++ ys) all)
+use Rattle.avm_rule_laws.proofs.ProgramValues.{front_all, rest_all}
+use Rattle.avm_rule_laws.proofs.SoundReading.{parts}
 
 -- one behind another
 abbrev pub joined : List ℕ → List (List ℕ) → List ℕ
@@ -31,12 +24,6 @@ front_part x y all = front_all (λ b. b < 256) x y all
 
 rest_part : (x y : List ℕ) → AreBytes (x ++ y) → AreBytes y
 rest_part x y all = rest_all (λ b. b < 256) x y all
-
-pub parts : (front : List ℕ) (ps : List (List ℕ)) → AreBytes (joined front ps) → AreBytes front × AllByRecursion AreBytes ps
-parts front [] all = (all, tt)
-parts front (p ∷ ps) all =
-    let more = parts (front ++ p) ps all in
-    (front_part front p more.0, (rest_part front p more.0, more.1))
 
 -- of each where all are of bytes, one behind another
 each_part : {A : Type 0} (spelling : A → List ℕ) (P : A → Type 0) (xs : List A) → ((x : A) → AreBytes (spelling x) → P x) → AreBytes (flat_map spelling xs) → All P xs
