@@ -15,10 +15,11 @@ use Rattle.mv_chain.specs.declared.Version.{Version}
 use Rattle.mv_chain.specs.Versions.{newest_at, oldest_timestamp, versions_read_at}
 use Rattle.mv_shards.specs.Attempts.{CallAttempt}
 use Rattle.mv_shards.specs.Chains.{versions_in, versions_or, with_versions}
-use Rattle.mv_shards.specs.KeptChains.{AreChains, ChainMap, IsReadable, chain_in, is_untouched, list_or, touched, versions_of}
+use Rattle.mv_shards.specs.KeptChains.{AreChains, ChainMap, IsReadable, IsReadableAt, chain_in, is_untouched, list_or, number_in, touched, versions_of}
 use Rattle.mv_shards.specs.Shards.{IsFirstRead, Shard}
 use Rattle.mv_shards.specs.KeptShards.{IsMarkedRead}
 use Rattle.mv_shards.proofs.Touched.{found_inserted, found_touched, marked_touched, sorted_touched, touched_or}
+use Rattle.mv_shards.proofs.Numbers.{numbered_there}
 use Rattle.mv_shards.proofs.OneChain.{some_of}
 
 -- what is seen of a map has the versions of every item
@@ -69,5 +70,9 @@ readable_of first t map x old there =
     record { chain = c.0; found = c.1; old_enough = subst (λ vs. oldest_timestamp vs ≤ t) (ap (list_or (first x)) c.1) old }
 
 -- an item that was given a chain is readable as it was without one
-pub placed_readable : {V : Type 0} (first : Item → V) (t : ℕ) (map new : ChainMap V) (x : Item) → oldest_timestamp (versions_of first map x) ≤ t → versions_of first new x ≡ versions_of first map x → IsSome (chain_in new x) → IsReadable t new x
-placed_readable first t map new x old same there = readable_of first t new x (subst (λ vs. oldest_timestamp vs ≤ t) (sym same) old) there
+pub numbered_readable : {V : Type 0} (first : Item → V) (t : ℕ) (map new : ChainMap V) (x : Item) (n : ℕ) → oldest_timestamp (versions_of first map x) ≤ t → versions_of first new x ≡ versions_of first map x → number_in new x ≡ Some n → IsReadableAt t new n
+numbered_readable first t map new x n old same number = record {
+  item = x;
+  numbered = number;
+  readable = readable_of first t new x (subst (λ vs. oldest_timestamp vs ≤ t) (sym same) old) (numbered_there new x n number);
+}

@@ -75,9 +75,13 @@ pub record HasRoomFor {V : Type 0} (map : ChainMap V) (x : Item) : Type 0 where
   pub found : chain_in map x ≡ Some chain
   pub room : 0 < chain.room
 
+-- every chain keeps its number
+abbrev pub AreNumbersKept : {V : Type 0} → ChainMap V → ChainMap V → Type 0
+AreNumbersKept old new = (x : Item) (n : ℕ) → number_in old x ≡ Some n → number_in new x ≡ Some n
+
 -- no chain was lost, and no room
 pub record IsRoomier {V : Type 0} (old new : ChainMap V) : Type 0 where
-  pub still : (x : Item) → IsSome (chain_in old x) → IsSome (chain_in new x)
+  pub numbers : AreNumbersKept old new
   pub rooms : (x : Item) → HasRoomFor old x → HasRoomFor new x
 
 -- ---- marks and writes
@@ -96,6 +100,18 @@ pub record TakesVersion {V : Type 0} (t : ℕ) (map : ChainMap V) (x : Item) : T
   pub old_enough : oldest_timestamp chain.list ≤ t
   pub absent : AllByRecursion (λ v. v.timestamp ≢ t) chain.list
 
+-- the chain of a number is an item's, and goes back to a timestamp
+pub record IsReadableAt {V : Type 0} (t : ℕ) (map : ChainMap V) (number : ℕ) : Type 0 where
+  pub item : Item
+  pub numbered : number_in map item ≡ Some number
+  pub readable : IsReadable t map item
+
+-- the chain of a number is an item's, and takes a version at a timestamp
+pub record TakesVersionAt {V : Type 0} (t : ℕ) (map : ChainMap V) (number : ℕ) : Type 0 where
+  pub item : Item
+  pub numbered : number_in map item ≡ Some number
+  pub takes : TakesVersion t map item
+
 -- one item read at a timestamp
 abbrev pub one_marked : {V : Type 0} → ℕ → Item → AllVersions V → AllVersions V
 one_marked t item all x = if is_eq (item_cmp x item) then versions_read_at t (all item) else all x
@@ -109,8 +125,10 @@ pub record IsMarked {V : Type 0} (t : ℕ) (item : Item) (old new : ChainMap V) 
   pub kept : (first : Item → V) (low : ℕ) → AreChains first low old → AreChains first low new
   pub readable : (x : Item) → IsReadable t old x → IsReadable t new x
   pub takes : (x : Item) → TakesVersion t old x → TakesVersion t new x
+  pub numbers : AreNumbersKept old new
 
 pub record IsInstalled {V : Type 0} (t : ℕ) (item : Item) (value : V) (old new : ChainMap V) : Type 0 where
   pub versions : (first : Item → V) (x : Item) → versions_of first new x ≡ one_installed t item value (versions_of first old) x
   pub kept : (first : Item → V) (low : ℕ) → low ≤ t → AreChains first low old → AreChains first low new
   pub others : (x : Item) → is_eq (item_cmp x item) ≡ false → chain_in new x ≡ chain_in old x
+  pub numbers : AreNumbersKept old new

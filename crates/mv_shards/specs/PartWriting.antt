@@ -1,21 +1,24 @@
 -- How a commit is made on shards as they are kept: what each function of this crate leaves.
-use Rattle.std.specs.Ordering.{is_eq}
-use Rattle.avm_items.specs.Items.{item_cmp}
 use Rattle.std.specs.Prelude.{◌≡◌, ℕ, ◌<◌, ◌≤◌, ◌==◌, ◌⊎◌, Bool, true, false, if◌then◌else◌, List, [], ◌∷◌, get_or, length, Option, None, Some}
 use Rattle.std.specs.Arc.{arc_value}
 use Rattle.std.specs.List.{AllByRecursion}
+use Rattle.std.specs.Ordering.{is_eq}
 use Rattle.avm_items.specs.declared.item.Item.{Item}
 use Rattle.avm_items.specs.declared.item_value.ItemValue.{ItemValue}
 use Rattle.avm_items.specs.declared.item_value.ItemValue.TheVariants.{Absent}
-use Rattle.avm_items.specs.Items.{ItemMap}
+use Rattle.avm_items.specs.Items.{IsInItemOrder, ItemMap, item_cmp}
 use Rattle.avm_items.specs.LedgerItems.{at}
 use Rattle.avm_ledger.specs.Ledgers.{Ledger}
 use Rattle.mv_shards.specs.declared.part.Part.{Part}
+use Rattle.mv_shards.specs.declared.room.Room.{Room}
+use Rattle.mv_shards.specs.declared.spot.Spot.{Spot}
 use Rattle.mv_shards.specs.Indexes.{shard_of}
-use Rattle.mv_shards.specs.KeptChains.{AllVersions, AreChains, ChainMap, TakesVersion, IsGrown, IsReadable, IsRoomier, chain_in, one_installed, one_marked, versions_of}
+use Rattle.mv_shards.specs.KeptChains.{AllVersions, AreChains, AreNumbersKept, ChainMap, HasRoomFor, IsGrown, IsReadable, IsRoomier, TakesVersion, chain_in, number_in, one_installed, one_marked, versions_of}
 use Rattle.mv_shards.specs.Shards.{Shard, versions_held}
 use Rattle.mv_shards.specs.Helds.{ShardSlots, shard_for}
 use Rattle.mv_shards.specs.Writing.{committed_versions, has_timestamp}
+
+-- ---- where a commit can't write
 
 -- its low mark is above the timestamp
 abbrev pub IsAbove : ℕ → Option Shard → Type 0
@@ -93,6 +96,7 @@ pub record IsMarkedMap (own : Bool) (t : ℕ) (item : Item) (old new : ChainMap 
   pub kept : (first : Item → ItemValue) (low : ℕ) → AreChains first low old → AreChains first low new
   pub readable : (x : Item) → IsReadable t old x → IsReadable t new x
   pub takes : (x : Item) → TakesVersion t old x → TakesVersion t new x
+  pub numbers : AreNumbersKept old new
 
 pub record IsMarkedItem (t : ℕ) (item : Item) (old new : Parts) : Type 0 where
   pub count : length new ≡ length old
@@ -104,6 +108,7 @@ pub record IsInstalledMap (own : Bool) (t : ℕ) (item : Item) (value : ItemValu
   pub versions : (first : Item → ItemValue) (x : Item) → versions_of first new x ≡ (if own then one_installed t item value (versions_of first old) else versions_of first old) x
   pub kept : (first : Item → ItemValue) (low : ℕ) → low ≤ t → AreChains first low old → AreChains first low new
   pub others : (x : Item) → is_eq (item_cmp x item) ≡ false → chain_in new x ≡ chain_in old x
+  pub numbers : AreNumbersKept old new
 
 pub record IsInstalledItem (t : ℕ) (item : Item) (value : ItemValue) (old new : Parts) : Type 0 where
   pub count : length new ≡ length old
@@ -122,6 +127,68 @@ TakesVersionIn t parts x = TakesVersion t (chains_for parts x) x
 abbrev pub AreReady : ℕ → Parts → ItemMap → Type 0
 AreReady t parts [] = Unit {0}
 AreReady t parts (e ∷ es) = TakesVersionIn t parts e.0 × AllByRecursion (λ f. is_eq (item_cmp f.0 e.0) ≡ false) es × AreReady t parts es
+
+-- ---- where the chains of items stand
+
+-- where an item's chain stands
+pub record IsSpot (parts : Parts) (item : Item) (spot : Spot) : Type 0 where
+  pub shard : spot.shard ≡ shard_of item
+  pub number : number_in (chains_for parts item) item ≡ Some spot.number
+
+-- items beside other things, in the same order
+abbrev pub AreBeside : {B : Type 0} → (Item × ItemValue → B → Type 0) → ItemMap → List B → Type 0
+AreBeside P [] [] = Unit {0}
+AreBeside P (e ∷ es) (b ∷ bs) = P e b × AreBeside P es bs
+AreBeside P _ _ = ⊥
+
+-- where the chains of items stand
+abbrev pub AreSpots : Parts → ItemMap → List Spot → Type 0
+AreSpots parts = AreBeside (λ e s. IsSpot parts e.0 s)
+
+-- a value that is to be written, beside where its item's chain stands
+pub record IsPlaced (parts : Parts) (e : Item × ItemValue) (placed : Spot × ItemValue) : Type 0 where
+  pub spot : IsSpot parts e.0 placed.0
+  pub value : placed.1 ≡ e.1
+
+abbrev pub ArePlaced : Parts → ItemMap → List (Spot × ItemValue) → Type 0
+ArePlaced parts = AreBeside (IsPlaced parts)
+
+-- placed, and the chains have room
+abbrev pub AreRoomy : Parts → ItemMap → List (Spot × ItemValue) → Type 0
+AreRoomy parts = AreBeside (λ e placed. IsPlaced parts e placed × HasRoomFor (chains_for parts e.0) e.0)
+
+-- where the chains stand of what was read, and of what is to be written: these have room
+pub record IsRoom (parts : Parts) (reads writes : ItemMap) (made : Room) : Type 0 where
+  pub spots : AreSpots parts reads made.reads.items
+  pub roomy : AreRoomy parts writes made.writes.items
+  pub rising_reads : IsInItemOrder reads
+  pub rising_writes : IsInItemOrder writes
+
+-- a chain that goes back to a timestamp stands there
+pub record IsReadableSpot (t : ℕ) (parts : Parts) (spot : Spot) : Type 0 where
+  pub item : Item
+  pub here : IsSpot parts item spot
+  pub readable : IsReadableIn t parts item
+
+-- a chain that takes a version at a timestamp stands there
+pub record TakesVersionThere (t : ℕ) (parts : Parts) (spot : Spot) : Type 0 where
+  pub item : Item
+  pub here : IsSpot parts item spot
+  pub takes : TakesVersionIn t parts item
+
+-- chains of items that go back to a timestamp stand there
+pub record AreReadableSpots (t : ℕ) (parts : Parts) (spots : List Spot) : Type 0 where
+  pub items : ItemMap
+  pub here : AreSpots parts items spots
+  pub readable : AllByRecursion (λ e. IsReadableIn t parts e.0) items
+
+-- the values are of items, each once, whose chains take the version
+pub record AreReadyPlaced (t : ℕ) (parts : Parts) (placed : List (Spot × ItemValue)) : Type 0 where
+  pub items : ItemMap
+  pub here : ArePlaced parts items placed
+  pub ready : AreReady t parts items
+
+-- ---- what is written
 
 -- the items of a shard among those read at a timestamp, one after another
 abbrev pub versions_marked : ℕ → ℕ → ItemMap → AllVersions ItemValue → AllVersions ItemValue
@@ -142,6 +209,7 @@ pub record AreMarkedAt (t : ℕ) (reads : ItemMap) (old new : Parts) : Type 0 wh
   pub versions : (i : ℕ) (first : Item → ItemValue) (x : Item) → versions_of first (chains_at new i) x ≡ versions_marked i t reads (versions_of first (chains_at old i)) x
   pub kept : (i : ℕ) (first : Item → ItemValue) (low : ℕ) → AreChains first low (chains_at old i) → AreChains first low (chains_at new i)
   pub takes : (i : ℕ) (x : Item) → TakesVersion t (chains_at old i) x → TakesVersion t (chains_at new i) x
+  pub numbers : (i : ℕ) → AreNumbersKept (chains_at old i) (chains_at new i)
 
 pub record AreInstalledAt (t : ℕ) (writes : ItemMap) (old new : Parts) : Type 0 where
   pub count : length new ≡ length old

@@ -1,6 +1,6 @@
 //! The chains of items, each with a number.
 
-ghost use Rattle.std.specs.Prelude.{◌≡◌, ◌≤◌, ◌<◌, [], IfOk, IsSome, None, OnOk, Some};
+ghost use Rattle.std.specs.Prelude.{◌≡◌, ◌≤◌, ◌<◌, [], IfOk, None, OnOk, Some, length};
 ghost use Rattle.std.specs.Option.{option_copied};
 ghost use Rattle.std.specs.Ordering.{is_eq};
 ghost use Rattle.avm_items.specs.Items.{item_cmp};
@@ -35,7 +35,7 @@ impl Model for Chains {
 }
 
 impl Chains {
-    ghost use Rattle.mv_shards.specs.KeptChains.{AreChains, IsGrown, IsInstalled, IsMarked, IsReadable, IsRoomier, HasRoomFor, TakesVersion, chain_in, number_in, versions_of};
+    ghost use Rattle.mv_shards.specs.KeptChains.{AreChains, IsGrown, IsInstalled, IsMarked, IsReadableAt, IsRoomier, HasRoomFor, TakesVersionAt, chain_in, number_in, versions_of};
 
     /// No chains. It takes no memory.
     pub(crate) fn new(alloc: Global) -> Chains
@@ -91,17 +91,25 @@ impl Chains {
         }
     }
 
-    /// Gives an item a chain, which has none. Its versions stay.
+    /// The chain of a number.
+    pub(crate) fn at(&self, number: usize) -> &Chain<ItemValue>
+        requires { number < length self.now }
+        ensures { (item : _) → number_in self.now item ≡ Some number → chain_in self.now item ≡ Some result.now }
+    {
+        &self.list[number].1
+    }
+
+    /// Gives an item a chain, which has none, and says its number. Its versions stay.
     pub(crate) fn make(
         &mut self,
         alloc: Global,
         item: &Item,
         first: ItemValue,
-    ) -> Result<(), AllocError>
+    ) -> Result<usize, AllocError>
         requires none { chain_in self.old item.now ≡ None }
         ensures grown { (value_of : _) → value_of item.now ≡ first → IsGrown value_of self.old self.new }
         ensures roomier { OnOk result (IsRoomier self.old self.new) }
-        ensures there { OnOk result (IsSome (chain_in self.new item.now)) }
+        ensures number { IfOk result (λ number. number_in self.new item.now ≡ Some number) }
     {
         let chain = Chain::new(alloc, first)?;
         make_slots(alloc, &mut self.recent)?;
@@ -110,46 +118,35 @@ impl Chains {
         self.numbers.insert(item.copied(), number)?;
         self.list.push_reserved((item.copied(), chain));
         note(&mut self.recent, item, number);
-        Ok(())
+        Ok(number)
     }
 
-    /// Makes room in an item's chain for one more version.
-    pub(crate) fn reserve(&mut self, item: &Item) -> Result<(), AllocError>
-        requires there { IsSome (chain_in self.old item.now) }
+    /// Makes room in the chain of a number for one more version.
+    pub(crate) fn reserve(&mut self, number: usize) -> Result<(), AllocError>
+        requires { number < length self.old }
         ensures grown { (value_of : _) → IsGrown value_of self.old self.new }
         ensures roomier { OnOk result (IsRoomier self.old self.new) }
-        ensures room { OnOk result (HasRoomFor self.new item.now) }
+        ensures room { OnOk result ((item : _) → number_in self.old item ≡ Some number → HasRoomFor self.new item) }
     {
-        match self.find(item) {
-            Some(number) => self.list[number].1.reserve(),
-            None => unreachable!(),
-        }
+        self.list[number].1.reserve()
     }
 
-    /// Notes that an item's newest version not above a timestamp was read at it.
-    pub(crate) fn mark(&mut self, item: &Item, timestamp: u64)
-        requires readable { IsReadable timestamp self.old item.now }
+    /// Notes that the newest version of a number's chain not above a timestamp was read at it.
+    pub(crate) fn mark(&mut self, number: usize, timestamp: u64)
+        requires readable { IsReadableAt timestamp self.old number }
         requires positive { 0 < timestamp }
-        ensures { IsMarked timestamp item.now self.old self.new }
+        ensures { (item : _) → number_in self.old item ≡ Some number → IsMarked timestamp item self.old self.new }
     {
-        match self.find(item) {
-            Some(number) => self.list[number].1.mark(timestamp),
-            None => unreachable!(),
-        }
+        self.list[number].1.mark(timestamp);
     }
 
-    /// Adds a version to an item's chain, which takes it.
-    pub(crate) fn install(&mut self, item: &Item, value: ItemValue, timestamp: u64)
-        requires takes { TakesVersion timestamp self.old item.now }
+    /// Adds a version to the chain of a number, which takes it.
+    pub(crate) fn install(&mut self, number: usize, value: ItemValue, timestamp: u64)
+        requires takes { TakesVersionAt timestamp self.old number }
         requires positive { 0 < timestamp }
-        ensures { IsInstalled timestamp item.now value self.old self.new }
+        ensures { (item : _) → number_in self.old item ≡ Some number → IsInstalled timestamp item value self.old self.new }
     {
-        match self.find(item) {
-            Some(number) => {
-                let _ = self.list[number].1.install(timestamp, value);
-            }
-            None => unreachable!(),
-        }
+        let _ = self.list[number].1.install(timestamp, value);
     }
 
     /// Drops the versions that no read from a timestamp on can find. Most chains have one version, which stays.

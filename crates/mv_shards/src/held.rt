@@ -16,7 +16,7 @@ use crate::attempt::Attempt;
 use crate::index::{SHARD_COUNT, shard_of};
 use crate::part::{Part, has_value, has_version, late, prune, read, version_count};
 use crate::read_fault::ReadError;
-use crate::room::{Parts, chain_all};
+use crate::room::{Parts, add_chains_for};
 use crate::shard::Shard;
 use crate::writing::write_parts;
 use avm_items::{Item, ItemMap, ItemValue};
@@ -117,7 +117,7 @@ impl Held {
         requires { AreHeld self.old items.now }
         ensures { self.new ≡ self.old }
     {
-        let _placed = chain_all(&mut self.parts, items);
+        let _added = add_chains_for(&mut self.parts, items);
     }
 
     /// Whether a write of an item at a timestamp is late: the version that it would follow was read above it. The

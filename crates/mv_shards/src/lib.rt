@@ -15,6 +15,7 @@ mod read_fault;
 mod room;
 mod shard;
 mod slot;
+mod spot;
 mod writing;
 
 pub use attempt::Attempt;

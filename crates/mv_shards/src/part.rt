@@ -1,16 +1,16 @@
 //! A part of the items with their versions, as a shard keeps them.
 
-ghost use Rattle.std.specs.Prelude.{◌≡◌, ◌≤◌, ◌<◌, ◌⊎◌, ◌↔◌, length, IfErr, IfOk, IsErrOf, IsSome, OnErr, OnOk};
+ghost use Rattle.std.specs.Prelude.{◌≡◌, ◌≤◌, ◌<◌, ◌⊎◌, ◌↔◌, length, IfOk, IsErrOf, OnErr, OnOk, Some};
 ghost use Rattle.teal_value.specs.declared.failure.Failure.TheVariants.{Fault};
 ghost use Rattle.avm_items.specs.Items.{value_in};
 ghost use Rattle.avm_items.specs.LedgerItems.{at};
 ghost use Rattle.avm_items.specs.SameValues.{is_same_value};
 ghost use Rattle.mv_chain.specs.Versions.{lateness, newest_at, oldest_timestamp};
 ghost use Rattle.mv_shards.specs.declared.read_fault.ReadFault.TheVariants.{Pruned};
-ghost use Rattle.mv_shards.specs.KeptChains.{AreChains, IsGrown, IsReadable, IsRoomier, chain_in, versions_of};
+ghost use Rattle.mv_shards.specs.KeptChains.{AreChains, IsGrown, IsReadableAt, IsRoomier, number_in, versions_of};
 ghost use Rattle.mv_shards.specs.Writing.{has_timestamp};
 ghost use Rattle.mv_shards.specs.Shards.{IsFirstRead, IsPruned, IsPrunedShard, IsReadAgain, versions_held};
-ghost use Rattle.mv_shards.specs.KeptShards.{IsMarkedRead, IsPart, shard_shown};
+ghost use Rattle.mv_shards.specs.KeptShards.{IsMarkedRead, IsNewestValue, IsPart, shard_shown};
 
 use crate::attempt::Attempt;
 use crate::chains::Chains;
@@ -32,19 +32,19 @@ pub(crate) struct Part {
     pub(crate) chains: Chains,
 }
 
-/// Gives an item a chain, if it has none.
+/// Gives an item a chain, if it has none, and says its number.
 pub(crate) fn add_chain(
     alloc: Global,
     chains: &mut Chains,
     base: &Ledger,
     item: &Item,
-) -> Result<(), AllocError>
+) -> Result<usize, AllocError>
     ensures grown { IsGrown (at base.now) chains.old chains.new }
     ensures roomier { OnOk result (IsRoomier chains.old chains.new) }
-    ensures there { OnOk result (IsSome (chain_in chains.new item.now)) }
+    ensures number { IfOk result (λ number. number_in chains.new item.now ≡ Some number) }
 {
     match chains.find_and_note(item) {
-        Some(_number) => Ok(()),
+        Some(number) => Ok(number),
         None => {
             let first = item_of(base, item)?;
             chains.make(alloc, item, first)
@@ -52,15 +52,12 @@ pub(crate) fn add_chain(
     }
 }
 
-/// A copy of the newest value not above a timestamp.
-fn value_at(chains: &Chains, item: &Item, timestamp: u64) -> Result<ItemValue, AllocError>
-    requires { IsReadable timestamp chains.now item.now }
-    ensures { IfOk result (λ value. (first : _) (d : _) → value ≡ (newest_at timestamp (versions_of first chains.now item.now) d).value) }
+/// A copy of the newest value not above a timestamp in the chain of a number.
+fn value_at(chains: &Chains, number: usize, timestamp: u64) -> Result<ItemValue, AllocError>
+    requires { IsReadableAt timestamp chains.now number }
+    ensures { IfOk result (IsNewestValue timestamp chains.now number) }
 {
-    match chains.get(item) {
-        Some(chain) => chain.read_at(timestamp).clone(),
-        None => unreachable!(),
-    }
+    chains.at(number).read_at(timestamp).clone()
 }
 
 /// Reads an item for the first time in an attempt, and marks the version that is found.
@@ -77,10 +74,10 @@ fn first_read(
     ensures attempt { OnErr result (attempt.new ≡ attempt.old) }
     ensures kept { (low : _) → AreChains (at base.now) low chains.old → AreChains (at base.now) low chains.new }
 {
-    add_chain(alloc, chains, base, &item)?;
-    let value = value_at(chains, &item, attempt.timestamp)?;
+    let number = add_chain(alloc, chains, base, &item)?;
+    let value = value_at(chains, number, attempt.timestamp)?;
     attempt.reads.insert(item.copied(), value.clone()?)?;
-    chains.mark(&item, attempt.timestamp);
+    chains.mark(number, attempt.timestamp);
     Ok(value)
 }
 

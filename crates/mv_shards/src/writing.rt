@@ -2,59 +2,59 @@
 
 ghost use Rattle.std.specs.Prelude.{◌<◌, ◌≢◌, OnErr, OnOk};
 ghost use Rattle.std.specs.List.{AllByRecursion};
-ghost use Rattle.mv_shards.specs.PartWriting.{AreGrown, AreInstalledAt, AreMarkedAt, AreReady, AreWrittenParts, TakesVersionIn, IsInstalledItem, IsMarkedItem, IsReadableIn, chains_at, chains_for, first_at};
+ghost use Rattle.mv_shards.specs.PartWriting.{AreGrown, AreInstalledAt, AreMarkedAt, ArePlaced, AreReadableSpots, AreReadyPlaced, AreSpots, AreWrittenParts, IsInstalledItem, IsMarkedItem, IsReadableSpot, IsSpot, TakesVersionThere, chains_at, chains_for, first_at};
 ghost use Rattle.mv_shards.specs.KeptChains.{AreChains, versions_of};
 ghost use Rattle.mv_shards.specs.KeptHelds.{IsHeldIn};
 ghost use Rattle.mv_shards.specs.Indexes.{shard_of as shard_index};
 
-use crate::index::shard_of;
 use crate::room::{Parts, make_both};
-use avm_items::{Item, ItemMap, ItemValue};
+use crate::spot::Spot;
+use avm_items::{ItemMap, ItemValue};
 use std::alloc::{AllocError, Global};
 
-/// Notes that an item's newest version not above a timestamp was read at it.
-fn mark_item(parts: &mut Parts, item: &Item, timestamp: u64)
-    requires readable { IsReadableIn timestamp parts.old item.now }
+/// Notes that the newest version not above a timestamp was read at it, in the chain that stands there.
+fn mark_at(parts: &mut Parts, spot: Spot, timestamp: u64)
+    requires readable { IsReadableSpot timestamp parts.old spot }
     requires positive { 0 < timestamp }
-    ensures { IsMarkedItem timestamp item.now parts.old parts.new }
+    ensures { (item : _) → IsSpot parts.old item spot → IsMarkedItem timestamp item parts.old parts.new }
 {
-    match &mut parts[usize::from(shard_of(item))] {
-        Some(part) => part.chains.mark(item, timestamp),
+    match &mut parts[spot.shard] {
+        Some(part) => part.chains.mark(spot.number, timestamp),
         None => unreachable!(),
     }
 }
 
-/// Adds a version to an item's chain, which takes it.
-fn install_item(parts: &mut Parts, item: &Item, value: ItemValue, timestamp: u64)
-    requires takes { TakesVersionIn timestamp parts.old item.now }
+/// Adds a version to the chain that stands there, which takes it.
+fn install_at(parts: &mut Parts, spot: Spot, value: ItemValue, timestamp: u64)
+    requires takes { TakesVersionThere timestamp parts.old spot }
     requires positive { 0 < timestamp }
-    ensures { IsInstalledItem timestamp item.now value parts.old parts.new }
+    ensures { (item : _) → IsSpot parts.old item spot → IsInstalledItem timestamp item value parts.old parts.new }
 {
-    match &mut parts[usize::from(shard_of(item))] {
-        Some(part) => part.chains.install(item, value, timestamp),
+    match &mut parts[spot.shard] {
+        Some(part) => part.chains.install(spot.number, value, timestamp),
         None => unreachable!(),
     }
 }
 
-/// Notes of each item that its newest version not above a timestamp was read at it.
-fn mark_all(parts: &mut Parts, reads: &ItemMap, timestamp: u64)
-    requires readable { AllByRecursion (λ e. IsReadableIn timestamp parts.old e.0) reads.now }
+/// Notes of each of these chains that its newest version not above a timestamp was read at it.
+fn mark_all(parts: &mut Parts, spots: &[Spot], timestamp: u64)
+    requires readable { AreReadableSpots timestamp parts.old spots.now }
     requires positive { 0 < timestamp }
-    ensures { AreMarkedAt timestamp reads.now parts.old parts.new }
+    ensures { (reads : _) → AreSpots parts.old reads spots.now → AreMarkedAt timestamp reads parts.old parts.new }
 {
-    for (item, _value) in reads.as_slice() {
-        mark_item(parts, item, timestamp);
+    for spot in spots {
+        mark_at(parts, *spot, timestamp);
     }
 }
 
-/// Adds a version of each item that is written.
-fn install_all(parts: &mut Parts, writes: Vec<(Item, ItemValue)>, timestamp: u64)
-    requires ready { AreReady timestamp parts.old writes.items }
+/// Adds a version to each of these chains.
+fn install_all(parts: &mut Parts, placed: Vec<(Spot, ItemValue)>, timestamp: u64)
+    requires ready { AreReadyPlaced timestamp parts.old placed.items }
     requires positive { 0 < timestamp }
-    ensures { AreInstalledAt timestamp writes.items parts.old parts.new }
+    ensures { (writes : _) → ArePlaced parts.old writes placed.items → AreInstalledAt timestamp writes parts.old parts.new }
 {
-    for (item, value) in writes {
-        install_item(parts, &item, value, timestamp);
+    for (spot, value) in placed {
+        install_at(parts, spot, value, timestamp);
     }
 }
 
@@ -81,11 +81,11 @@ pub(crate) fn write_parts(
     ensures grown { OnErr result (AreGrown parts.old parts.new × AreGrown others.old others.new) }
 {
     match make_both(alloc, parts, others, reads, writes) {
-        Ok((copies, other_copies)) => {
-            mark_all(parts, reads, timestamp);
-            install_all(parts, copies, timestamp);
-            mark_all(others, reads, timestamp);
-            install_all(others, other_copies, timestamp);
+        Ok((room, other_room)) => {
+            mark_all(parts, &room.reads, timestamp);
+            install_all(parts, room.writes, timestamp);
+            mark_all(others, &other_room.reads, timestamp);
+            install_all(others, other_room.writes, timestamp);
             Ok(())
         }
         Err(refused) => Err(refused),

@@ -3,7 +3,7 @@ use Rattle.avm_items.specs.LedgerItems.{at}
 use Rattle.mv_chain.specs.Versions.{newest_at, oldest_timestamp}
 use Rattle.mv_shards.specs.Attempts.{CallAttempt}
 use Rattle.mv_shards.specs.KeptChains.{one_marked, versions_of}
-use Rattle.mv_shards.proofs.FirstReads.{placed_readable}
+use Rattle.mv_shards.proofs.FirstReads.{numbered_readable}
 use Rattle.mv_shards.proofs.part.first_read.Goals as goal
 
 pub returns-clause-ok : goal.returns-clause-ok
@@ -12,20 +12,20 @@ returns-clause-ok c =
     let t = c.attempt.inside.timestamp in
     rw (← c.attempt.view_is)
     record {
-      value = λ d. c.in_ok-value.ensures first d ∙ ap (λ vs. (newest_at t vs d).value) (c.add_chain.ensures.grown.versions c.args.item);
-      marked = λ y. c.mark.ensures.versions first y ∙ ap (λ all. one_marked t c.args.item all y) (λ j x. c.add_chain.ensures.grown.versions x j);
+      value = λ d. c.in_ok-value.ensures c.args.item c.in_ok-number.ensures.number first d ∙ ap (λ vs. (newest_at t vs d).value) (c.add_chain.ensures.grown.versions c.args.item);
+      marked = λ y. (c.mark.ensures c.args.item c.in_ok-number.ensures.number).versions first y ∙ ap (λ all. one_marked t c.args.item all y) (λ j x. c.add_chain.ensures.grown.versions x j);
       joins = search rules;
     }
 
 pub returns-clause-kept : goal.returns-clause-kept
-returns-clause-kept c low k = c.mark.ensures.kept (at c.args.base.now) low (c.add_chain.ensures.grown.kept low k)
+returns-clause-kept c low k = (c.mark.ensures c.args.item c.in_ok-number.ensures.number).kept (at c.args.base.now) low (c.add_chain.ensures.grown.kept low k)
 
 pub value_at-requires : goal.value_at-requires
 value_at-requires c =
-    placed_readable (at c.args.base.now) c.attempt.inside.timestamp c.args.chains.now c.add_chain.new.chains c.args.item
-    (subst (λ (a : CallAttempt). oldest_timestamp (versions_of (at c.args.base.now) c.args.chains.now c.args.item) ≤ a.timestamp) (sym c.attempt.view_is) c.requires.old_enough) (c.add_chain.ensures.grown.versions c.args.item) c.in_ok-add_chain.ensures.there
+    numbered_readable (at c.args.base.now) c.attempt.inside.timestamp c.args.chains.now c.add_chain.new.chains c.args.item c.in_ok-number.number
+    (subst (λ (a : CallAttempt). oldest_timestamp (versions_of (at c.args.base.now) c.args.chains.now c.args.item) ≤ a.timestamp) (sym c.attempt.view_is) c.requires.old_enough) (c.add_chain.ensures.grown.versions c.args.item) c.in_ok-number.ensures.number
 
 pub mark-requires-clause-readable : goal.mark-requires-clause-readable
 mark-requires-clause-readable c =
-    placed_readable (at c.args.base.now) c.attempt.inside.timestamp c.args.chains.now c.add_chain.new.chains c.args.item
-    (subst (λ (a : CallAttempt). oldest_timestamp (versions_of (at c.args.base.now) c.args.chains.now c.args.item) ≤ a.timestamp) (sym c.attempt.view_is) c.requires.old_enough) (c.add_chain.ensures.grown.versions c.args.item) c.in_ok-add_chain.ensures.there
+    numbered_readable (at c.args.base.now) c.attempt.inside.timestamp c.args.chains.now c.add_chain.new.chains c.args.item c.in_ok-number.number
+    (subst (λ (a : CallAttempt). oldest_timestamp (versions_of (at c.args.base.now) c.args.chains.now c.args.item) ≤ a.timestamp) (sym c.attempt.view_is) c.requires.old_enough) (c.add_chain.ensures.grown.versions c.args.item) c.in_ok-number.ensures.number

@@ -1,0 +1,21 @@
+use Rattle.std.proofs.Common.{refl, subst}
+use Rattle.mv_shards.specs.KeptChains.{IsReadable}
+use Rattle.mv_shards.proofs.Spots.{spot_chains, spot_here, spot_number}
+use Rattle.mv_shards.proofs.Writes.{marked_item}
+use Rattle.mv_shards.proofs.writing.mark_at.Goals as goal
+
+pub mark-requires-clause-readable : goal.mark-requires-clause-readable
+mark-requires-clause-readable c =
+    let p = c.requires.readable in
+    let here = spot_here c.args.parts.now p.item c.args.spot c.index-parts-spot.result c.in-Some.part p.here c.in-Some.is in
+    record {
+      item = p.item;
+      numbered = spot_number c.args.parts.now p.item c.args.spot c.in-Some.part p.here here;
+      readable = subst (λ map. IsReadable c.args.timestamp map p.item) (spot_chains c.args.parts.now p.item c.args.spot c.in-Some.part p.here here) p.readable;
+    }
+
+pub returns : goal.returns
+returns c item spot =
+    let here = spot_here c.args.parts.now item c.args.spot c.index-parts-spot.result c.in-Some.part spot c.in-Some.is in
+    marked_item c.args.timestamp item c.args.parts.now c.args.spot.shard c.in-Some.part (record c.in-Some.part { chains = c.mark.new.self }) spot.shard here refl
+    (c.mark.ensures item (spot_number c.args.parts.now item c.args.spot c.in-Some.part spot here))
