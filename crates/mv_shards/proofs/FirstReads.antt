@@ -70,7 +70,9 @@ readable_of first t map x old there =
     record { chain = c.0; found = c.1; old_enough = subst (λ vs. oldest_timestamp vs ≤ t) (ap (list_or (first x)) c.1) old }
 
 -- an item that was given a chain is readable as it was without one
-pub numbered_readable : {V : Type 0} (first : Item → V) (t : ℕ) (map new : ChainMap V) (x : Item) (n : ℕ) → oldest_timestamp (versions_of first map x) ≤ t → versions_of first new x ≡ versions_of first map x → number_in new x ≡ Some n → IsReadableAt t new n
+pub numbered_readable : {V : Type 0} (first : Item → V) (t : ℕ) (map new : ChainMap V) (x : Item) (n : ℕ)
+    → oldest_timestamp (versions_of first map x) ≤ t → versions_of first new x ≡ versions_of first map x
+    → number_in new x ≡ Some n → IsReadableAt t new n
 numbered_readable first t map new x n old same number = record {
   item = x;
   numbered = number;

@@ -7,8 +7,8 @@ use Rattle.avm_items.specs.Items.{ItemMap}
 use Rattle.mv_shards.specs.declared.part.Part.{Part}
 use Rattle.mv_shards.specs.declared.spot.Spot.{Spot}
 use Rattle.mv_shards.specs.Indexes.{shard_of}
-use Rattle.mv_shards.specs.KeptChains.{AllVersions, AreNumbersKept, number_in, one_marked}
-use Rattle.mv_shards.specs.PartWriting.{AreBeside, ArePlaced, AreSpots, IsPlaced, IsSpot, Parts, chains_at, chains_for, chains_or, versions_marked}
+use Rattle.mv_shards.specs.KeptChains.{AllVersions, number_in, one_marked}
+use Rattle.mv_shards.specs.PartWriting.{AreBeside, ArePlaced, AreSpots, AreSpotsKept, IsPlaced, IsSpot, Parts, chains_at, chains_for, chains_or, versions_marked}
 use Rattle.mv_shards.proofs.Numbers.{one_numbered}
 use Rattle.mv_shards.proofs.Slots.{here_at}
 
@@ -32,19 +32,24 @@ spot_there parts x spot h = subst (λ i. IsSome (get_or parts i None)) (sym h.sh
 pub spot_within : (parts : Parts) (x : Item) (spot : Spot) → IsSpot parts x spot → spot.shard < length parts
 spot_within parts x spot h = some_within parts spot.shard (spot_there parts x spot h)
 
-pub spot_here : (parts : Parts) (x : Item) (spot : Spot) (d : Option Part) (p : Part) → IsSpot parts x spot → get_or parts spot.shard d ≡ Some p → get_or parts spot.shard None ≡ Some p
+pub spot_here : (parts : Parts) (x : Item) (spot : Spot) (d : Option Part) (p : Part) → IsSpot parts x spot
+    → get_or parts spot.shard d ≡ Some p → get_or parts spot.shard None ≡ Some p
 spot_here parts x spot d p h found = here_at parts spot.shard x d p h.shard (spot_held parts x spot h) found
 
-pub spot_chains : (parts : Parts) (x : Item) (spot : Spot) (p : Part) → IsSpot parts x spot → get_or parts spot.shard None ≡ Some p → chains_for parts x ≡ p.chains
+pub spot_chains : (parts : Parts) (x : Item) (spot : Spot) (p : Part) → IsSpot parts x spot
+    → get_or parts spot.shard None ≡ Some p → chains_for parts x ≡ p.chains
 spot_chains parts x spot p h here = ap (chains_at parts) (sym h.shard) ∙ ap chains_or here
 
-pub spot_number : (parts : Parts) (x : Item) (spot : Spot) (p : Part) → IsSpot parts x spot → get_or parts spot.shard None ≡ Some p → number_in p.chains x ≡ Some spot.number
+pub spot_number : (parts : Parts) (x : Item) (spot : Spot) (p : Part) → IsSpot parts x spot
+    → get_or parts spot.shard None ≡ Some p → number_in p.chains x ≡ Some spot.number
 spot_number parts x spot p h here = subst (λ map. number_in map x ≡ Some spot.number) (spot_chains parts x spot p h here) h.number
 
-pub spot_kept : (old new : Parts) → ((i : ℕ) → AreNumbersKept (chains_at old i) (chains_at new i)) → (x : Item) (spot : Spot) → IsSpot old x spot → IsSpot new x spot
+pub spot_kept : (old new : Parts) → AreSpotsKept old new → (x : Item) (spot : Spot) → IsSpot old x spot
+    → IsSpot new x spot
 spot_kept old new kept x spot h = record { shard = h.shard; number = kept (shard_of x) x spot.number h.number }
 
-pub placed_kept : (old new : Parts) → ((i : ℕ) → AreNumbersKept (chains_at old i) (chains_at new i)) → (e : Item × ItemValue) (placed : Spot × ItemValue) → IsPlaced old e placed → IsPlaced new e placed
+pub placed_kept : (old new : Parts) → AreSpotsKept old new → (e : Item × ItemValue) (placed : Spot × ItemValue)
+    → IsPlaced old e placed → IsPlaced new e placed
 placed_kept old new kept e placed h = record { spot = spot_kept old new kept e.0 placed.0 h.spot; value = h.value }
 
 -- one item stands there
@@ -54,20 +59,24 @@ one_there parts x y spot h k =
 
 -- ---- many
 
-pub beside_each : {B : Type 0} (P Q : Item × ItemValue → B → Type 0) → ((e : Item × ItemValue) (b : B) → P e b → Q e b) → (es : ItemMap) (bs : List B) → AreBeside P es bs → AreBeside Q es bs
+pub beside_each : {B : Type 0} (P Q : Item × ItemValue → B → Type 0) → ((e : Item × ItemValue) (b : B) → P e b → Q e b)
+    → (es : ItemMap) (bs : List B) → AreBeside P es bs → AreBeside Q es bs
 beside_each P Q f [] [] h = tt
 beside_each P Q f [] (b ∷ bs) h = absurd h
 beside_each P Q f (e ∷ es) [] h = absurd h
 beside_each P Q f (e ∷ es) (b ∷ bs) h = (f e b h.0, beside_each P Q f es bs h.1)
 
-pub spots_kept : (old new : Parts) → ((i : ℕ) → AreNumbersKept (chains_at old i) (chains_at new i)) → (es : ItemMap) (spots : List Spot) → AreSpots old es spots → AreSpots new es spots
+pub spots_kept : (old new : Parts) → AreSpotsKept old new → (es : ItemMap) (spots : List Spot) → AreSpots old es spots
+    → AreSpots new es spots
 spots_kept old new kept = beside_each (λ e s. IsSpot old e.0 s) (λ e s. IsSpot new e.0 s) (λ e. spot_kept old new kept e.0)
 
-pub all_placed_kept : (old new : Parts) → ((i : ℕ) → AreNumbersKept (chains_at old i) (chains_at new i)) → (es : ItemMap) (placed : List (Spot × ItemValue)) → ArePlaced old es placed → ArePlaced new es placed
+pub all_placed_kept : (old new : Parts) → AreSpotsKept old new → (es : ItemMap) (placed : List (Spot × ItemValue))
+    → ArePlaced old es placed → ArePlaced new es placed
 all_placed_kept old new kept = beside_each (IsPlaced old) (IsPlaced new) (placed_kept old new kept)
 
 -- what stands there is what is marked
-pub marked_there : (i t : ℕ) (parts : Parts) (es fs : ItemMap) (spots : List Spot) (all : AllVersions ItemValue) → AreSpots parts es spots → AreSpots parts fs spots → versions_marked i t es all ≡ versions_marked i t fs all
+pub marked_there : (i t : ℕ) (parts : Parts) (es fs : ItemMap) (spots : List Spot) (all : AllVersions ItemValue)
+    → AreSpots parts es spots → AreSpots parts fs spots → versions_marked i t es all ≡ versions_marked i t fs all
 marked_there i t parts [] [] [] all h k = refl
 marked_there i t parts [] fs (s ∷ ss) all h k = absurd h
 marked_there i t parts [] (f ∷ fs) [] all h k = absurd k
@@ -77,7 +86,8 @@ marked_there i t parts (e ∷ es) (f ∷ fs) (s ∷ ss) all h k =
     ap (λ x. versions_marked i t es (if shard_of x == i then one_marked t x all else all)) (one_there parts e.0 f.0 s h.0 k.0)
     ∙ marked_there i t parts es fs ss (if shard_of f.0 == i then one_marked t f.0 all else all) h.1 k.1
 
-pub placed_once : (parts : Parts) (es fs : ItemMap) (placed : List (Spot × ItemValue)) → ArePlaced parts es placed → ArePlaced parts fs placed → es ≡ fs
+pub placed_once : (parts : Parts) (es fs : ItemMap) (placed : List (Spot × ItemValue)) → ArePlaced parts es placed
+    → ArePlaced parts fs placed → es ≡ fs
 placed_once parts [] [] [] h k = refl
 placed_once parts [] fs (p ∷ ps) h k = absurd h
 placed_once parts [] (f ∷ fs) [] h k = absurd k

@@ -86,6 +86,10 @@ pub record AreGrown (old new : Parts) : Type 0 where
   pub frames : (i : ℕ) → frame_at new i ≡ frame_at old i
   pub maps : (i : ℕ) → IsGrown (first_at old i) (chains_at old i) (chains_at new i)
 
+-- every chain keeps its number
+abbrev pub AreSpotsKept : Parts → Parts → Type 0
+AreSpotsKept old new = (i : ℕ) → AreNumbersKept (chains_at old i) (chains_at new i)
+
 -- no chain was lost, and no room
 abbrev pub AreRoomier : Parts → Parts → Type 0
 AreRoomier old new = (i : ℕ) → IsRoomier (chains_at old i) (chains_at new i)
@@ -141,7 +145,7 @@ AreBeside P [] [] = Unit {0}
 AreBeside P (e ∷ es) (b ∷ bs) = P e b × AreBeside P es bs
 AreBeside P _ _ = ⊥
 
--- where the chains of items stand
+-- items beside the spots of their chains
 abbrev pub AreSpots : Parts → ItemMap → List Spot → Type 0
 AreSpots parts = AreBeside (λ e s. IsSpot parts e.0 s)
 
@@ -150,10 +154,11 @@ pub record IsPlaced (parts : Parts) (e : Item × ItemValue) (placed : Spot × It
   pub spot : IsSpot parts e.0 placed.0
   pub value : placed.1 ≡ e.1
 
+-- items beside their values that are to be written
 abbrev pub ArePlaced : Parts → ItemMap → List (Spot × ItemValue) → Type 0
 ArePlaced parts = AreBeside (IsPlaced parts)
 
--- placed, and the chains have room
+-- these, and the chains have room
 abbrev pub AreRoomy : Parts → ItemMap → List (Spot × ItemValue) → Type 0
 AreRoomy parts = AreBeside (λ e placed. IsPlaced parts e placed × HasRoomFor (chains_for parts e.0) e.0)
 
@@ -209,7 +214,7 @@ pub record AreMarkedAt (t : ℕ) (reads : ItemMap) (old new : Parts) : Type 0 wh
   pub versions : (i : ℕ) (first : Item → ItemValue) (x : Item) → versions_of first (chains_at new i) x ≡ versions_marked i t reads (versions_of first (chains_at old i)) x
   pub kept : (i : ℕ) (first : Item → ItemValue) (low : ℕ) → AreChains first low (chains_at old i) → AreChains first low (chains_at new i)
   pub takes : (i : ℕ) (x : Item) → TakesVersion t (chains_at old i) x → TakesVersion t (chains_at new i) x
-  pub numbers : (i : ℕ) → AreNumbersKept (chains_at old i) (chains_at new i)
+  pub numbers : AreSpotsKept old new
 
 pub record AreInstalledAt (t : ℕ) (writes : ItemMap) (old new : Parts) : Type 0 where
   pub count : length new ≡ length old
