@@ -1,9 +1,6 @@
 use Rattle.mv_shards.proofs.Left.{next_left, none_left}
-use Rattle.mv_shards.proofs.Rooms.{grows_next, has_room, makes_all, makes_first, makes_on, parts_then, room_stays}
+use Rattle.mv_shards.proofs.Rooms.{grows_next, has_room, makes_all, makes_on, parts_then, room_stays}
 use Rattle.mv_shards.proofs.room.place_writes.Goals as goal
-
-pub loop-item-init : goal.loop-item-init
-loop-item-init c = makes_first has_room _ _ _ c.in_ok-placed.ensures.items c.requires
 
 pub add_room_for-requires : goal.add_room_for-requires
 add_room_for-requires c = grows_next _ _ _ _ _ (next_left _ _ c.as_slice-item-items.ensures.all c.loop-item.item-index _ c.loop-item-test.true c.loop-item-item.is) c.loop-item.invariant.grows
