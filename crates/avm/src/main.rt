@@ -9,7 +9,8 @@ ghost use Rattle.avm_ops.specs.OpSets.{IsFull};
 
 use avm_node::{FAILED, answer, run};
 use avm_objects::filled_set;
-use avm_ops::{BoxedOp, Op, OpSet};
+use avm_ops::{Op, Ops};
+use avm_run::FullOps;
 use std::alloc::AllocError;
 use std::env;
 use std::io::{self, ErrorKind};
@@ -29,9 +30,10 @@ fn main(rt: HostRuntime) -> ExitCode {
     let Ok(texts) = texts_of(&rt, &words) else {
         return ExitCode::from(FAILED);
     };
-    if let Some(status) = answered(&rt, texts.as_slice(), &own) {
-        return ExitCode::from(status);
-    }
+    let own = match answered(&rt, texts.as_slice(), own) {
+        Ok(status) => return ExitCode::from(status),
+        Err(own) => own,
+    };
     // The words are `propose`, which has a set for each worker.
     let mut sets = Vec::new(alloc);
     for _ in 1..SETS {
@@ -64,20 +66,23 @@ fn texts_of<'a>(rt: &HostRuntime, words: &'a Vec<String>) -> Result<Vec<&'a str>
     Ok(texts)
 }
 
-/// The exit status of a command that starts no thread, or none where the words are `propose`.
-fn answered(rt: &HostRuntime, words: &[&str], own: &OpSet) -> Option<u8> {
-    if own.missing().is_some() {
-        return Some(FAILED);
+/// The exit status of a command that starts no thread, or the set back where the words are `propose`.
+fn answered<O: Op>(rt: &HostRuntime, words: &[&str], own: Ops<O>) -> Result<u8, Ops<O>> {
+    let Ok(own) = FullOps::of(own) else {
+        return Ok(FAILED);
+    };
+    match answer(rt.alloc(), words, &mut rt.stdin(), &mut rt.stdout(), &own) {
+        Some(status) => Ok(status),
+        None => Err(own.into_set()),
     }
-    answer(rt.alloc(), words, &mut rt.stdin(), &mut rt.stdout(), own)
 }
 
 /// The exit status of `propose`. The runtime comes twice, since it is known to start threads in `main` alone.
-fn proposed<T: Threads + Wait + Sync>(
+fn proposed<T: Threads + Wait + Sync, O: Op>(
     rt: &HostRuntime,
     threads: &T,
     words: &[&str],
-    sets: Vec<OpSet>,
+    sets: Vec<Ops<O>>,
 ) -> u8 {
     if !are_sets(&sets) {
         return FAILED;
@@ -93,14 +98,14 @@ fn proposed<T: Threads + Wait + Sync>(
 }
 
 /// Whether there are as many sets as are wanted, each with an object of every opcode.
-fn are_sets(sets: &[OpSet]) -> bool
-    ensures { IsTrue result → AreSets ⟦<BoxedOp as Op>⟧.opcode sets.now }
+fn are_sets<O: Op>(sets: &[Ops<O>]) -> bool
+    ensures { IsTrue result → AreSets O.opcode sets.now }
 {
     sets.len() == SETS && are_full(sets)
 }
 
-fn are_full(sets: &[OpSet]) -> bool
-    ensures { IsTrue result → AllByRecursion (IsFull ⟦<BoxedOp as Op>⟧.opcode) sets.now }
+fn are_full<O: Op>(sets: &[Ops<O>]) -> bool
+    ensures { IsTrue result → AllByRecursion (IsFull O.opcode) sets.now }
 {
     match sets.split_first() {
         None => true,

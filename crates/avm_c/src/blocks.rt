@@ -1,8 +1,8 @@
 //! What is answered of blocks over the ledgers before them: a replay, and the ledger at a timestamp.
 
 ghost use Rattle.std.specs.Prelude.{IfOk, Ok};
-ghost use Rattle.teal_value.specs.Answer.{Gives};
 ghost use Rattle.avm_ops.specs.OpSets.{IsFull};
+ghost use Rattle.teal_value.specs.Answer.{Gives};
 ghost use Rattle.avm_c.specs.BlockAnswers.{block_of, ledger_and_block, ledger_of, past_ledger};
 ghost use Rattle.avm_c.specs.Findings.{IsFinding};
 
@@ -12,8 +12,9 @@ use crate::questions::Question;
 use crate::statuses::Status;
 use avm_block::{Block, decode};
 use avm_ledger::Ledger;
-use avm_ops::{BoxedOp, Op, OpSet};
+use avm_ops::{Op, OpSet, Ops};
 use avm_replay::{Base, Verdict, replay_owned, state_at_owned};
+use avm_run::FullOps;
 use std::alloc::{AllocError, Global};
 use teal_value::Failure;
 
@@ -32,7 +33,7 @@ impl Question for Replay<'_> {
 
     ghost answers = { λ asked. IsFinding (ledger_and_block asked.ledger.now asked.block.now) };
 
-    fn answer(&self, alloc: Global, ops: &OpSet) -> Result<Finding, AllocError> {
+    fn answer(&self, alloc: Global, ops: OpSet) -> Result<Finding, AllocError> {
         match ledger_and_block(alloc, self.ledger, self.block) {
             Ok((base, block)) => finding_on(alloc, base, &block, ops),
             Err(failure) => Ok(Finding::Other(failure.into_fault()?)),
@@ -58,7 +59,7 @@ impl Question for State<'_> {
     ghost answers = { λ asked answer. answer_shown answer
         ≡ state_answer_at asked.timestamp (ledger_and_block asked.ledger.now asked.block.now) };
 
-    fn answer(&self, alloc: Global, ops: &OpSet) -> Result<Answer, AllocError> {
+    fn answer(&self, alloc: Global, ops: OpSet) -> Result<Answer, AllocError> {
         match past_ledger(alloc, self.ledger, self.block, self.timestamp, ops) {
             Ok(ledger) => Ok(done(ledger.canonical(alloc)?)),
             Err(failure) => Ok(refusal(alloc, failure.into_fault()?)),
@@ -92,11 +93,16 @@ fn block_of(alloc: Global, bytes: &[u8]) -> Result<Block, Failure<Status>>
 }
 
 /// The verdict on a block, as a finding.
-fn finding_on(alloc: Global, base: Base, block: &Block, ops: &OpSet) -> Result<Finding, AllocError>
-    requires full { IsFull ⟦<BoxedOp as Op>⟧.opcode ops.now }
+fn finding_on<O: Op>(
+    alloc: Global,
+    base: Base,
+    block: &Block,
+    ops: Ops<O>,
+) -> Result<Finding, AllocError>
+    requires full { IsFull O.opcode ops }
     ensures { IfOk result (IsFinding (Ok (base, block.now))) }
 {
-    match replay_owned(alloc, base, block, ops)? {
+    match replay_owned(alloc, base, block, &FullOps::from_full(ops))? {
         Verdict::Agrees(_after) => Ok(Finding::Agrees(*block.after())),
         Verdict::WrongBase => Ok(Finding::Other(Status::WrongBase)),
         Verdict::WrongOutcome { entry, found } => {
@@ -106,18 +112,18 @@ fn finding_on(alloc: Global, base: Base, block: &Block, ops: &OpSet) -> Result<F
     }
 }
 
-fn past_ledger(
+fn past_ledger<O: Op>(
     alloc: Global,
     ledger: &[u8],
     block: &[u8],
     timestamp: u64,
-    ops: &OpSet,
+    ops: Ops<O>,
 ) -> Result<Ledger, Failure<Status>>
-    requires full { IsFull ⟦<BoxedOp as Op>⟧.opcode ops.now }
+    requires full { IsFull O.opcode ops }
     ensures { Gives (λ l. l) result (past_ledger timestamp (ledger_and_block ledger.now block.now)) }
 {
     let (base, block) = ledger_and_block(alloc, ledger, block)?;
-    match state_at_owned(alloc, base, &block, timestamp, ops) {
+    match state_at_owned(alloc, base, &block, timestamp, &FullOps::from_full(ops)) {
         Ok(past) => Ok(past),
         Err(Failure::Fault(_fault)) => Err(Failure::Fault(Status::WrongBase)),
         Err(Failure::Memory) => Err(Failure::Memory),

@@ -16,8 +16,8 @@ pub trait Question {
     ghost answers: { Self → Self.Answer → Type 0 };
 
     /// Answers it, with an object of every opcode.
-    fn answer(&self, alloc: Global, ops: &OpSet) -> Result<Self::Answer, AllocError>
-        requires full { IsFull ⟦<BoxedOp as Op>⟧.opcode ops.now }
+    fn answer(&self, alloc: Global, ops: OpSet) -> Result<Self::Answer, AllocError>
+        requires full { IsFull ⟦<BoxedOp as Op>⟧.opcode ops }
         ensures { IfOk result (answers self.now) };
 }
 
@@ -26,10 +26,10 @@ pub fn ask<Q: Question>(alloc: Global, question: &Q) -> Result<Q::Answer, AllocE
     ensures { IfOk result (Q.answers question.now) }
 {
     let ops = filled_set!(alloc, Err(AllocError));
-    ask_with(alloc, question, &ops)
+    ask_with(alloc, question, ops)
 }
 
-fn ask_with<Q: Question>(alloc: Global, question: &Q, ops: &OpSet) -> Result<Q::Answer, AllocError>
+fn ask_with<Q: Question>(alloc: Global, question: &Q, ops: OpSet) -> Result<Q::Answer, AllocError>
     ensures { IfOk result (Q.answers question.now) }
 {
     if ops.missing().is_some() {

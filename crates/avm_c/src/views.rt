@@ -13,7 +13,8 @@ use avm_block::Block;
 use avm_commands::view_found;
 use avm_input::Refusal;
 use avm_ledger::Ledger;
-use avm_ops::{BoxedOp, Op, OpSet};
+use avm_ops::{Op, OpSet, Ops};
+use avm_run::FullOps;
 use avm_stepper::OpenFault;
 use std::alloc::{AllocError, Global};
 use teal_value::Failure;
@@ -37,7 +38,7 @@ impl Question for ViewAfter<'_> {
     ghost answers = { λ asked answer. IsViewAnswer asked.entry asked.steps
         (ledger_and_block asked.ledger.now asked.block.now) (answer_shown answer) };
 
-    fn answer(&self, alloc: Global, ops: &OpSet) -> Result<Answer, AllocError> {
+    fn answer(&self, alloc: Global, ops: OpSet) -> Result<Answer, AllocError> {
         match ledger_and_block(alloc, self.ledger, self.block) {
             Ok((base, block)) => {
                 view_of(
@@ -54,19 +55,19 @@ impl Question for ViewAfter<'_> {
     }
 }
 
-fn view_of(
+fn view_of<O: Op>(
     alloc: Global,
     ledger: &Ledger,
     block: &Block,
     entry: usize,
     steps: u64,
-    ops: &OpSet,
+    ops: Ops<O>,
 ) -> Result<Answer, AllocError>
-    requires full { IsFull ⟦<BoxedOp as Op>⟧.opcode ops.now }
+    requires full { IsFull O.opcode ops }
     ensures { IfOk result (λ answer.
         IsViewAnswer entry steps (Ok (ledger.now, block.now)) (answer_shown answer)) }
 {
-    match view_found(alloc, ledger, block, entry, steps, ops) {
+    match view_found(alloc, ledger, block, entry, steps, &FullOps::from_full(ops)) {
         Ok(text) => Ok(done(text.into_bytes())),
         Err(Failure::Fault(why)) => Ok(refusal(alloc, view_status(why))),
         Err(Failure::Memory) => Err(AllocError),

@@ -11,7 +11,8 @@ use crate::questions::Question;
 use crate::statuses::Status;
 use avm_commands::answer;
 use avm_input::FAILED;
-use avm_ops::{BoxedOp, Op, OpSet};
+use avm_ops::{Op, OpSet, Ops};
+use avm_run::FullOps;
 use std::alloc::{AllocError, Global};
 use std::str;
 
@@ -31,13 +32,13 @@ impl Question for Command<'_> {
     ghost answers = { λ asked answer.
         IsCommandAnswer (command_of asked.words.now) asked.input.now (answer_shown answer) };
 
-    fn answer(&self, alloc: Global, ops: &OpSet) -> Result<Answer, AllocError> {
+    fn answer(&self, alloc: Global, ops: OpSet) -> Result<Answer, AllocError> {
         match str::from_utf8(self.words) {
             Ok(text) => {
                 let words = words_in(alloc, text)?;
-                command_answer(alloc, words.as_slice(), self.input, ops)
+                answer_with(alloc, words.as_slice(), self.input, ops)
             }
-            Err(_) => command_answer(alloc, &[], self.input, ops),
+            Err(_) => answer_with(alloc, &[], self.input, ops),
         }
     }
 }
@@ -49,13 +50,26 @@ fn words_in<'a>(alloc: Global, text: &'a str) -> Result<Vec<&'a str>, AllocError
     text.split('\0').collect(alloc)
 }
 
-fn command_answer<'a>(
+/// What is answered to words and an input, with a full set.
+fn answer_with<'a, O: Op>(
     alloc: Global,
     words: &'a [&'a str],
     input: &[u8],
-    ops: &OpSet,
+    ops: Ops<O>,
 ) -> Result<Answer, AllocError>
-    requires full { IsFull ⟦<BoxedOp as Op>⟧.opcode ops.now }
+    requires full { IsFull O.opcode ops }
+    ensures { IfOk result (λ answer. IsCommandAnswer
+        (command_in (map (λ word. word.now) words.now)) input.now (answer_shown answer)) }
+{
+    command_answer(alloc, words, input, &FullOps::from_full(ops))
+}
+
+fn command_answer<'a, O: Op>(
+    alloc: Global,
+    words: &'a [&'a str],
+    input: &[u8],
+    ops: &FullOps<O>,
+) -> Result<Answer, AllocError>
     ensures { IfOk result (λ answer. IsCommandAnswer
         (command_in (map (λ word. word.now) words.now)) input.now (answer_shown answer)) }
 {

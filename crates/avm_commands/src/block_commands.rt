@@ -2,7 +2,6 @@
 
 ghost use Rattle.std.specs.Prelude.{◌≡◌, IfOk, Ok};
 ghost use Rattle.teal_value.specs.Answer.{Gives};
-ghost use Rattle.avm_ops.specs.OpSets.{IsFull};
 ghost use Rattle.avm_replay.specs.declared.verdict.Verdict.TheVariants as verdict;
 ghost use Rattle.avm_commands.specs.BlockCommands.{IsReplayReply, IsVerdictReply, agrees_reply, ledger_reply, past_ledger_at, state_reply, verdict_reply};
 ghost use Rattle.avm_input.specs.Replies.{refused};
@@ -14,14 +13,18 @@ use avm_input::{
     DONE, REFUSED, Refusal, Reply, digit_line, ledger_and_block, outcome_text, refusal_reply,
 };
 use avm_ledger::Ledger;
-use avm_ops::{BoxedOp, Op, OpSet};
+use avm_ops::Op;
 use avm_replay::{Base, Verdict, replay_owned, state_at_owned};
+use avm_run::FullOps;
 use std::alloc::{AllocError, Global};
 use teal_value::Failure;
 
 /// What `replay` answers to its input: whether the block replays over the ledger, or the first thing that differs.
-pub fn replay_reply(alloc: Global, input: &[u8], ops: &OpSet) -> Result<Reply, AllocError>
-    requires full { IsFull ⟦<BoxedOp as Op>⟧.opcode ops.now }
+pub fn replay_reply<O: Op>(
+    alloc: Global,
+    input: &[u8],
+    ops: &FullOps<O>,
+) -> Result<Reply, AllocError>
     ensures { IfOk result (λ reply. IsReplayReply input.now (reply_shown reply)) }
 {
     match ledger_and_block(alloc, input) {
@@ -31,13 +34,12 @@ pub fn replay_reply(alloc: Global, input: &[u8], ops: &OpSet) -> Result<Reply, A
 }
 
 /// What `state` answers to its input: the ledger after the calls with timestamps up to this one.
-pub fn state_reply(
+pub fn state_reply<O: Op>(
     alloc: Global,
     timestamp: u64,
     input: &[u8],
-    ops: &OpSet,
+    ops: &FullOps<O>,
 ) -> Result<Reply, AllocError>
-    requires full { IsFull ⟦<BoxedOp as Op>⟧.opcode ops.now }
     ensures { IfOk result (λ reply. reply_shown reply ≡ state_reply timestamp input.now) }
 {
     match past_ledger(alloc, timestamp, input, ops) {
@@ -55,8 +57,12 @@ fn ledger_reply(alloc: Global, ledger: &Ledger) -> Result<Reply, AllocError>
 }
 
 /// The verdict on a block, as an answer.
-fn verdict_on(alloc: Global, base: Base, block: &Block, ops: &OpSet) -> Result<Reply, AllocError>
-    requires full { IsFull ⟦<BoxedOp as Op>⟧.opcode ops.now }
+fn verdict_on<O: Op>(
+    alloc: Global,
+    base: Base,
+    block: &Block,
+    ops: &FullOps<O>,
+) -> Result<Reply, AllocError>
     ensures { IfOk result (λ reply. IsVerdictReply (Ok (base, block.now)) (reply_shown reply)) }
 {
     match replay_owned(alloc, base, block, ops)? {
@@ -101,13 +107,12 @@ fn wrong_reply(alloc: Global, text: &str) -> Result<Reply, AllocError>
 }
 
 /// The ledger after the calls with timestamps up to this one.
-fn past_ledger(
+fn past_ledger<O: Op>(
     alloc: Global,
     timestamp: u64,
     input: &[u8],
-    ops: &OpSet,
+    ops: &FullOps<O>,
 ) -> Result<Ledger, Failure<Refusal>>
-    requires full { IsFull ⟦<BoxedOp as Op>⟧.opcode ops.now }
     ensures { Gives (λ l. l) result (past_ledger_at timestamp input.now) }
 {
     let (base, block) = ledger_and_block(alloc, input)?;

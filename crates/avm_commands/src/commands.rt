@@ -3,7 +3,6 @@
 ghost use Rattle.std.specs.Prelude.{◌≡◌, IfOk, IfSome, IsSome, None, Some, map};
 ghost use Rattle.avm_input.specs.Answers.{CommandAnswers, CommandFails, IsReply};
 ghost use Rattle.avm_commands.specs.Answers.{IsCommandReply};
-ghost use Rattle.avm_ops.specs.OpSets.{IsFull};
 ghost use Rattle.avm_input.specs.CommandLine.{command_in, workers_of};
 ghost use Rattle.avm_input.specs.Replies.{failed, usage_reply};
 ghost use Rattle.avm_input.specs.Shown.{reply_shown};
@@ -16,7 +15,8 @@ use avm_input::{
     FAILED, INPUT_LIMIT, NodeCommand, Reply, USAGE, command_in, input_refusal, read_input,
     workers_of, write_reply,
 };
-use avm_ops::{BoxedOp, Op, OpSet};
+use avm_ops::Op;
+use avm_run::FullOps;
 use std::alloc::{AllocError, Global};
 use std::io::{self, Read, Write};
 
@@ -28,14 +28,13 @@ const USAGE_TEXT: &str = "usage: avm asm|dis|check|propose|replay|debug|state\n"
 /// A failed or interrupted read and refused memory give status 3, with nothing written; so does a failed write, before
 /// which a beginning of the answer may have been written. Words that are no command read nothing. The set has an object of
 /// every opcode.
-pub fn answer<'a, R: Read, W: Write>(
+pub fn answer<'a, R: Read, W: Write, O: Op>(
     alloc: Global,
     words: &'a [&'a str],
     reader: &mut R,
     writer: &mut W,
-    ops: &OpSet,
+    ops: &FullOps<O>,
 ) -> Option<u8>
-    requires full { IsFull ⟦<BoxedOp as Op>⟧.opcode ops.now }
     ensures answers { IfSome result (CommandAnswers usage_reply IsCommandReply
         (command_in (map (λ word. word.now) words.now))
         (R.remaining reader.old) (W.contents writer.old) (W.contents writer.new)) }
@@ -56,14 +55,13 @@ pub fn answer<'a, R: Read, W: Write>(
 }
 
 /// Executes a command that is not `propose`, as [`answer`] does.
-pub fn answer_to<R: Read, W: Write>(
+pub fn answer_to<R: Read, W: Write, O: Op>(
     alloc: Global,
     command: Option<NodeCommand>,
     reader: &mut R,
     writer: &mut W,
-    ops: &OpSet,
+    ops: &FullOps<O>,
 ) -> u8
-    requires full { IsFull ⟦<BoxedOp as Op>⟧.opcode ops.now }
     requires other { workers_of command ≡ None }
     ensures answers { CommandAnswers usage_reply IsCommandReply command
         (R.remaining reader.old) (W.contents writer.old) (W.contents writer.new) result }
@@ -81,13 +79,12 @@ pub fn answer_to<R: Read, W: Write>(
 }
 
 /// What a command answers to its whole input.
-fn reply_of<R: Read>(
+fn reply_of<R: Read, O: Op>(
     alloc: Global,
     command: NodeCommand,
     reader: &mut R,
-    ops: &OpSet,
+    ops: &FullOps<O>,
 ) -> io::Result<Reply>
-    requires full { IsFull ⟦<BoxedOp as Op>⟧.opcode ops.now }
     requires other { workers_of (Some command) ≡ None }
     ensures { IfOk result (λ reply. IsReply (IsCommandReply command) (R.remaining reader.old) (reply_shown reply)) }
 {
@@ -99,13 +96,12 @@ fn reply_of<R: Read>(
 }
 
 /// What a command answers to an input that is not too long.
-fn command_reply(
+fn command_reply<O: Op>(
     alloc: Global,
     command: NodeCommand,
     input: &[u8],
-    ops: &OpSet,
+    ops: &FullOps<O>,
 ) -> Result<Reply, AllocError>
-    requires full { IsFull ⟦<BoxedOp as Op>⟧.opcode ops.now }
     requires other { workers_of (Some command) ≡ None }
     ensures { IfOk result (λ reply. IsCommandReply command input.now (reply_shown reply)) }
 {

@@ -1,7 +1,6 @@
 //! The command `debug`, whose input is that of `replay`: the ledger before a block, and the block.
 
 ghost use Rattle.std.specs.Prelude.{ℕ, IfErr, IfOk, Ok, string_bytes};
-ghost use Rattle.avm_ops.specs.OpSets.{IsFull};
 ghost use Rattle.avm_stepper.specs.Opening.{IsOpened};
 ghost use Rattle.avm_commands.specs.DebugCommands.{FindsText, IsDebugReply, IsFoundReply, OneFinding};
 ghost use Rattle.avm_commands.specs.DebugRuns.{HasCome, IsDebugRefused, ShowsText};
@@ -11,21 +10,21 @@ use crate::view_text::view_text;
 use avm_block::Block;
 use avm_input::{DONE, Refusal, Reply, ledger_and_block, refusal_reply};
 use avm_ledger::Ledger;
-use avm_ops::{BoxedOp, Op, OpSet};
+use avm_ops::Op;
+use avm_run::FullOps;
 use avm_stepper::{StepFault, Stepper};
 use std::alloc::{AllocError, Global};
 use teal_value::Failure;
 
 /// What `debug` answers to its input: what stands where the program of an entry's call is after so many steps. Entries are
 /// numbered from 1. It costs no more steps than the program has.
-pub fn debug_reply(
+pub fn debug_reply<O: Op>(
     alloc: Global,
     entry: u64,
     steps: u64,
     input: &[u8],
-    ops: &OpSet,
+    ops: &FullOps<O>,
 ) -> Result<Reply, AllocError>
-    requires full { IsFull ⟦<BoxedOp as Op>⟧.opcode ops.now }
     ensures { IfOk result (λ reply. IsDebugReply entry steps input.now (reply_shown reply)) }
 {
     match ledger_and_block(alloc, input) {
@@ -34,15 +33,14 @@ pub fn debug_reply(
     }
 }
 
-fn found_reply(
+fn found_reply<O: Op>(
     alloc: Global,
     ledger: &Ledger,
     block: &Block,
     entry: usize,
     steps: u64,
-    ops: &OpSet,
+    ops: &FullOps<O>,
 ) -> Result<Reply, AllocError>
-    requires full { IsFull ⟦<BoxedOp as Op>⟧.opcode ops.now }
     ensures { IfOk result (λ reply. IsFoundReply entry steps (Ok (ledger.now, block.now)) (reply_shown reply)) }
 {
     match view_found(alloc, ledger, block, entry, steps, ops) {
@@ -53,15 +51,14 @@ fn found_reply(
 }
 
 /// The view of the call of a block's entry after so many steps, in words; or why there is none. Entries are numbered from 1.
-pub fn view_found(
+pub fn view_found<O: Op>(
     alloc: Global,
     ledger: &Ledger,
     block: &Block,
     entry: usize,
     steps: u64,
-    ops: &OpSet,
+    ops: &FullOps<O>,
 ) -> Result<String, Failure<Refusal>>
-    requires full { IsFull ⟦<BoxedOp as Op>⟧.opcode ops.now }
     ensures found { IfOk result (λ text. FindsText (ledger.now, block.now) entry steps (string_bytes text)) }
     ensures refused { IfErr result (IsDebugRefused ledger.now block.now entry steps) }
 {
@@ -73,15 +70,14 @@ pub fn view_found(
 }
 
 /// The call of an entry, so many steps on.
-fn stepper_at(
+fn stepper_at<O: Op>(
     alloc: Global,
     ledger: &Ledger,
     block: &Block,
     entry: usize,
     steps: u64,
-    ops: &OpSet,
+    ops: &FullOps<O>,
 ) -> Result<Stepper, Failure<Refusal>>
-    requires full { IsFull ⟦<BoxedOp as Op>⟧.opcode ops.now }
     ensures come { IfOk result (λ stepper. HasCome ledger.now block.now entry steps stepper) }
     ensures refused { IfErr result (IsDebugRefused ledger.now block.now entry steps) }
 {
@@ -97,14 +93,13 @@ fn stepper_at(
 }
 
 /// The call of an entry, before the first instruction of its program.
-fn opened(
+fn opened<O: Op>(
     alloc: Global,
     ledger: &Ledger,
     block: &Block,
     entry: usize,
-    ops: &OpSet,
+    ops: &FullOps<O>,
 ) -> Result<Stepper, Failure<Refusal>>
-    requires full { IsFull ⟦<BoxedOp as Op>⟧.opcode ops.now }
     ensures opened { IfOk result (λ stepper. IsOpened ledger.now block.now entry stepper) }
     ensures refused { (steps : ℕ) → IfErr result (IsDebugRefused ledger.now block.now entry steps) }
 {

@@ -2,7 +2,6 @@
 
 ghost use Rattle.std.specs.Prelude.{◌≡◌, ◌↔◌, IfErr, IfOk, IsErrOf};
 ghost use Rattle.teal_value.specs.declared.failure.Failure.TheVariants.{Fault};
-ghost use Rattle.avm_ops.specs.OpSets.{IsFull};
 ghost use Rattle.avm_debug.specs.declared.faults.PastFault.TheVariants.{Pruned, WrongBase};
 ghost use Rattle.avm_stepper.specs.DebugSteps.{StepsTo};
 ghost use Rattle.avm_stepper.specs.Shown.{IsShown};
@@ -12,7 +11,8 @@ use crate::faults::PastError;
 use crate::live::open_live;
 use crate::source::{Source, state_of};
 use avm_ledger::Ledger;
-use avm_ops::{BoxedOp, Op, OpSet};
+use avm_ops::Op;
+use avm_run::FullOps;
 use avm_stepper::{OpenError, StepError, Stepper, View, ViewError};
 use std::alloc::Global;
 use std::marker::Model;
@@ -37,13 +37,12 @@ impl<'a> Debugger<'a> {
     ///
     /// Entries are numbered from 1, in ascending order of timestamp. How they say that their calls ended is not compared. What a store
     /// commits later does not show.
-    pub fn open(
+    pub fn open<O: Op>(
         alloc: Global,
         source: Source<'a>,
         entry: usize,
-        ops: &OpSet,
+        ops: &FullOps<O>,
     ) -> Result<Debugger<'a>, OpenError>
-        requires full { IsFull ⟦<BoxedOp as Op>⟧.opcode ops.now }
         ensures source { IfOk result (λ debugger. debugger.source ≡ source.entry) }
         ensures opened { IfOk result (λ debugger. IsOpenedFrom source.entry entry debugger.stepper) }
         ensures refused { IfErr result (IsRefusedFrom source.entry entry) }
@@ -73,8 +72,7 @@ impl<'a> Debugger<'a> {
     }
 
     /// Makes a step, as [`Stepper::step`] does.
-    pub fn step(&mut self, alloc: Global, ops: &OpSet) -> Result<(), StepError>
-        requires full { IsFull ⟦<BoxedOp as Op>⟧.opcode ops.now }
+    pub fn step<O: Op>(&mut self, alloc: Global, ops: &FullOps<O>) -> Result<(), StepError>
         ensures step { StepsTo self.old.stepper self.new.stepper result }
         ensures source { self.new.source ≡ self.old.source }
     {
@@ -89,8 +87,12 @@ impl<'a> Debugger<'a> {
     }
 
     /// The ledger after the source's calls with timestamps up to this one, as [`state_of`] gives it.
-    pub fn state(&self, alloc: Global, timestamp: u64, ops: &OpSet) -> Result<Ledger, PastError>
-        requires full { IsFull ⟦<BoxedOp as Op>⟧.opcode ops.now }
+    pub fn state<O: Op>(
+        &self,
+        alloc: Global,
+        timestamp: u64,
+        ops: &FullOps<O>,
+    ) -> Result<Ledger, PastError>
         ensures ledger { IfOk result (λ ledger. ledger ≡ past_ledger self.now.source timestamp) }
         ensures wrong_base { IsErrOf result (Fault WrongBase) → HasWrongBase self.now.source }
         ensures same_base { IfOk result (λ _. HasWrongBase self.now.source → ⊥) }

@@ -2,12 +2,12 @@
 
 ghost use Rattle.std.specs.Prelude.{◌≡◌, ◌<◌, ◌-◌, IfErr, IfOk};
 ghost use Rattle.std.specs.Option.{option_map};
-ghost use Rattle.avm_ops.specs.OpSets.{IsFull};
 ghost use Rattle.avm_debug.specs.LiveOpening.{IsBelowLow, IsLiveRefusal, IsOpenedLive, ledger_of_store, met_live};
 
 use avm_call::Call;
 use avm_ledger::Ledger;
-use avm_ops::{BoxedOp, Op, OpSet};
+use avm_ops::Op;
+use avm_run::FullOps;
 use avm_stepper::{OpenError, OpenFault, Stepper};
 use mv_core::Store;
 use std::alloc::Global;
@@ -18,13 +18,12 @@ use teal_value::Failure;
 ///
 /// Entries are numbered from 1, in ascending order of timestamp. The low watermark leaves no ledger before an entry at or
 /// below it.
-pub(crate) fn open_live(
+pub(crate) fn open_live<O: Op>(
     alloc: Global,
     store: &Store,
     entry: usize,
-    ops: &OpSet,
+    ops: &FullOps<O>,
 ) -> Result<Stepper, OpenError>
-    requires full { IsFull ⟦<BoxedOp as Op>⟧.opcode ops.now }
     ensures opened { IfOk result (λ stepper. IsOpenedLive store.now entry stepper) }
     ensures refused { IfErr result (IsLiveRefusal store.now entry) }
 {

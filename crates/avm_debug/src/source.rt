@@ -2,15 +2,15 @@
 
 ghost use Rattle.std.specs.Prelude.{◌≡◌, ◌↔◌, IfOk, IsErrOf};
 ghost use Rattle.teal_value.specs.declared.failure.Failure.TheVariants.{Fault};
-ghost use Rattle.avm_ops.specs.OpSets.{IsFull};
 ghost use Rattle.avm_debug.specs.declared.faults.PastFault.TheVariants.{Pruned, WrongBase};
 ghost use Rattle.avm_debug.specs.Sources.{HasWrongBase, IsPrunedSource, past_ledger};
 
 use crate::faults::{PastError, PastFault};
 use avm_block::Block;
 use avm_ledger::Ledger;
-use avm_ops::{BoxedOp, Op, OpSet};
+use avm_ops::Op;
 use avm_replay::state_at;
+use avm_run::FullOps;
 use mv_core::Store;
 use std::alloc::Global;
 use teal_value::Failure;
@@ -27,13 +27,12 @@ pub enum Source<'a> {
 /// The ledger after the calls with timestamps up to this one. Of a block it is made by a replay of these calls.
 ///
 /// A block that stands over another ledger has none, nor has a store below its low mark.
-pub fn state_of(
+pub fn state_of<O: Op>(
     alloc: Global,
     source: Source<'_>,
     timestamp: u64,
-    ops: &OpSet,
+    ops: &FullOps<O>,
 ) -> Result<Ledger, PastError>
-    requires full { IsFull ⟦<BoxedOp as Op>⟧.opcode ops.now }
     ensures ledger { IfOk result (λ ledger. ledger ≡ past_ledger source.entry timestamp) }
     ensures wrong_base { IsErrOf result (Fault WrongBase) → HasWrongBase source.entry }
     ensures same_base { IfOk result (λ _. HasWrongBase source.entry → ⊥) }

@@ -1,7 +1,6 @@
 //! The commands of the program.
 
 ghost use Rattle.std.specs.Prelude.{◌≡◌, IfOk, None, map};
-ghost use Rattle.avm_ops.specs.OpSets.{IsFull};
 ghost use Rattle.avm_input.specs.Answers.{CommandAnswers, CommandFails, IsReply};
 ghost use Rattle.avm_input.specs.Replies.{failed};
 ghost use Rattle.avm_input.specs.Shown.{reply_shown};
@@ -9,7 +8,8 @@ ghost use Rattle.avm_input.specs.CommandLine.{u64_of};
 ghost use Rattle.avm_json.specs.Commands.{IsJsonReply, command_in, command_named, trace_of, usage_reply};
 
 use avm_input::{FAILED, INPUT_LIMIT, Reply, USAGE, input_refusal, read_input, write_reply};
-use avm_ops::{BoxedOp, Op, OpSet};
+use avm_ops::Op;
+use avm_run::FullOps;
 use json_documents::lines_reply;
 use json_traces::trace_reply;
 use json_views::show_reply;
@@ -33,14 +33,13 @@ pub enum JsonCommand {
 ///
 /// A failed or interrupted read and refused memory give status 3, with nothing written; so does a failed write, before
 /// which a beginning of the answer may have been written. Words that are no command read nothing.
-pub fn answer<R: Read, W: Write>(
+pub fn answer<R: Read, W: Write, O: Op>(
     alloc: Global,
     words: &[&str],
     reader: &mut R,
     writer: &mut W,
-    ops: &OpSet,
+    ops: &FullOps<O>,
 ) -> u8
-    requires full { IsFull ⟦<BoxedOp as Op>⟧.opcode ops.now }
     ensures answers { CommandAnswers usage_reply IsJsonReply
         (command_in (map (λ word. word.now) words.now))
         (R.remaining reader.old) (W.contents writer.old) (W.contents writer.new) result }
@@ -55,14 +54,13 @@ pub fn answer<R: Read, W: Write>(
 }
 
 /// Executes a command, or writes the usage line, as [`answer`] does.
-fn answer_to<R: Read, W: Write>(
+fn answer_to<R: Read, W: Write, O: Op>(
     alloc: Global,
     command: Option<JsonCommand>,
     reader: &mut R,
     writer: &mut W,
-    ops: &OpSet,
+    ops: &FullOps<O>,
 ) -> u8
-    requires full { IsFull ⟦<BoxedOp as Op>⟧.opcode ops.now }
     ensures answers { CommandAnswers usage_reply IsJsonReply command
         (R.remaining reader.old) (W.contents writer.old) (W.contents writer.new) result }
     ensures fails { result ≡ failed → CommandFails usage_reply IsJsonReply command
@@ -118,13 +116,12 @@ fn number_in(digits: &str) -> Option<u64>
 }
 
 /// What a command answers to its whole input.
-fn reply_of<R: Read>(
+fn reply_of<R: Read, O: Op>(
     alloc: Global,
     command: JsonCommand,
     reader: &mut R,
-    ops: &OpSet,
+    ops: &FullOps<O>,
 ) -> io::Result<Reply>
-    requires full { IsFull ⟦<BoxedOp as Op>⟧.opcode ops.now }
     ensures { IfOk result
         (λ reply. IsReply (IsJsonReply command) (R.remaining reader.old) (reply_shown reply)) }
 {
@@ -136,13 +133,12 @@ fn reply_of<R: Read>(
 }
 
 /// What a command answers to an input that is not too long.
-fn command_reply(
+fn command_reply<O: Op>(
     alloc: Global,
     command: JsonCommand,
     input: &[u8],
-    ops: &OpSet,
+    ops: &FullOps<O>,
 ) -> Result<Reply, AllocError>
-    requires full { IsFull ⟦<BoxedOp as Op>⟧.opcode ops.now }
     ensures { IfOk result (λ reply. IsJsonReply command input.now (reply_shown reply)) }
 {
     match command {

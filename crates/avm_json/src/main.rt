@@ -6,6 +6,8 @@ mod commands;
 
 use avm_input::FAILED;
 use avm_objects::filled_set;
+use avm_ops::{Op, Ops};
+use avm_run::FullOps;
 use commands::answer;
 use std::alloc::AllocError;
 use std::env;
@@ -20,17 +22,15 @@ fn main(rt: HostRuntime) -> ExitCode {
         return ExitCode::from(FAILED);
     };
     let ops = filled_set!(rt.alloc(), ExitCode::from(FAILED));
-    if ops.missing().is_some() {
-        return ExitCode::from(FAILED);
+    ExitCode::from(answered(&rt, texts.as_slice(), ops))
+}
+
+/// The exit status of the command that the words are.
+fn answered<O: Op>(rt: &HostRuntime, words: &[&str], ops: Ops<O>) -> u8 {
+    match FullOps::of(ops) {
+        Ok(ops) => answer(rt.alloc(), words, &mut rt.stdin(), &mut rt.stdout(), &ops),
+        Err(_lacking) => FAILED,
     }
-    let status = answer(
-        rt.alloc(),
-        texts.as_slice(),
-        &mut rt.stdin(),
-        &mut rt.stdout(),
-        &ops,
-    );
-    ExitCode::from(status)
 }
 
 /// The words that the program was called with. Words that are no text are no command, as no words are.

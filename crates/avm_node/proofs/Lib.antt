@@ -1,3 +1,4 @@
 pub mod CallParts
 pub mod PoolAnswers
 pub mod NodeAnswers
+pub mod FullSets

@@ -3,16 +3,14 @@
 ghost use Rattle.std.specs.Prelude.{◌≡◌, ◌++◌, IfOk, OnOk, string_bytes};
 ghost use Rattle.std.specs.List.{flat_map};
 ghost use Rattle.avm_ledger.specs.declared.header.Profile.TheVariants.{Three};
-ghost use Rattle.avm_ops.specs.OpSets.{IsFull};
 ghost use Rattle.avm_node.specs.ProposeCommands.{IsPoolReply, IsProposeReply, left_line, pool_reply, proposal_reply};
 ghost use Rattle.avm_node.specs.ProposeShown.{input_shown};
 ghost use Rattle.avm_input.specs.Shown.{reply_shown};
 ghost use Rattle.avm_node.specs.WorkerSets.{AreWorkerSets};
 
 use crate::propose_input::{ProposeInput, propose_input};
-use avm_block::encode;
 use avm_input::{DONE, REFUSED, Reply, digit_line, refusal_reply};
-use avm_ops::{BoxedOp, Op, OpSet};
+use avm_ops::{Op, Ops};
 use avm_pool::{OpenGate, PoolFault, Proposal, SharedBase, propose_on};
 use std::alloc::{AllocError, Global};
 use std::sync::Wait;
@@ -20,14 +18,14 @@ use std::thread::Threads;
 use teal_value::Failure;
 
 /// What `propose` answers to its input, by a worker of each set.
-pub fn propose_reply<R: Threads + Wait + Sync>(
+pub fn propose_reply<R: Threads + Wait + Sync, O: Op>(
     rt: &R,
     alloc: Global,
     input: &[u8],
-    sets: Vec<OpSet>,
-    own: &OpSet,
+    sets: Vec<Ops<O>>,
+    own: Ops<O>,
 ) -> Result<Reply, AllocError>
-    requires sets { AreWorkerSets ⟦<BoxedOp as Op>⟧.opcode sets.items own.now }
+    requires sets { AreWorkerSets O.opcode sets.items own }
     ensures { IfOk result (λ reply. IsProposeReply input.now (reply_shown reply)) }
 {
     match propose_input(rt, alloc, sets.len(), input) {
@@ -37,15 +35,15 @@ pub fn propose_reply<R: Threads + Wait + Sync>(
 }
 
 /// The block that the workers make of what was read, or why there is none.
-fn pool_answer<R: Threads + Wait + Sync>(
+fn pool_answer<R: Threads + Wait + Sync, O: Op>(
     rt: &R,
     alloc: Global,
     read: ProposeInput,
-    sets: Vec<OpSet>,
-    own: &OpSet,
+    sets: Vec<Ops<O>>,
+    own: Ops<O>,
 ) -> Result<Reply, AllocError>
     requires profile { read.header.profile ≡ Three }
-    requires sets { AreWorkerSets ⟦<BoxedOp as Op>⟧.opcode sets.items own.now }
+    requires sets { AreWorkerSets O.opcode sets.items own }
     ensures { IfOk result (λ reply. IsPoolReply (input_shown read) (reply_shown reply)) }
 {
     let ProposeInput {
@@ -66,8 +64,7 @@ fn pool_answer<R: Threads + Wait + Sync>(
 fn proposal_reply(alloc: Global, proposal: &Proposal) -> Result<Reply, AllocError>
     ensures { IfOk result (λ reply. reply_shown reply ≡ proposal_reply proposal.now) }
 {
-    let bytes = encode(alloc, &proposal.block)?;
-    let mut text = digit_line(alloc, bytes.as_slice())?;
+    let mut text = digit_line(alloc, proposal.bytes.as_slice())?;
     add_left(alloc, &mut text, proposal.left.as_slice())?;
     Ok(Reply { text, status: DONE })
 }

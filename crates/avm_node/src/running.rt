@@ -14,7 +14,8 @@ use avm_commands::answer_to;
 use avm_input::{
     FAILED, INPUT_LIMIT, Reply, command_in, input_refusal, read_input, workers_of, write_reply,
 };
-use avm_ops::{BoxedOp, Op, OpSet};
+use avm_ops::{Op, Ops};
+use avm_run::FullOps;
 use std::alloc::Global;
 use std::io::{self, Read, Write};
 use std::sync::Wait;
@@ -24,15 +25,15 @@ use std::thread::Threads;
 /// but for `propose`, whose calls are executed in as many threads as it has workers.
 ///
 /// There are nine sets with an object of every opcode: one for each worker, and the last for the thread that calls.
-pub fn run<'a, T: Threads + Wait + Sync, R: Read, W: Write>(
+pub fn run<'a, T: Threads + Wait + Sync, R: Read, W: Write, O: Op>(
     rt: &T,
     alloc: Global,
     words: &'a [&'a str],
     reader: &mut R,
     writer: &mut W,
-    mut sets: Vec<OpSet>,
+    mut sets: Vec<Ops<O>>,
 ) -> u8
-    requires sets { AreSets ⟦<BoxedOp as Op>⟧.opcode sets.items }
+    requires sets { AreSets O.opcode sets.items }
     ensures answers { CommandAnswers usage_reply IsNodeReply (command_in (map (λ word. word.now) words.now))
         (R.remaining reader.old) (W.contents writer.old) (W.contents writer.new) result }
     ensures fails { result ≡ failed → CommandFails usage_reply IsNodeReply
@@ -47,27 +48,27 @@ pub fn run<'a, T: Threads + Wait + Sync, R: Read, W: Write>(
         Ok(command) => match workers_of(command) {
             Some(workers) => {
                 sets.truncate(usize::from(workers));
-                match proposed(rt, alloc, workers, reader, sets, &own) {
+                match proposed(rt, alloc, workers, reader, sets, own) {
                     Ok(reply) => write_reply(writer, reply.text.as_str(), reply.status),
                     Err(_) => FAILED,
                 }
             }
-            None => answer_to(alloc, command, reader, writer, &own),
+            None => answer_to(alloc, command, reader, writer, &FullOps::from_full(own)),
         },
         Err(_) => FAILED,
     }
 }
 
 /// What `propose` answers to its whole input.
-fn proposed<T: Threads + Wait + Sync, R: Read>(
+fn proposed<T: Threads + Wait + Sync, R: Read, O: Op>(
     rt: &T,
     alloc: Global,
     workers: u8,
     reader: &mut R,
-    sets: Vec<OpSet>,
-    own: &OpSet,
+    sets: Vec<Ops<O>>,
+    own: Ops<O>,
 ) -> io::Result<Reply>
-    requires sets { AreWorkerSets ⟦<BoxedOp as Op>⟧.opcode sets.items own.now }
+    requires sets { AreWorkerSets O.opcode sets.items own }
     ensures { IfOk result (λ reply. IsReply (IsNodeReply (Propose workers)) (R.remaining reader.old) (reply_shown reply)) }
 {
     let input = read_input(alloc, reader)?;

@@ -8,6 +8,7 @@
 
 mod call_numbers;
 mod ends;
+mod finishing;
 mod gate;
 mod holding;
 mod left;

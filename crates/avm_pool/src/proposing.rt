@@ -2,7 +2,6 @@
 
 ghost use Rattle.std.specs.Prelude.{◌≡◌, ◌≤◌, true, [], IfErr, IfOk, None, OnOk, length};
 ghost use Rattle.std.specs.Arc.{arc_value};
-ghost use Rattle.avm_ops.specs.OpSets.{IsFull};
 ghost use Rattle.mv_parts.specs.Opening.{open_fault};
 ghost use Rattle.mv_parts.specs.Sealing.{IsJournalOf};
 ghost use Rattle.avm_pool.specs.Proposals.{IsProposal};
@@ -11,17 +10,19 @@ ghost use Rattle.avm_block.specs.Blocks.{most_calls};
 
 use crate::call_numbers::Numbers;
 use crate::ends::ThreadEnd;
+use crate::finishing::proposal_of;
 use crate::gate::Gate;
 use crate::holding::ShardLock;
 use crate::pool_fault::{PoolError, PoolFault};
 use crate::proposal::Proposal;
 use crate::refusals::pool_fault;
-use crate::rest::{proposal_of, run_rest};
+use crate::rest::run_rest;
 use crate::running::Shared;
 use crate::workers::{enlist_all, put_all, run_workers};
 use avm_call::Call;
 use avm_ledger::{Header, Ledger};
-use avm_ops::{BoxedOp, Op, OpSet};
+use avm_ops::{Op, Ops};
+use avm_run::FullOps;
 use mv_parts::{Journal, SharedBase, open_on};
 use mv_shards::{Held, SHARD_COUNT};
 use std::alloc::{AllocError, Global};
@@ -35,59 +36,64 @@ use teal_value::Failure;
 ///
 /// The gate is told of each event, and may hold the thread that tells it. [`propose_on`] serves callers who have the
 /// ledger's digest.
-pub fn propose<G: Gate, R: Threads + Wait + Sync>(
+pub fn propose<G: Gate, R: Threads + Wait + Sync, O: Op>(
     rt: &R,
     alloc: Global,
     base: &Ledger,
     header: &Header,
     calls: Vec<Call>,
-    worker_ops: Vec<OpSet>,
-    own_ops: &OpSet,
+    worker_ops: Vec<Ops<O>>,
+    own_ops: Ops<O>,
     gate: &G,
 ) -> Result<Proposal, PoolError>
     ensures proposal { IfOk result (IsProposal base.now header.now calls.items) }
-    ensures may { OnOk result (MayPropose ⟦<BoxedOp as Op>⟧.opcode worker_ops.items own_ops.now header.now calls.items) }
-    ensures refused { IfErr result (IsRefusal ⟦<BoxedOp as Op>⟧.opcode worker_ops.items own_ops.now header.now calls.items) }
+    ensures may { OnOk result (MayPropose O.opcode worker_ops.items own_ops header.now calls.items) }
+    ensures refused { IfErr result (IsRefusal O.opcode worker_ops.items own_ops header.now calls.items) }
 {
-    match pool_fault(&worker_ops, own_ops, header, &calls) {
+    match pool_fault(&worker_ops, &own_ops, header, &calls) {
         Some(fault) => Err(Failure::Fault(fault)),
-        None => proposed_over(rt, alloc, base, header, calls, worker_ops, own_ops, gate),
+        None => {
+            let own = FullOps::from_full(own_ops);
+            proposed_over(rt, alloc, base, header, calls, worker_ops, &own, gate)
+        }
     }
 }
 
 /// As [`propose`], on a ledger that is shared and has its digest: it is not copied, and not encoded again.
-pub fn propose_on<G: Gate, R: Threads + Wait + Sync>(
+pub fn propose_on<G: Gate, R: Threads + Wait + Sync, O: Op>(
     rt: &R,
     alloc: Global,
     base: &SharedBase,
     header: &Header,
     calls: Vec<Call>,
-    worker_ops: Vec<OpSet>,
-    own_ops: &OpSet,
+    worker_ops: Vec<Ops<O>>,
+    own_ops: Ops<O>,
     gate: &G,
 ) -> Result<Proposal, PoolError>
     ensures proposal { IfOk result (IsProposal base.now header.now calls.items) }
-    ensures may { OnOk result (MayPropose ⟦<BoxedOp as Op>⟧.opcode worker_ops.items own_ops.now header.now calls.items) }
-    ensures refused { IfErr result (IsRefusal ⟦<BoxedOp as Op>⟧.opcode worker_ops.items own_ops.now header.now calls.items) }
+    ensures may { OnOk result (MayPropose O.opcode worker_ops.items own_ops header.now calls.items) }
+    ensures refused { IfErr result (IsRefusal O.opcode worker_ops.items own_ops header.now calls.items) }
 {
-    match pool_fault(&worker_ops, own_ops, header, &calls) {
+    match pool_fault(&worker_ops, &own_ops, header, &calls) {
         Some(fault) => Err(Failure::Fault(fault)),
-        None => proposed(rt, alloc, base, header, calls, worker_ops, own_ops, gate),
+        None => {
+            let own = FullOps::from_full(own_ops);
+            proposed(rt, alloc, base, header, calls, worker_ops, &own, gate)
+        }
     }
 }
 
 /// What comes out where no test fails, over a copy of a ledger.
-fn proposed_over<G: Gate, R: Threads + Wait + Sync>(
+fn proposed_over<G: Gate, R: Threads + Wait + Sync, O: Op>(
     rt: &R,
     alloc: Global,
     base: &Ledger,
     header: &Header,
     calls: Vec<Call>,
-    worker_ops: Vec<OpSet>,
-    own_ops: &OpSet,
+    worker_ops: Vec<Ops<O>>,
+    own_ops: &FullOps<O>,
     gate: &G,
 ) -> Result<Proposal, PoolError>
-    requires full { IsFull ⟦<BoxedOp as Op>⟧.opcode own_ops.now }
     requires opens { open_fault header.now calls.items ≡ None }
     ensures proposal { IfOk result (IsProposal base.now header.now calls.items) }
     ensures want { IfErr result IsWant }
@@ -97,17 +103,16 @@ fn proposed_over<G: Gate, R: Threads + Wait + Sync>(
 }
 
 /// What comes out where no test fails.
-fn proposed<G: Gate, R: Threads + Wait + Sync>(
+fn proposed<G: Gate, R: Threads + Wait + Sync, O: Op>(
     rt: &R,
     alloc: Global,
     base: &SharedBase,
     header: &Header,
     calls: Vec<Call>,
-    worker_ops: Vec<OpSet>,
-    own_ops: &OpSet,
+    worker_ops: Vec<Ops<O>>,
+    own_ops: &FullOps<O>,
     gate: &G,
 ) -> Result<Proposal, PoolError>
-    requires full { IsFull ⟦<BoxedOp as Op>⟧.opcode own_ops.now }
     requires opens { open_fault header.now calls.items ≡ None }
     ensures proposal { IfOk result (IsProposal base.now header.now calls.items) }
     ensures want { IfErr result IsWant }
@@ -127,60 +132,68 @@ fn proposed<G: Gate, R: Threads + Wait + Sync>(
         gate,
     };
     match run_workers(rt, &journal, &shared, workers)? {
-        ThreadEnd::Over => finish(rt, &shared, journal.into_inner(), base, &calls, own_ops),
-        ThreadEnd::NotStarted => Err(Failure::Fault(PoolFault::Spawn)),
-        ThreadEnd::ClockEnd => Err(Failure::Fault(PoolFault::ClockEnd)),
+        ThreadEnd::Over => {}
+        ThreadEnd::NotStarted => return Err(Failure::Fault(PoolFault::Spawn)),
+        ThreadEnd::ClockEnd => return Err(Failure::Fault(PoolFault::ClockEnd)),
     }
+    let mut journal = journal.into_inner();
+    if journal.is_over() {
+        if !run_rest(rt, &shared, &mut journal, own_ops) {
+            return Err(Failure::Fault(PoolFault::ClockEnd));
+        }
+        if let Some(proposal) = proposal_of(
+            rt,
+            alloc,
+            journal,
+            shards,
+            base.ledger(),
+            header,
+            &calls,
+        )? {
+            return Ok(proposal);
+        }
+    }
+    proposed_anew(rt, alloc, base, header, &calls, own_ops, gate)
 }
 
-/// Runs what the workers left in their journal. Where it is not the journal that was opened, all is run in another.
-fn finish<G: Gate, R: Wait>(
+/// What one thread makes of all calls. It is for a journal that is not the one that was opened, which nothing rules out that
+/// is known of a value behind a lock.
+fn proposed_anew<G: Gate, R: Threads + Wait + Sync, O: Op>(
     rt: &R,
-    shared: &Shared<G>,
-    journal: Journal,
+    alloc: Global,
     base: &SharedBase,
+    header: &Header,
     calls: &Arc<Vec<Call>>,
-    own_ops: &OpSet,
+    own_ops: &FullOps<O>,
+    gate: &G,
 ) -> Result<Proposal, PoolError>
-    requires full { IsFull ⟦<BoxedOp as Op>⟧.opcode own_ops.now }
-    requires opens { open_fault shared.now.header.now (arc_value calls.now).items ≡ None }
-    ensures proposal { IfOk result (IsProposal base.now shared.now.header.now (arc_value calls.now).items) }
+    requires opens { open_fault header.now (arc_value calls.now).items ≡ None }
+    ensures proposal { IfOk result (IsProposal base.now header.now (arc_value calls.now).items) }
     ensures want { IfErr result IsWant }
 {
-    if journal.is_of(base.ledger(), shared.header, calls.as_slice()) {
-        return rest(rt, shared, journal, own_ops);
-    }
-    let (journal, shards) = opened(shared.alloc, base, shared.header, calls)?;
-    let anew = Shared {
-        alloc: shared.alloc,
+    let (journal, shards) = opened(alloc, base, header, calls)?;
+    let shared = Shared {
+        alloc,
         shards: shards.as_slice(),
-        calls: shared.calls,
-        header: shared.header,
-        gate: shared.gate,
+        calls: calls.as_slice(),
+        header,
+        gate,
     };
-    rest(rt, &anew, journal, own_ops)
-}
-
-/// Runs what is not committed, and seals.
-fn rest<G: Gate, R: Wait>(
-    rt: &R,
-    shared: &Shared<G>,
-    mut journal: Journal,
-    own_ops: &OpSet,
-) -> Result<Proposal, PoolError>
-    requires full { IsFull ⟦<BoxedOp as Op>⟧.opcode own_ops.now }
-    requires idle { journal.world.live ≡ [] }
-    requires few { length journal.calls ≤ most_calls }
-    ensures proposal { IfOk result (IsProposal journal.base journal.header journal.calls) }
-    ensures want { IfErr result IsWant }
-{
-    if !run_rest(rt, shared, &mut journal, own_ops) {
+    let mut journal = journal;
+    if !run_rest(rt, &shared, &mut journal, own_ops) {
         return Err(Failure::Fault(PoolFault::ClockEnd));
     }
-    let count = journal.calls().len() as u32;
-    match proposal_of(shared.alloc, journal, count) {
-        Ok(proposal) => Ok(proposal),
-        Err(_) => Err(Failure::Memory),
+    match proposal_of(
+        rt,
+        alloc,
+        journal,
+        shards,
+        base.ledger(),
+        header,
+        calls.as_slice(),
+    )? {
+        Some(proposal) => Ok(proposal),
+        None => unreachable!(),
     }
 }
 

@@ -1,33 +1,27 @@
 //! What one thread does once the workers have ended.
 
-ghost use Rattle.std.specs.Prelude.{◌≡◌, ◌≤◌, [], IfErr, IfOk, length};
-ghost use Rattle.avm_ops.specs.OpSets.{IsFull};
-ghost use Rattle.avm_pool.specs.Proposals.{IsProposal};
+ghost use Rattle.std.specs.Prelude.{◌≡◌, []};
 ghost use Rattle.avm_pool.specs.Resting.{IsAlone, IsStill};
 
 use crate::gate::{Gate, GateEvent};
 use crate::holding::{Work, Worked, work_with};
-use crate::left::left_of;
-use crate::proposal::Proposal;
 use crate::running::Shared;
 use crate::worker::shards_of;
 use avm_call::Call;
-use avm_ops::{BoxedOp, Op, OpSet};
-use avm_run::{Finished, Spare};
-use mv_parts::{BeginFault, Journal, Sealed};
+use avm_ops::Op;
+use avm_run::{Finished, FullOps, Spare};
+use mv_parts::{BeginFault, Journal};
 use mv_shards::{Attempt, Held};
-use std::alloc::{AllocError, Global};
 use std::sync::Wait;
 use teal_value::Failure;
 
 /// Runs each call that is not committed, once, by rising number. False where the last timestamp was given.
-pub(crate) fn run_rest<G: Gate, R: Wait>(
+pub(crate) fn run_rest<G: Gate, R: Wait, O: Op>(
     rt: &R,
     shared: &Shared<G>,
     journal: &mut Journal,
-    ops: &OpSet,
+    ops: &FullOps<O>,
 ) -> bool
-    requires full { IsFull ⟦<BoxedOp as Op>⟧.opcode ops.now }
     requires idle { journal.old.world.live ≡ [] }
     ensures { IsStill journal.old journal.new }
 {
@@ -43,16 +37,15 @@ pub(crate) fn run_rest<G: Gate, R: Wait>(
 }
 
 /// Runs a call, if it is not committed. False where the last timestamp was given.
-fn run_once<G: Gate, R: Wait>(
+fn run_once<G: Gate, R: Wait, O: Op>(
     rt: &R,
     shared: &Shared<G>,
     journal: &mut Journal,
-    ops: &OpSet,
+    ops: &FullOps<O>,
     spare: &mut Option<Spare>,
     call: &Call,
     number: u32,
 ) -> bool
-    requires full { IsFull ⟦<BoxedOp as Op>⟧.opcode ops.now }
     requires idle { journal.old.world.live ≡ [] }
     ensures { IsStill journal.old journal.new }
 {
@@ -67,16 +60,15 @@ fn run_once<G: Gate, R: Wait>(
 }
 
 /// Runs the one call that is live.
-fn run_attempt<G: Gate, R: Wait>(
+fn run_attempt<G: Gate, R: Wait, O: Op>(
     rt: &R,
     shared: &Shared<G>,
     journal: &mut Journal,
-    ops: &OpSet,
+    ops: &FullOps<O>,
     spare: &mut Option<Spare>,
     call: &Call,
     mut attempt: Attempt,
 )
-    requires full { IsFull ⟦<BoxedOp as Op>⟧.opcode ops.now }
     requires alone { IsAlone journal.old attempt }
     ensures { IsStill journal.old journal.new }
 {
@@ -123,29 +115,5 @@ fn abandon(journal: &mut Journal, attempt: Attempt)
     match journal.abandon(attempt) {
         Ok(()) => {}
         Err(_attempt) => unreachable!(),
-    }
-}
-
-/// The proposal of a journal in which no attempt is live.
-pub(crate) fn proposal_of(
-    alloc: Global,
-    journal: Journal,
-    count: u32,
-) -> Result<Proposal, AllocError>
-    requires idle { journal.world.live ≡ [] }
-    requires count { length journal.calls ≡ count }
-    ensures { IfOk result (IsProposal journal.base journal.header journal.calls) }
-{
-    match journal.seal(alloc) {
-        Ok(sealed) => {
-            let Sealed { block, numbers } = sealed;
-            let left = left_of(alloc, &numbers, count)?;
-            Ok(Proposal {
-                block,
-                numbers,
-                left,
-            })
-        }
-        Err(_refused) => Err(AllocError),
     }
 }

@@ -1,7 +1,6 @@
 //! One attempt of a call, outside the journal's lock.
 
 ghost use Rattle.std.specs.Prelude.{◌≡◌};
-ghost use Rattle.avm_ops.specs.OpSets.{IsFull};
 ghost use Rattle.avm_pool.specs.Running.{IsSameAttempt};
 
 use crate::ends::AttemptEnd;
@@ -11,8 +10,8 @@ use crate::waiting::lock_soon;
 use avm_call::Call;
 use avm_items::{Item, ItemValue};
 use avm_ledger::Header;
-use avm_ops::{BoxedOp, Op, OpSet};
-use avm_run::{Advance, CallRun, Finished, Spare};
+use avm_ops::Op;
+use avm_run::{Advance, CallRun, Finished, FullOps, Spare};
 use mv_shards::{Attempt, shard_of};
 use std::alloc::Global;
 use std::sync::Wait;
@@ -41,16 +40,15 @@ impl<'a, G: Gate> Shared<'a, G> {
     /// Runs the call of an attempt to its end, in the spare box, which it leaves for the next run. `tries` counts the
     /// attempts of the call, this one too. It fails with `Again` where an item could not be read at the attempt's
     /// timestamp, and with `Left` where memory was refused.
-    pub fn run<R: Wait>(
+    pub fn run<R: Wait, O: Op>(
         &self,
         rt: &R,
-        ops: &OpSet,
+        ops: &FullOps<O>,
         spare: &mut Option<Spare>,
         call: &Call,
         attempt: &mut Attempt,
         tries: u32,
     ) -> Result<Finished, AttemptEnd>
-        requires full { IsFull ⟦<BoxedOp as Op>⟧.opcode ops.now }
         ensures { IsSameAttempt attempt.old attempt.new }
     {
         match CallRun::start(self.alloc, call, self.header, spare.take()) {
@@ -64,15 +62,14 @@ impl<'a, G: Gate> Shared<'a, G> {
     }
 
     /// Runs on to the end of the call, over what the attempt reads.
-    fn run_on<R: Wait>(
+    fn run_on<R: Wait, O: Op>(
         &self,
         rt: &R,
-        ops: &OpSet,
+        ops: &FullOps<O>,
         run: &mut CallRun,
         attempt: &mut Attempt,
         tries: u32,
     ) -> Result<Finished, AttemptEnd>
-        requires full { IsFull ⟦<BoxedOp as Op>⟧.opcode ops.now }
         ensures { IsSameAttempt attempt.old attempt.new }
     {
         for _ in rt.forever() {

@@ -1,7 +1,6 @@
 //! A worker: it draws numbers, and runs each call until it is committed or may not be.
 
 ghost use Rattle.std.specs.Prelude.{◌≡◌};
-ghost use Rattle.avm_ops.specs.OpSets.{IsFull};
 ghost use Rattle.avm_pool.specs.NumberPasses.{IsWith, view};
 
 use crate::call_numbers::{NumberPass, Numbers};
@@ -11,8 +10,8 @@ use crate::holding::{Work, Worked, work_with};
 use crate::running::Shared;
 use crate::waiting::{lock_soon, stand_back};
 use avm_call::Call;
-use avm_ops::{BoxedOp, Op, OpSet};
-use avm_run::{Finished, Spare};
+use avm_ops::{Op, Ops};
+use avm_run::{Finished, FullOps, Spare};
 use mv_parts::{BeginFault, Journal};
 use mv_shards::{Attempt, Held, SHARD_COUNT, shard_of};
 use std::sync::{Mutex, Wait};
@@ -23,15 +22,19 @@ const COMMITS_A_PRUNE: u32 = 64;
 
 /// A set of objects, and a pass of the queue.
 #[derive(Drop)]
-pub(crate) struct Worker<'a> {
+pub(crate) struct Worker<'a, O: Op> {
     numbers: &'a Numbers,
     pass: NumberPass,
-    ops: OpSet,
+    ops: Ops<O>,
     ghost with: { IsWith numbers.now pass },
 }
 
 /// A worker of a set of objects.
-pub(crate) fn enlist<'a>(numbers: &'a Numbers, pass: &mut NumberPass, ops: OpSet) -> Worker<'a>
+pub(crate) fn enlist<'a, O: Op>(
+    numbers: &'a Numbers,
+    pass: &mut NumberPass,
+    ops: Ops<O>,
+) -> Worker<'a, O>
     requires { IsWith numbers.now pass.old }
     ensures { IsWith numbers.entry.now pass.new × (view pass.new ≡ view pass.old) }
 {
@@ -43,7 +46,7 @@ pub(crate) fn enlist<'a>(numbers: &'a Numbers, pass: &mut NumberPass, ops: OpSet
     }
 }
 
-impl<'a> Worker<'a> {
+impl<'a, O: Op> Worker<'a, O> {
     /// Draws numbers until there is none, and runs their calls.
     pub fn work<G: Gate, R: Wait>(
         self,
@@ -56,10 +59,10 @@ impl<'a> Worker<'a> {
             mut pass,
             ops,
         } = self;
-        // The proof of a thread knows nothing of a set of boxes but its type, so the worker asks it anew.
-        if ops.missing().is_some() {
+        // The pool has asked already, but a thread knows nothing of its set but the type.
+        let Ok(ops) = FullOps::of(ops) else {
             return ThreadEnd::Over;
-        }
+        };
         let mut spare = None;
         let mut commits = 0u32;
         for _ in rt.forever() {
@@ -82,16 +85,14 @@ impl<'a> Worker<'a> {
 }
 
 /// Runs a call, in as many attempts as it takes: it does not end with `Again`.
-fn run_call<G: Gate, R: Wait>(
+fn run_call<G: Gate, R: Wait, O: Op>(
     rt: &R,
     journal: &Mutex<Journal>,
     shared: &Shared<G>,
-    ops: &OpSet,
+    ops: &FullOps<O>,
     spare: &mut Option<Spare>,
     number: u32,
-) -> AttemptEnd
-    requires full { IsFull ⟦<BoxedOp as Op>⟧.opcode ops.now }
-{
+) -> AttemptEnd {
     let Some(call) = shared.call(number) else {
         return AttemptEnd::Left;
     };
@@ -109,18 +110,16 @@ fn run_call<G: Gate, R: Wait>(
 }
 
 /// One attempt of a call. Each `let` that locks the journal lets it go at its end, so no lock is held at the gate.
-fn run_attempt<G: Gate, R: Wait>(
+fn run_attempt<G: Gate, R: Wait, O: Op>(
     rt: &R,
     journal: &Mutex<Journal>,
     shared: &Shared<G>,
-    ops: &OpSet,
+    ops: &FullOps<O>,
     spare: &mut Option<Spare>,
     call: &Call,
     number: u32,
     tries: u32,
-) -> AttemptEnd
-    requires full { IsFull ⟦<BoxedOp as Op>⟧.opcode ops.now }
-{
+) -> AttemptEnd {
     let begun = lock_soon(rt, journal).begin(number);
     let mut attempt = match begun {
         Ok(attempt) => attempt,

@@ -10,7 +10,7 @@ use crate::ends::ThreadEnd;
 use crate::gate::Gate;
 use crate::running::Shared;
 use crate::worker::{Worker, enlist};
-use avm_ops::OpSet;
+use avm_ops::{Op, Ops};
 use mv_parts::Journal;
 use std::alloc::{AllocError, Global};
 use std::sync::{Mutex, Wait};
@@ -31,12 +31,12 @@ pub(crate) fn put_all<R: Wait>(rt: &R, numbers: &Numbers, pass: &mut NumberPass,
 }
 
 /// A worker of each set.
-pub(crate) fn enlist_all<'a>(
+pub(crate) fn enlist_all<'a, O: Op>(
     alloc: Global,
     numbers: &'a Numbers,
     pass: &mut NumberPass,
-    sets: Vec<OpSet>,
-) -> Result<Vec<Worker<'a>>, AllocError>
+    sets: Vec<Ops<O>>,
+) -> Result<Vec<Worker<'a, O>>, AllocError>
     requires { IsWith numbers.now pass.old }
     ensures { IsWith numbers.entry.now pass.new × (view pass.new ≡ view pass.old) }
 {
@@ -48,11 +48,11 @@ pub(crate) fn enlist_all<'a>(
 }
 
 /// Runs the workers in threads of their own, and joins those that were started.
-pub(crate) fn run_workers<G: Gate, R: Threads + Wait + Sync>(
+pub(crate) fn run_workers<O: Op, G: Gate, R: Threads + Wait + Sync>(
     rt: &R,
     journal: &Mutex<Journal>,
     shared: &Shared<G>,
-    workers: Vec<Worker>,
+    workers: Vec<Worker<O>>,
 ) -> Result<ThreadEnd, AllocError> {
     let mut handles = Vec::with_capacity(shared.alloc, workers.len())?;
     Ok(thread::scope(thread::scope_env(), rt, move |scope| {

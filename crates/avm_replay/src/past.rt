@@ -1,7 +1,6 @@
 //! Ledgers of the past.
 
 ghost use Rattle.std.specs.Prelude.{◌≡◌, IfErr, IfOk};
-ghost use Rattle.avm_ops.specs.OpSets.{IsFull};
 ghost use Rattle.avm_ledger.specs.Spellings.{ledger_digest};
 ghost use Rattle.avm_call.specs.Replay.{replayed};
 ghost use Rattle.avm_block.specs.Blocks.{RisesAbove, calls_in};
@@ -11,8 +10,8 @@ ghost use Rattle.avm_replay.specs.Past.{IsRefused, entries_until, ledger_until};
 use crate::base::Base;
 use avm_block::{Block, Entry};
 use avm_ledger::{Header, Ledger};
-use avm_ops::{BoxedOp, Op, OpSet};
-use avm_run::call_on;
+use avm_ops::Op;
+use avm_run::{FullOps, call_on};
 use std::alloc::{AllocError, Global};
 use teal_value::Failure;
 use thiserror::Error;
@@ -40,14 +39,13 @@ impl StateFault {
 pub type StateError = Failure<StateFault>;
 
 /// The ledger after the calls of a block with timestamps up to this one.
-pub fn state_at(
+pub fn state_at<O: Op>(
     alloc: Global,
     ledger: &Ledger,
     block: &Block,
     timestamp: u64,
-    ops: &OpSet,
+    ops: &FullOps<O>,
 ) -> Result<Ledger, StateError>
-    requires full { IsFull ⟦<BoxedOp as Op>⟧.opcode ops.now }
     ensures base { IfOk result (λ _. block.now.base ≡ ledger_digest ledger.now) }
     ensures state { IfOk result (λ after. after ≡ ledger_until ledger.now block.now timestamp) }
     ensures refused { IfErr result (IsRefused ledger.now block.now) }
@@ -58,14 +56,13 @@ pub fn state_at(
 }
 
 /// The same, of a ledger that is not copied.
-pub fn state_at_owned(
+pub fn state_at_owned<O: Op>(
     alloc: Global,
     base: Base,
     block: &Block,
     timestamp: u64,
-    ops: &OpSet,
+    ops: &FullOps<O>,
 ) -> Result<Ledger, StateError>
-    requires full { IsFull ⟦<BoxedOp as Op>⟧.opcode ops.now }
     ensures base { IfOk result (λ _. block.now.base ≡ ledger_digest base) }
     ensures state { IfOk result (λ after. after ≡ ledger_until base block.now timestamp) }
     ensures refused { IfErr result (IsRefused base block.now) }
@@ -86,15 +83,14 @@ pub fn state_at_owned(
 }
 
 /// Makes the calls of entries on a ledger, up to the last that isn't behind the timestamp.
-fn make_until(
+fn make_until<O: Op>(
     alloc: Global,
     ledger: &mut Ledger,
     header: &Header,
     entries: &[Entry],
     timestamp: u64,
-    ops: &OpSet,
+    ops: &FullOps<O>,
 ) -> Result<(), AllocError>
-    requires full { IsFull ⟦<BoxedOp as Op>⟧.opcode ops.now }
     requires rising { RisesAbove 0 entries.now }
     ensures { IfOk result (λ _. ledger.new ≡ replayed ledger.old header.now (calls_in (entries_until timestamp entries.now))) }
 {

@@ -1,15 +1,14 @@
 //! Blocks of calls made one after another, on one thread.
 
 ghost use Rattle.std.specs.Prelude.{◌≡◌, ◌≤◌, ◌+◌, IfErr, IfOk, IfSome, None, length, vec_len};
-ghost use Rattle.avm_ops.specs.OpSets.{IsFull};
 ghost use Rattle.avm_replay.specs.FaultNames.{plain_block_fault_name};
 ghost use Rattle.avm_replay.specs.Plain.{AreMade, IsPlainFaultOf, IsPlainBlock, plain_fault};
 
 use avm_block::{Block, Entry, MAX_ENTRIES, first_beyond, outcome_has_place};
 use avm_call::Call;
 use avm_ledger::{Header, Ledger};
-use avm_ops::{BoxedOp, Op, OpSet};
-use avm_run::call_on;
+use avm_ops::Op;
+use avm_run::{FullOps, call_on};
 use std::alloc::{AllocError, Global};
 use teal_value::Failure;
 use thiserror::Error;
@@ -40,14 +39,13 @@ impl PlainBlockFault {
 pub type PlainBlockError = Failure<PlainBlockFault>;
 
 /// The block of these calls over a ledger, in this order, by the timestamps 1, 2, 3 and so on.
-pub fn plain_block(
+pub fn plain_block<O: Op>(
     alloc: Global,
     ledger: &Ledger,
     header: &Header,
     calls: Vec<Call>,
-    ops: &OpSet,
+    ops: &FullOps<O>,
 ) -> Result<Block, PlainBlockError>
-    requires full { IsFull ⟦<BoxedOp as Op>⟧.opcode ops.now }
     ensures accepted { IfOk result (λ _. plain_fault header.now calls.items ≡ None) }
     ensures block { IfOk result (IsPlainBlock ledger.now header.now calls.items) }
     ensures refused { IfErr result (IsPlainFaultOf (plain_fault header.now calls.items)) }
@@ -66,14 +64,13 @@ pub fn plain_block(
 }
 
 /// Makes calls on a ledger, one after another, and gives them as entries.
-fn entries_of(
+fn entries_of<O: Op>(
     alloc: Global,
     ledger: &mut Ledger,
     header: &Header,
     calls: &[Call],
-    ops: &OpSet,
+    ops: &FullOps<O>,
 ) -> Result<Vec<Entry>, AllocError>
-    requires full { IsFull ⟦<BoxedOp as Op>⟧.opcode ops.now }
     requires few { length calls.now ≤ MAX_ENTRIES }
     ensures { IfOk result (λ entries. AreMade ledger.old header.now calls.now entries.items ledger.new) }
 {

@@ -1,7 +1,6 @@
 //! Replaying a block.
 
 ghost use Rattle.std.specs.Prelude.{◌≡◌, ◌≤◌, ◌↔◌, IfOk, IsTrue, length};
-ghost use Rattle.avm_ops.specs.OpSets.{IsFull};
 ghost use Rattle.avm_replay.specs.Verdicts.{Compares, Judges, OneVerdict};
 
 use crate::base::Base;
@@ -9,19 +8,18 @@ use crate::verdict::Verdict;
 use avm_block::{Block, Entry, MAX_ENTRIES};
 use avm_call::Outcome;
 use avm_ledger::{Header, Ledger};
-use avm_ops::{BoxedOp, Op, OpSet};
-use avm_run::call_on;
+use avm_ops::Op;
+use avm_run::{FullOps, call_on};
 use std::alloc::{AllocError, Global};
 
 /// Makes the calls of a block over the ledger before it, and compares. The ledger is copied once; a call costs what it
 /// touches.
-pub fn replay(
+pub fn replay<O: Op>(
     alloc: Global,
     ledger: &Ledger,
     block: &Block,
-    ops: &OpSet,
+    ops: &FullOps<O>,
 ) -> Result<Verdict, AllocError>
-    requires full { IsFull ⟦<BoxedOp as Op>⟧.opcode ops.now }
     ensures { IfOk result (λ verdict. Judges ledger.now block.now verdict) }
 {
     let copy = ledger.clone()?;
@@ -30,13 +28,12 @@ pub fn replay(
 }
 
 /// Makes the calls of a block on the ledger before it, and compares. Nothing is copied.
-pub fn replay_owned(
+pub fn replay_owned<O: Op>(
     alloc: Global,
     base: Base,
     block: &Block,
-    ops: &OpSet,
+    ops: &FullOps<O>,
 ) -> Result<Verdict, AllocError>
-    requires full { IsFull ⟦<BoxedOp as Op>⟧.opcode ops.now }
     ensures { IfOk result (λ verdict. Judges base block.now verdict) }
 {
     if *base.digest() != *block.base() {
@@ -60,14 +57,13 @@ pub fn replay_owned(
 
 /// Makes the calls of entries on a ledger, up to the first that ends otherwise than its entry says; gives its number and
 /// how it ends.
-fn first_wrong(
+fn first_wrong<O: Op>(
     alloc: Global,
     ledger: &mut Ledger,
     header: &Header,
     entries: &[Entry],
-    ops: &OpSet,
+    ops: &FullOps<O>,
 ) -> Result<Option<(usize, Outcome)>, AllocError>
-    requires full { IsFull ⟦<BoxedOp as Op>⟧.opcode ops.now }
     requires few { length entries.now ≤ MAX_ENTRIES }
     ensures { IfOk result (Compares ledger.old ledger.new header.now entries.now) }
 {

@@ -7,7 +7,6 @@ ghost use Rattle.avm_items.specs.Asks.{answer_from};
 ghost use Rattle.avm_items.specs.Items.{value_in};
 ghost use Rattle.avm_call.specs.AskedFor.{AreAskedFor};
 ghost use Rattle.avm_call.specs.Calls.{call_result};
-ghost use Rattle.avm_ops.specs.OpSets.{IsFull};
 ghost use Rattle.avm_run.specs.declared.call_run.State.TheVariants as state;
 ghost use Rattle.avm_run.specs.Advances.{Advances, Steps, Supplies};
 ghost use Rattle.avm_run.specs.ExecutedSteps.{AdvanceExecutes, StepExecutes};
@@ -18,13 +17,14 @@ ghost use Rattle.avm_run.specs.Showing.{Shows};
 
 use crate::executions::Executions;
 use crate::finished::Finished;
+use crate::full_ops::FullOps;
 use crate::phase::{EndedRun, PathOutcome, Phase, RunOutcome, run_on, step_on};
 use crate::running::Spare;
 use crate::shown::Shown;
 use avm_call::{Call, Ended};
 use avm_items::{Item, ItemMap, ItemValue};
 use avm_ledger::Header;
-use avm_ops::{BoxedOp, Op, OpSet};
+use avm_ops::Op;
 use std::alloc::{AllocError, Global};
 use std::cmp::Ordering;
 use std::marker::{Brand, Model};
@@ -256,22 +256,20 @@ impl CallRun {
     /// before the program may be made again. A program makes no more steps than it has instructions, which cost at most 700
     /// together (AVM specification, "Execution Environment for Smart Contracts"). How many instructions are executed,
     /// [`CallRun::advance_counted`] says.
-    pub fn advance(&mut self, alloc: Global, ops: &OpSet) -> Result<Advance, RunFault>
-        requires full { IsFull ⟦<BoxedOp as Op>⟧.opcode ops.now }
+    pub fn advance<O: Op>(&mut self, alloc: Global, ops: &FullOps<O>) -> Result<Advance, RunFault>
         ensures { Advances self.old self.new result }
     {
-        self.advance_on::<Brand>(alloc, ops, Blank::new(2))
+        self.advance_on::<Brand, O>(alloc, ops, Blank::new(2))
     }
 
     /// Runs on, and counts on a new ledger.
     #[inline]
-    fn advance_on<L: Ledger>(
+    fn advance_on<L: Ledger, O: Op>(
         &mut self,
         alloc: Global,
-        ops: &OpSet,
+        ops: &FullOps<O>,
         blank: Blank,
     ) -> Result<Advance, RunFault>
-        requires full { IsFull ⟦<BoxedOp as Op>⟧.opcode ops.now }
         requires name { blank.name ≡ L.name }
         requires two { blank.parts ≡ 2 }
         requires parts { blank.parts ≡ L.parts }
@@ -284,13 +282,12 @@ impl CallRun {
     /// Runs on as [`CallRun::advance`] does, and counts the instructions that are executed: one for each step that the run
     /// makes, so that none is executed again once it has made its step, however often the run asks. An instruction that
     /// asks is executed again when the run goes on; that and a fault are counted apart.
-    pub fn advance_counted<L: Ledger>(
+    pub fn advance_counted<L: Ledger, O: Op>(
         &mut self,
         alloc: Global,
-        ops: &OpSet,
+        ops: &FullOps<O>,
         executions: &mut Executions<L>,
     ) -> Result<Advance, RunFault>
-        requires full { IsFull ⟦<BoxedOp as Op>⟧.opcode ops.now }
         ensures advances { Advances self.old self.new result }
         ensures executes { AdvanceExecutes self.old self.new result executions.old executions.new }
     {
@@ -329,22 +326,20 @@ impl CallRun {
     /// program and leads to the start of the path, before the first instruction; each further step carries out one
     /// instruction. At a fault and at the end of the program the run stays where it stands. Where no program runs, the call
     /// ends, as with [`CallRun::advance`].
-    pub fn step_one(&mut self, alloc: Global, ops: &OpSet) -> Result<Step, RunFault>
-        requires full { IsFull ⟦<BoxedOp as Op>⟧.opcode ops.now }
+    pub fn step_one<O: Op>(&mut self, alloc: Global, ops: &FullOps<O>) -> Result<Step, RunFault>
         ensures { Steps self.old self.new result }
     {
-        self.step_one_on::<Brand>(alloc, ops, Blank::new(2))
+        self.step_one_on::<Brand, O>(alloc, ops, Blank::new(2))
     }
 
     /// Makes one step, and counts on a new ledger.
     #[inline]
-    fn step_one_on<L: Ledger>(
+    fn step_one_on<L: Ledger, O: Op>(
         &mut self,
         alloc: Global,
-        ops: &OpSet,
+        ops: &FullOps<O>,
         blank: Blank,
     ) -> Result<Step, RunFault>
-        requires full { IsFull ⟦<BoxedOp as Op>⟧.opcode ops.now }
         requires name { blank.name ≡ L.name }
         requires two { blank.parts ≡ 2 }
         requires parts { blank.parts ≡ L.parts }
@@ -355,13 +350,12 @@ impl CallRun {
     }
 
     /// Makes one step as [`CallRun::step_one`] does, and counts the instruction that it executes, if any.
-    pub fn step_one_counted<L: Ledger>(
+    pub fn step_one_counted<L: Ledger, O: Op>(
         &mut self,
         alloc: Global,
-        ops: &OpSet,
+        ops: &FullOps<O>,
         executions: &mut Executions<L>,
     ) -> Result<Step, RunFault>
-        requires full { IsFull ⟦<BoxedOp as Op>⟧.opcode ops.now }
         ensures steps { Steps self.old self.new result }
         ensures executes { StepExecutes self.old result executions.old executions.new }
     {

@@ -2,7 +2,6 @@
 
 ghost use Rattle.std.specs.Prelude.{◌≡◌, ◌+◌, IfErr, IfOk};
 ghost use Rattle.teal_code.specs.Limits.{most_program_bytes};
-ghost use Rattle.avm_ops.specs.OpSets.{IsFull};
 ghost use Rattle.avm_items.specs.Asks.{result_over};
 ghost use Rattle.avm_items.specs.LedgerItems.{at};
 ghost use Rattle.avm_call.specs.Calls.{call_result};
@@ -13,6 +12,7 @@ ghost use Rattle.avm_run.specs.ExecutedSteps.{CallExecutes};
 
 use crate::admission::first_item;
 use crate::executions::Executions;
+use crate::full_ops::FullOps;
 use crate::phase::{EndedRun, Phase, RunOutcome, run_on};
 use crate::running::Spare;
 use avm_call::{Call, Outcome};
@@ -20,7 +20,7 @@ use avm_items::{ItemMap, item_of, put_items};
 use avm_laws::call_laws::changes_are_handed_on;
 use avm_laws::order_laws::every_call_keeps_order;
 use avm_ledger::{Header, Ledger};
-use avm_ops::{BoxedOp, Op, OpSet};
+use avm_ops::Op;
 use std::alloc::{AllocError, Global};
 use std::marker::Brand;
 use std::sync::ledger;
@@ -30,34 +30,32 @@ use std::sync::ledger::Blank;
 ///
 /// The program runs in the spare box, on its machine, and leaves it for the next call: a first call is handed `None`, and
 /// further ones need no memory for either.
-pub fn call_on(
+pub fn call_on<O: Op>(
     alloc: Global,
     ledger: &mut Ledger,
     call: &Call,
     header: &Header,
-    ops: &OpSet,
+    ops: &FullOps<O>,
     spare: &mut Option<Spare>,
 ) -> Result<Outcome, AllocError>
-    requires full { IsFull ⟦<BoxedOp as Op>⟧.opcode ops.now }
     ensures outcome { IfOk result (λ outcome. outcome ≡ outcome_on ledger.old call.now header.now) }
     ensures after { IfOk result (λ _. ledger.new ≡ ledger_after ledger.old call.now header.now) }
     ensures unchanged { IfErr result (λ _. ledger.new ≡ ledger.old) }
 {
-    call_on_blank::<Brand>(alloc, ledger, call, header, ops, spare, Blank::new(2))
+    call_on_blank::<Brand, O>(alloc, ledger, call, header, ops, spare, Blank::new(2))
 }
 
 /// Makes a call on a ledger, and counts on a new one of counts.
 #[inline]
-fn call_on_blank<L: ledger::Ledger>(
+fn call_on_blank<L: ledger::Ledger, O: Op>(
     alloc: Global,
     ledger: &mut Ledger,
     call: &Call,
     header: &Header,
-    ops: &OpSet,
+    ops: &FullOps<O>,
     spare: &mut Option<Spare>,
     blank: Blank,
 ) -> Result<Outcome, AllocError>
-    requires full { IsFull ⟦<BoxedOp as Op>⟧.opcode ops.now }
     requires name { blank.name ≡ L.name }
     requires two { blank.parts ≡ 2 }
     requires parts { blank.parts ≡ L.parts }
@@ -72,16 +70,15 @@ fn call_on_blank<L: ledger::Ledger>(
 /// Makes a call on a ledger as [`call_on`] does, and counts the instructions that are executed: one for each step of its
 /// program's path, and so no more than the program has, and none where no program runs. An instruction that asks for an
 /// item is executed again with it; that and a fault are counted apart.
-pub fn call_on_counted<L: ledger::Ledger>(
+pub fn call_on_counted<L: ledger::Ledger, O: Op>(
     alloc: Global,
     ledger: &mut Ledger,
     call: &Call,
     header: &Header,
-    ops: &OpSet,
+    ops: &FullOps<O>,
     spare: &mut Option<Spare>,
     executions: &mut Executions<L>,
 ) -> Result<Outcome, AllocError>
-    requires full { IsFull ⟦<BoxedOp as Op>⟧.opcode ops.now }
     ensures outcome { IfOk result (λ outcome. outcome ≡ outcome_on ledger.old call.now header.now) }
     ensures after { IfOk result (λ _. ledger.new ≡ ledger_after ledger.old call.now header.now) }
     ensures unchanged { IfErr result (λ _. ledger.new ≡ ledger.old) }
@@ -98,14 +95,13 @@ pub fn call_on_counted<L: ledger::Ledger>(
 }
 
 /// Makes a call on a copy of a ledger.
-pub fn call_plain(
+pub fn call_plain<O: Op>(
     alloc: Global,
     ledger: &Ledger,
     call: &Call,
     header: &Header,
-    ops: &OpSet,
+    ops: &FullOps<O>,
 ) -> Result<(Outcome, Ledger), AllocError>
-    requires full { IsFull ⟦<BoxedOp as Op>⟧.opcode ops.now }
     ensures outcome { IfOk result (λ r. r.0 ≡ outcome_on ledger.now call.now header.now) }
     ensures after { IfOk result (λ r. r.1 ≡ ledger_after ledger.now call.now header.now) }
 {
@@ -116,16 +112,15 @@ pub fn call_plain(
 }
 
 /// The run of a call that is supplied with a ledger's items.
-fn run_over<L: ledger::Ledger>(
+fn run_over<L: ledger::Ledger, O: Op>(
     alloc: Global,
     ledger: &Ledger,
     call: &Call,
     header: &Header,
-    ops: &OpSet,
+    ops: &FullOps<O>,
     spare: &mut Option<Spare>,
     executions: &mut Executions<L>,
 ) -> Result<EndedRun, AllocError>
-    requires full { IsFull ⟦<BoxedOp as Op>⟧.opcode ops.now }
     ensures result { IfOk result (λ closed. (closed.outcome, closed.writes) ≡ result_over (at ledger.now) (call_result call.now header.now)) }
     ensures executes { IfOk result (λ closed. CallExecutes ledger.now call.now header.now closed.outcome executions.old executions.new) }
     ensures few { IfErr result (λ _. ExecutesAtMost most_program_bytes (most_items + 1) executions.old executions.new) }

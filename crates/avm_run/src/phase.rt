@@ -5,7 +5,6 @@ ghost use Rattle.std.specs.Prelude.{◌≡◌, ◌-◌, Ok, Some, IfErr, IfOk, I
 ghost use Rattle.teal_code.specs.Limits.{most_program_bytes};
 ghost use Rattle.avm_call.specs.CallPaths.{outcome_of};
 ghost use Rattle.avm_call.specs.Ends.{has_programs};
-ghost use Rattle.avm_ops.specs.OpSets.{IsFull};
 ghost use Rattle.avm_run.specs.Executions.{ExecutesAtMost};
 ghost use Rattle.avm_run.specs.ExecutedSteps.{GoExecutes, RunExecutes, steps_made};
 ghost use Rattle.avm_run.specs.Progress.{ClosesAs, EndsRun, Follows, GoesTo, IsSupplied, RunsTo, TestsTo, reads_of, steps_of};
@@ -14,11 +13,12 @@ ghost use Rattle.avm_run.specs.Standing.{BeginsRun};
 use crate::admission::{AdmissionStop, Admitted, admit};
 use crate::ending::{cleared, end_call};
 use crate::executions::Executions;
+use crate::full_ops::FullOps;
 use crate::running::{Running, Spare, StepsOutcome, make_steps, start_program};
 use avm_call::{Call, Cause, Ended, Outcome};
 use avm_items::{Env, Item, ItemMap, ItemValue};
 use avm_ledger::Header;
-use avm_ops::{BoxedOp, Op, OpSet};
+use avm_ops::Op;
 use std::alloc::{AllocError, Global};
 use std::mem;
 use std::sync::ledger::Ledger;
@@ -111,16 +111,15 @@ fn keeps_programs(value: &ItemValue)
 
 /// Runs on to the end of the call, or to an item that was not supplied. A program begins in the spare box, where there is
 /// one, and leaves its own there at its end.
-pub(crate) fn run_on<L: Ledger>(
+pub(crate) fn run_on<L: Ledger, O: Op>(
     alloc: Global,
-    ops: &OpSet,
+    ops: &FullOps<O>,
     call: &Call,
     header: &Header,
     phase: Phase,
     spare: &mut Option<Spare>,
     executions: &mut Executions<L>,
 ) -> Result<RunOutcome, AllocError>
-    requires full { IsFull ⟦<BoxedOp as Op>⟧.opcode ops.now }
     requires follows { Follows call.now header.now phase }
     ensures runs { IfOk result (λ ran. RunsTo call.now header.now (reads_of phase) ran) }
     ensures executes { IfOk result (λ ran. RunExecutes call.now header.now (reads_of phase) (steps_of phase) ran executions.old executions.new) }
@@ -139,16 +138,15 @@ pub(crate) fn run_on<L: Ledger>(
 
 /// Makes the next step of the path of the call's program. The first leads to the start of the program. The spare box is used
 /// as by [`run_on`].
-pub(crate) fn step_on<L: Ledger>(
+pub(crate) fn step_on<L: Ledger, O: Op>(
     alloc: Global,
-    ops: &OpSet,
+    ops: &FullOps<O>,
     call: &Call,
     header: &Header,
     phase: Phase,
     spare: &mut Option<Spare>,
     executions: &mut Executions<L>,
 ) -> Result<PathOutcome, AllocError>
-    requires full { IsFull ⟦<BoxedOp as Op>⟧.opcode ops.now }
     requires follows { Follows call.now header.now phase }
     ensures goes { IfOk result (λ went. GoesTo call.now header.now (reads_of phase) (steps_of phase) went) }
     ensures executes { IfOk result (λ went. GoExecutes call.now header.now (reads_of phase) (steps_of phase) went executions.old executions.new) }
@@ -202,15 +200,14 @@ fn run_tests(
 }
 
 /// Makes one step of the program's path.
-fn step_program<L: Ledger>(
+fn step_program<L: Ledger, O: Op>(
     alloc: Global,
-    ops: &OpSet,
+    ops: &FullOps<O>,
     call: &Call,
     header: &Header,
     running: Box<Running>,
     executions: &mut Executions<L>,
 ) -> Result<PathOutcome, AllocError>
-    requires full { IsFull ⟦<BoxedOp as Op>⟧.opcode ops.now }
     requires begun { BeginsRun call.now header.now running.value.env.reads running.value }
     ensures goes { IfOk result (λ went. GoesTo call.now header.now running.value.env.reads (Some running.value.steps) went) }
     ensures executes { IfOk result (λ went. GoExecutes call.now header.now running.value.env.reads (Some running.value.steps) went executions.old executions.new) }
@@ -228,16 +225,15 @@ fn step_program<L: Ledger>(
 }
 
 /// Runs the program on to its end, or to an item that was not supplied.
-fn run_program<L: Ledger>(
+fn run_program<L: Ledger, O: Op>(
     alloc: Global,
-    ops: &OpSet,
+    ops: &FullOps<O>,
     call: &Call,
     header: &Header,
     running: Box<Running>,
     spare: &mut Option<Spare>,
     executions: &mut Executions<L>,
 ) -> Result<RunOutcome, AllocError>
-    requires full { IsFull ⟦<BoxedOp as Op>⟧.opcode ops.now }
     requires begun { BeginsRun call.now header.now running.value.env.reads running.value }
     ensures runs { IfOk result (λ ran. RunsTo call.now header.now running.value.env.reads ran) }
     ensures executes { IfOk result (λ ran. RunExecutes call.now header.now running.value.env.reads (Some running.value.steps) ran executions.old executions.new) }

@@ -2,7 +2,6 @@
 
 ghost use Rattle.std.specs.Prelude.{◌≡◌, ◌-◌, IfErr, IfOk};
 ghost use Rattle.std.specs.Option.{option_copied};
-ghost use Rattle.avm_ops.specs.OpSets.{IsFull};
 ghost use Rattle.avm_ledger.specs.Spellings.{ledger_digest};
 ghost use Rattle.avm_replay.specs.Past.{ledger_until};
 ghost use Rattle.avm_stepper.specs.Opening.{IsBaseRefusal, entry_numbered};
@@ -13,9 +12,9 @@ use crate::stepping::supply_from;
 use avm_block::{Block, Entry};
 use avm_items::Item;
 use avm_ledger::Ledger;
-use avm_ops::{BoxedOp, Op, OpSet};
+use avm_ops::Op;
 use avm_replay::state_at;
-use avm_run::{CallRun, RunFault, Step};
+use avm_run::{CallRun, FullOps, RunFault, Step};
 use std::alloc::{AllocError, Global};
 use teal_value::Failure;
 
@@ -41,14 +40,13 @@ pub fn entry_of(entries: &[Entry], number: usize) -> Option<&Entry>
 }
 
 /// The ledger after the calls of a block before this entry.
-pub(crate) fn ledger_before(
+pub(crate) fn ledger_before<O: Op>(
     alloc: Global,
     base: &Ledger,
     block: &Block,
     entry: &Entry,
-    ops: &OpSet,
+    ops: &FullOps<O>,
 ) -> Result<Ledger, OpenError>
-    requires full { IsFull ⟦<BoxedOp as Op>⟧.opcode ops.now }
     ensures ledger { IfOk result (λ ledger. ledger ≡ ledger_until base.now block.now (entry.now.timestamp - 1)) }
     ensures base { IfOk result (λ _. block.now.base ≡ ledger_digest base.now) }
     ensures refused { IfErr result (IsBaseRefusal base.now block.now) }
@@ -61,8 +59,11 @@ pub(crate) fn ledger_before(
 }
 
 /// Tries the tests before a program, over the items supplied.
-fn try_start(alloc: Global, ops: &OpSet, run: &mut CallRun) -> Result<StartOutcome, AllocError>
-    requires full { IsFull ⟦<BoxedOp as Op>⟧.opcode ops.now }
+fn try_start<O: Op>(
+    alloc: Global,
+    ops: &FullOps<O>,
+    run: &mut CallRun,
+) -> Result<StartOutcome, AllocError>
     requires tests { IsAtTests run.old }
     ensures { IfOk result (λ begun. Begins run.old run.new begun) }
 {
@@ -78,13 +79,12 @@ fn try_start(alloc: Global, ops: &OpSet, run: &mut CallRun) -> Result<StartOutco
 }
 
 /// Leads a run to the start of its program over a ledger; false where no program runs.
-pub(crate) fn start_over(
+pub(crate) fn start_over<O: Op>(
     alloc: Global,
-    ops: &OpSet,
+    ops: &FullOps<O>,
     ledger: &Ledger,
     run: &mut CallRun,
 ) -> Result<bool, AllocError>
-    requires full { IsFull ⟦<BoxedOp as Op>⟧.opcode ops.now }
     requires tests { StartsOver ledger.now run.old run.old }
     ensures { IfOk result (λ runs. BeginsOver ledger.now run.old run.new runs) }
 {

@@ -2,7 +2,6 @@
 
 ghost use Rattle.std.specs.Prelude.{◌≡◌, IfErr, IfOk, None, Some};
 ghost use Rattle.std.specs.Option.{option_copied};
-ghost use Rattle.avm_ops.specs.OpSets.{IsFull};
 ghost use Rattle.avm_stepper.specs.DebugSteps.{StepsTo};
 ghost use Rattle.avm_stepper.specs.Shown.{IsLedgerOf, IsMachineShown, IsProgramShown, IsShown};
 ghost use Rattle.avm_stepper.specs.Opening.{HasProgram, IsDebugRefusal, IsOpened, IsStartRefusal};
@@ -17,8 +16,8 @@ use avm_block::Block;
 use avm_call::Call;
 use avm_items::ItemMap;
 use avm_ledger::{Header, Ledger};
-use avm_ops::{BoxedOp, Op, OpSet};
-use avm_run::CallRun;
+use avm_ops::Op;
+use avm_run::{CallRun, FullOps};
 use std::alloc::{AllocError, Global};
 use std::marker::Model;
 use teal_check::Program;
@@ -54,14 +53,13 @@ impl Stepper {
     /// before it have led to. That ledger is made here, by a replay of those calls over the ledger before the block.
     ///
     /// Entries are numbered from 1, by rising timestamp. How the entries say that their calls ended is not compared.
-    pub fn open_block(
+    pub fn open_block<O: Op>(
         alloc: Global,
         base: &Ledger,
         block: &Block,
         entry: usize,
-        ops: &OpSet,
+        ops: &FullOps<O>,
     ) -> Result<Stepper, OpenError>
-        requires full { IsFull ⟦<BoxedOp as Op>⟧.opcode ops.now }
         ensures opened { IfOk result (λ stepper. IsOpened base.now block.now entry stepper) }
         ensures refused { IfErr result (IsDebugRefusal base.now block.now entry) }
     {
@@ -75,14 +73,13 @@ impl Stepper {
     }
 
     /// A call before the first instruction of its program, over the ledger that it meets.
-    pub fn open(
+    pub fn open<O: Op>(
         alloc: Global,
         ledger: Ledger,
         call: &Call,
         header: &Header,
-        ops: &OpSet,
+        ops: &FullOps<O>,
     ) -> Result<Stepper, OpenError>
-        requires full { IsFull ⟦<BoxedOp as Op>⟧.opcode ops.now }
         ensures started { IfOk result (λ stepper. stepper ≡ Some (record { ledger = ledger; call = call.now; header = header.now; steps = 0; fault = None })) }
         ensures program { IfOk result (λ _. HasProgram ledger call.now) }
         ensures refused { IfErr result (IsStartRefusal ledger call.now) }
@@ -105,8 +102,7 @@ impl Stepper {
 
     /// Carries out the instruction that comes next, over the ledger. One that faults leaves place and stack as they
     /// were, and its fault is shown from then on. It costs what the instruction does.
-    pub fn step(&mut self, alloc: Global, ops: &OpSet) -> Result<(), StepError>
-        requires full { IsFull ⟦<BoxedOp as Op>⟧.opcode ops.now }
+    pub fn step<O: Op>(&mut self, alloc: Global, ops: &FullOps<O>) -> Result<(), StepError>
         ensures { StepsTo self.old self.new result }
     {
         let Some(run) = self.run.take() else {

@@ -1,14 +1,13 @@
 //! One step of a run that is supplied from a ledger.
 
 ghost use Rattle.std.specs.Prelude.{◌≡◌, IfOk};
-ghost use Rattle.avm_ops.specs.OpSets.{IsFull};
 ghost use Rattle.avm_stepper.specs.Stepping.{WasAsked, ComesNextBy, Goes, GoesOnOver, IsBefore, IsLeft, LeadsTo, supplied};
 
 use avm_call::Ended;
 use avm_items::{Item, item_of};
 use avm_ledger::Ledger;
-use avm_ops::{BoxedOp, Op, OpSet};
-use avm_run::{CallRun, RunFault, Step};
+use avm_ops::Op;
+use avm_run::{CallRun, FullOps, RunFault, Step};
 use std::alloc::{AllocError, Global};
 use teal_value::Fault;
 
@@ -44,8 +43,11 @@ fn is_left(run: &CallRun) -> bool
 }
 
 /// Tries the instruction that comes next, over the items supplied.
-fn try_step(alloc: Global, ops: &OpSet, run: &mut CallRun) -> Result<StepOutcome, AllocError>
-    requires full { IsFull ⟦<BoxedOp as Op>⟧.opcode ops.now }
+fn try_step<O: Op>(
+    alloc: Global,
+    ops: &FullOps<O>,
+    run: &mut CallRun,
+) -> Result<StepOutcome, AllocError>
     requires before { IsBefore run.old }
     ensures { IfOk result (λ outcome. Goes run.old run.new outcome) }
 {
@@ -78,13 +80,12 @@ pub(crate) fn supply_from(ledger: &Ledger, run: &mut CallRun, item: Item) -> Res
 
 /// Makes the step of the instruction that comes next, over a ledger, or answers its fault. Each item that it asks for
 /// is looked up once.
-pub(crate) fn step_over(
+pub(crate) fn step_over<O: Op>(
     alloc: Global,
-    ops: &OpSet,
+    ops: &FullOps<O>,
     ledger: &Ledger,
     run: &mut CallRun,
 ) -> Result<Option<Fault>, AllocError>
-    requires full { IsFull ⟦<BoxedOp as Op>⟧.opcode ops.now }
     requires stands { GoesOnOver ledger.now run.old run.old }
     ensures { IfOk result (λ fault. LeadsTo ledger.now run.old run.new fault) }
 {

@@ -1,12 +1,12 @@
 //! Lists of events, run over a store and replayed.
-ghost use Rattle.avm_ops.specs.OpSets.{IsFull};
 
 use crate::data::stand_once;
 use avm_block::Block;
 use avm_call::Call;
 use avm_ledger::Ledger;
-use avm_ops::{BoxedOp, Op, OpSet};
+use avm_ops::Op;
 use avm_replay::{Verdict, replay, state_at};
+use avm_run::FullOps;
 use mv_core::{Event, Store, World, run_events};
 use mv_parts::Sealed;
 use sample_calls::calls::HEADER;
@@ -15,15 +15,13 @@ use std::sync::Arc;
 use std::test::Fail;
 
 /// The world that events lead to, from a ledger and with calls.
-pub fn world_after(
+pub fn world_after<O: Op>(
     alloc: Global,
-    ops: &OpSet,
+    ops: &FullOps<O>,
     base: &Ledger,
     calls: &Arc<Vec<Call>>,
     events: &[Event],
-) -> Result<World, Fail>
-    requires full { IsFull ⟦<BoxedOp as Op>⟧.opcode ops.now }
-{
+) -> Result<World, Fail> {
     // That a store is opened says that there are few calls, each of the header's profile.
     match Store::open(alloc, base.clone()?, HEADER, Arc::try_clone(calls)?) {
         Ok(_store) => Ok(run_events(
@@ -47,15 +45,13 @@ fn digest_at(alloc: Global, store: &Store, timestamp: u64) -> Result<[u8; 32], F
 }
 
 /// The digest of the ledger of a timestamp, by the replayer.
-fn replayed_at(
+fn replayed_at<O: Op>(
     alloc: Global,
-    ops: &OpSet,
+    ops: &FullOps<O>,
     base: &Ledger,
     block: &Block,
     timestamp: u64,
-) -> Result<[u8; 32], Fail>
-    requires full { IsFull ⟦<BoxedOp as Op>⟧.opcode ops.now }
-{
+) -> Result<[u8; 32], Fail> {
     match state_at(alloc, base, block, timestamp, ops) {
         Ok(ledger) => Ok(ledger.digest(alloc)?),
         Err(_) => Err("a block stands over its base".into()),
@@ -63,15 +59,13 @@ fn replayed_at(
 }
 
 /// Whether a block replays over a ledger, to a ledger of this digest.
-fn leads_to(
+fn leads_to<O: Op>(
     alloc: Global,
-    ops: &OpSet,
+    ops: &FullOps<O>,
     base: &Ledger,
     block: &Block,
     digest: &[u8; 32],
-) -> Result<bool, Fail>
-    requires full { IsFull ⟦<BoxedOp as Op>⟧.opcode ops.now }
-{
+) -> Result<bool, Fail> {
     match replay(alloc, base, block, ops)? {
         Verdict::Agrees(after) => Ok(after.digest(alloc)? == *digest),
         _ => Ok(false),
@@ -108,16 +102,14 @@ fn past_of(alloc: Global, store: &mut Store, behind: u64) -> Result<Past, Fail> 
 }
 
 /// Where a sealed block and what its store said differ from the replay, if they do.
-fn difference(
+fn difference<O: Op>(
     alloc: Global,
-    ops: &OpSet,
+    ops: &FullOps<O>,
     base: &Ledger,
     sealed: &Sealed,
     past: &Past,
     calls: usize,
-) -> Result<Option<&'static str>, Fail>
-    requires full { IsFull ⟦<BoxedOp as Op>⟧.opcode ops.now }
-{
+) -> Result<Option<&'static str>, Fail> {
     if !stand_once(alloc, sealed.numbers.as_slice(), calls)? {
         return Ok(Some("a call is committed twice"));
     }
@@ -141,16 +133,14 @@ pub struct Replayed {
 /// The block of a store in which nothing is live, if it is as the replayer has it: it replays, to the ledger that the
 /// store has at its clock; the ledgers of a timestamp are the same, so far behind the low mark; and the number of each
 /// committed call stands once, and is at most the count of calls.
-pub fn replay_store(
+pub fn replay_store<O: Op>(
     alloc: Global,
-    ops: &OpSet,
+    ops: &FullOps<O>,
     base: &Ledger,
     store: Store,
     calls: usize,
     behind: u64,
-) -> Result<Replayed, Fail>
-    requires full { IsFull ⟦<BoxedOp as Op>⟧.opcode ops.now }
-{
+) -> Result<Replayed, Fail> {
     let mut store = store;
     let past = past_of(alloc, &mut store, behind)?;
     match store.seal(alloc) {

@@ -5,7 +5,7 @@ use crate::data::{BASE, CALLS, calls_of, ledger_of, programs};
 use crate::proposing::wrong;
 use crate::random::Random;
 use crate::random_blocks::run_block;
-use crate::sets::full_ops;
+use crate::sets::filled_ops;
 use std::alloc::Global;
 use std::ops::Range;
 use std::process::Abort;
@@ -19,13 +19,19 @@ const BLOCKS: u64 = 1000;
 #[test]
 fn cases(rt: HostRuntime) -> Result<(), Fail> {
     let alloc = rt.alloc();
-    let own = full_ops(alloc)?;
     for case in &CASES {
         let mut sets = Vec::new(alloc);
         for _ in 0..case.workers {
-            sets.push(full_ops(alloc)?)?;
+            sets.push(filled_ops(alloc)?)?;
         }
-        match wrong(&rt, alloc, case, sets, &own)? {
+        match wrong(
+            &rt,
+            alloc,
+            case,
+            sets,
+            filled_ops(alloc)?,
+            filled_ops(alloc)?,
+        )? {
             None => {}
             Some(wrong) => assert!(rt; false, "{}: {wrong}", case.name),
         }
@@ -39,7 +45,6 @@ fn run_blocks<R: Threads + Wait + Sync + Abort>(
     alloc: Global,
     seeds: Range<u64>,
 ) -> Result<(), Fail> {
-    let own = full_ops(alloc)?;
     let programs = programs(alloc)?;
     let base = ledger_of(alloc, &programs, BASE)?;
     let all = calls_of(alloc, &programs, &CALLS, 1)?;
@@ -47,9 +52,10 @@ fn run_blocks<R: Threads + Wait + Sync + Abort>(
         let mut random = Random::new(seed);
         let mut sets = Vec::new(alloc);
         for _ in 0..2 + random.below(7) {
-            sets.push(full_ops(alloc)?)?;
+            sets.push(filled_ops(alloc)?)?;
         }
-        let run = run_block(rt, alloc, &base, &all, &mut random, sets, &own);
+        let (own, other) = (filled_ops(alloc)?, filled_ops(alloc)?);
+        let run = run_block(rt, alloc, &base, &all, &mut random, sets, own, other);
         assert!(rt; run.is_ok(), "block {seed}");
         run?;
     }

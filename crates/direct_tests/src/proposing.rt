@@ -1,17 +1,18 @@
 //! Whether calls are proposed as a case says.
 
 ghost use Rattle.std.specs.Prelude.{◌≡◌};
-ghost use Rattle.avm_ops.specs.OpSets.{IsFull};
 
 use crate::cases::Case;
 use crate::data::{bytes_of, calls_of, ledger_of, programs, stand_once};
 use crate::script::Script;
+use crate::sets::full_ops;
 use avm_block::{Block, encode};
 use avm_call::Call;
 use avm_ledger::{Header, Ledger};
-use avm_ops::{BoxedOp, Op, OpSet};
+use avm_ops::{Op, Ops};
 use avm_pool::{Gate, Proposal, propose};
 use avm_replay::{Verdict, replay};
+use avm_run::FullOps;
 use sample_calls::calls::HEADER;
 use sample_calls::programs::Programs;
 use std::alloc::Global;
@@ -20,14 +21,14 @@ use std::test::Fail;
 use std::thread::Threads;
 
 /// Calls that are proposed whole: none is left, and the number of each stands once.
-pub fn proposed<G: Gate, R: Threads + Wait + Sync>(
+pub fn proposed<G: Gate, R: Threads + Wait + Sync, O: Op>(
     rt: &R,
     alloc: Global,
     base: &Ledger,
     header: &Header,
     calls: Vec<Call>,
-    sets: Vec<OpSet>,
-    own: &OpSet,
+    sets: Vec<Ops<O>>,
+    own: Ops<O>,
     gate: &G,
 ) -> Result<Block, Fail> {
     let count = calls.len();
@@ -37,6 +38,7 @@ pub fn proposed<G: Gate, R: Threads + Wait + Sync>(
                 block,
                 numbers,
                 left,
+                ..
             } = proposal;
             if !left.is_empty() {
                 return Err("a call is left".into());
@@ -52,9 +54,12 @@ pub fn proposed<G: Gate, R: Threads + Wait + Sync>(
 }
 
 /// The bytes of the ledger after a block, where it replays.
-pub fn replayed(alloc: Global, base: &Ledger, block: &Block, ops: &OpSet) -> Result<Vec<u8>, Fail>
-    requires full { IsFull ⟦<BoxedOp as Op>⟧.opcode ops.now }
-{
+pub fn replayed<O: Op>(
+    alloc: Global,
+    base: &Ledger,
+    block: &Block,
+    ops: &FullOps<O>,
+) -> Result<Vec<u8>, Fail> {
     match replay(alloc, base, block, ops)? {
         Verdict::Agrees(after) => Ok(after.canonical(alloc)?),
         _ => Err("the block replays".into()),
@@ -82,16 +87,15 @@ fn has_bytes(alloc: Global, block: &Block, digits: &str) -> Result<bool, Fail> {
     )
 }
 
-/// What differs from the case, if something does.
-pub fn wrong<R: Threads + Wait + Sync>(
+/// What differs from the case, if something does. The block is replayed with another set.
+pub fn wrong<R: Threads + Wait + Sync, O: Op>(
     rt: &R,
     alloc: Global,
     case: &Case,
-    sets: Vec<OpSet>,
-    own: &OpSet,
-) -> Result<Option<&'static str>, Fail>
-    requires full { IsFull ⟦<BoxedOp as Op>⟧.opcode own.now }
-{
+    sets: Vec<Ops<O>>,
+    own: Ops<O>,
+    other: Ops<O>,
+) -> Result<Option<&'static str>, Fail> {
     let programs = programs(alloc)?;
     let base = ledger_of(alloc, &programs, case.base)?;
     let header = Header {
@@ -113,7 +117,7 @@ pub fn wrong<R: Threads + Wait + Sync>(
     if !has_bytes(alloc, &block, case.block)? {
         return Ok(Some("the block's bytes"));
     }
-    let after = replayed(alloc, &base, &block, own)?;
+    let after = replayed(alloc, &base, &block, &full_ops(other)?)?;
     if !is_one_of(alloc, &programs, after.as_slice(), &case.after)? {
         return Ok(Some("the ledger after"));
     }

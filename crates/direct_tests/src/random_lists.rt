@@ -1,14 +1,14 @@
 //! Random lists of events over a store, each of whose blocks is replayed.
-ghost use Rattle.avm_ops.specs.OpSets.{IsFull};
 
 use crate::data::{BASE, CALLS as ROWS, calls_of, ledger_of, programs, some_calls};
 use crate::lists::{Replayed, replay_store, world_after};
 use crate::outcomes::{NOTHING, Tally, count, is_ample};
 use crate::random::Random;
-use crate::sets::full_ops;
+use crate::sets::{filled_ops, full_ops};
 use avm_call::Call;
 use avm_ledger::Ledger;
-use avm_ops::{BoxedOp, Op, OpSet};
+use avm_ops::{Op, Ops};
+use avm_run::FullOps;
 use mv_core::{Event, Worker};
 use std::alloc::{AllocError, Global};
 use std::sync::Arc;
@@ -83,44 +83,38 @@ fn ended(workers: &[Worker]) -> u64 {
 }
 
 /// How many calls are late, where each worker has tried to commit behind these events.
-fn late_calls(
+fn late_calls<O: Op>(
     alloc: Global,
-    ops: &OpSet,
+    ops: &FullOps<O>,
     base: &Ledger,
     calls: &Arc<Vec<Call>>,
     events: &[Event],
-) -> Result<u64, Fail>
-    requires full { IsFull ⟦<BoxedOp as Op>⟧.opcode ops.now }
-{
+) -> Result<u64, Fail> {
     Ok(ended(&world_after(alloc, ops, base, calls, events)?.workers))
 }
 
 /// The replayed block of these events, behind which nothing is live.
-fn replayed_list(
+fn replayed_list<O: Op>(
     alloc: Global,
-    ops: &OpSet,
+    ops: &FullOps<O>,
     base: &Ledger,
     calls: &Arc<Vec<Call>>,
     events: &[Event],
     behind: u64,
-) -> Result<Replayed, Fail>
-    requires full { IsFull ⟦<BoxedOp as Op>⟧.opcode ops.now }
-{
+) -> Result<Replayed, Fail> {
     let store = world_after(alloc, ops, base, calls, events)?.store;
     replay_store(alloc, ops, base, store, calls.len(), behind)
 }
 
 /// One list: what came is added to the tally.
-fn run_list(
+fn run_list<O: Op>(
     alloc: Global,
-    ops: &OpSet,
+    ops: &FullOps<O>,
     base: &Ledger,
     all: &[Call],
     seed: u64,
     tally: &mut Tally,
-) -> Result<(), Fail>
-    requires full { IsFull ⟦<BoxedOp as Op>⟧.opcode ops.now }
-{
+) -> Result<(), Fail> {
     let mut random = Random::new(seed);
     let calls = Arc::new(alloc, some_calls(alloc, &mut random, all, CALLS)?)?;
     let mut events = some_events(alloc, &mut random)?;
@@ -132,14 +126,13 @@ fn run_list(
 }
 
 /// So many lists, each of its number as seed.
-fn run_lists(alloc: Global, ops: &OpSet, lists: u64, tally: &mut Tally) -> Result<(), Fail>
-    requires full { IsFull ⟦<BoxedOp as Op>⟧.opcode ops.now }
-{
+fn run_lists<O: Op>(alloc: Global, ops: Ops<O>, lists: u64, tally: &mut Tally) -> Result<(), Fail> {
+    let ops = full_ops(ops)?;
     let programs = programs(alloc)?;
     let base = ledger_of(alloc, &programs, BASE)?;
     let all = calls_of(alloc, &programs, &ROWS, 1)?;
     for seed in 0..lists {
-        run_list(alloc, ops, &base, &all, seed, tally)?;
+        run_list(alloc, &ops, &base, &all, seed, tally)?;
     }
     Ok(())
 }
@@ -150,9 +143,9 @@ const LISTS: u64 = 2000;
 #[test]
 fn random_lists(rt: HostRuntime) -> Result<(), Fail> {
     let alloc = rt.alloc();
-    let ops = full_ops(alloc)?;
+    let ops = filled_ops(alloc)?;
     let mut tally = NOTHING;
-    let run = run_lists(alloc, &ops, LISTS, &mut tally);
+    let run = run_lists(alloc, ops, LISTS, &mut tally);
     assert!(rt; run.is_ok(), "behind {} lists", tally.lists);
     assert!(rt; is_ample(&tally, 100, 400, 2000, 1000), "{tally:?}");
     run

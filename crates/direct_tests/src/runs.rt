@@ -1,13 +1,11 @@
 //! Runs of calls that are supplied by hand.
 
-ghost use Rattle.avm_ops.specs.OpSets.{IsFull};
-
 use crate::data::{ledger_of, programs};
-use crate::sets::full_ops;
+use crate::sets::filled_ops;
 use avm_call::Outcome;
 use avm_items::{Item, ItemValue, item_of};
-use avm_ops::{BoxedOp, Op, OpSet};
-use avm_run::{Advance, CallRun, RunFault, Step};
+use avm_ops::{Op, Ops};
+use avm_run::{Advance, CallRun, FullOps, RunFault, Step};
 use sample_calls::calls::{HEADER, call};
 use sample_calls::programs::Programs;
 use std::alloc::Global;
@@ -23,9 +21,7 @@ fn run_of(alloc: Global, programs: &Programs, words: &[&str]) -> Result<CallRun,
 }
 
 /// Whether a run asks for this item.
-fn asks_for(alloc: Global, ops: &OpSet, run: &mut CallRun, wanted: &Item) -> bool
-    requires full { IsFull ⟦<BoxedOp as Op>⟧.opcode ops.now }
-{
+fn asks_for<O: Op>(alloc: Global, ops: &FullOps<O>, run: &mut CallRun, wanted: &Item) -> bool {
     match run.advance(alloc, ops) {
         Ok(Advance::Need(item)) => item == *wanted,
         Ok(Advance::Done(_finished)) => false,
@@ -34,13 +30,11 @@ fn asks_for(alloc: Global, ops: &OpSet, run: &mut CallRun, wanted: &Item) -> boo
 }
 
 /// The outcome of a run with how many items it read and wrote, or why it gives none.
-fn end_of_run(
+fn end_of_run<O: Op>(
     alloc: Global,
-    ops: &OpSet,
+    ops: &FullOps<O>,
     run: &mut CallRun,
-) -> Result<(Outcome, usize, usize), RunFault>
-    requires full { IsFull ⟦<BoxedOp as Op>⟧.opcode ops.now }
-{
+) -> Result<(Outcome, usize, usize), RunFault> {
     match run.advance(alloc, ops) {
         Ok(Advance::Done(finished)) => Ok((
             finished.outcome(),
@@ -53,9 +47,10 @@ fn end_of_run(
 }
 
 /// Whether a run takes no item that it did not ask for, asks for one until it is supplied, then ends, and is spent.
-fn asks_once(alloc: Global, ops: &OpSet, run: &mut CallRun, row: ItemValue) -> bool
-    requires full { IsFull ⟦<BoxedOp as Op>⟧.opcode ops.now }
-{
+fn asks_once<O: Op>(alloc: Global, ops: Ops<O>, run: &mut CallRun, row: ItemValue) -> bool {
+    let Ok(ops) = &FullOps::of(ops) else {
+        return false;
+    };
     run.supply(Item::App(2), ItemValue::Absent) == Err(RunFault::NotAsked)
         && asks_for(alloc, ops, run, &Item::App(1))
         && asks_for(alloc, ops, run, &Item::App(1))
@@ -72,7 +67,7 @@ fn a_run_asks_once(rt: HostRuntime) -> Result<(), Fail> {
     let ledger = ledger_of(alloc, &programs, APPROVING)?;
     let row = item_of(&ledger, &Item::App(1))?;
     let mut run = run_of(alloc, &programs, &["1"])?;
-    assert!(rt; asks_once(alloc, &full_ops(alloc)?, &mut run, row));
+    assert!(rt; asks_once(alloc, filled_ops(alloc)?, &mut run, row));
     Ok(())
 }
 
@@ -85,25 +80,22 @@ fn known_next_id(run: &CallRun) -> Option<u64> {
 }
 
 /// Whether a step of a run asks for the next id, and takes 7.
-fn takes_7(alloc: Global, ops: &OpSet, run: &mut CallRun) -> bool
-    requires full { IsFull ⟦<BoxedOp as Op>⟧.opcode ops.now }
-{
+fn takes_7<O: Op>(alloc: Global, ops: &FullOps<O>, run: &mut CallRun) -> bool {
     let asks = matches!(run.step_one(alloc, ops), Ok(Step::Need(Item::NextApp)));
     asks && run.supply(Item::NextApp, ItemValue::NextApp(7)) == Ok(())
 }
 
 /// Whether a step of a run moves on.
-fn moves(alloc: Global, ops: &OpSet, run: &mut CallRun) -> bool
-    requires full { IsFull ⟦<BoxedOp as Op>⟧.opcode ops.now }
-{
+fn moves<O: Op>(alloc: Global, ops: &FullOps<O>, run: &mut CallRun) -> bool {
     matches!(run.step_one(alloc, ops), Ok(Step::Moved))
 }
 
 /// Whether a run that makes an application knows nothing before its program, then the next id by its own write, and not as
 /// it was supplied, and of an application that it did not ask for nothing; and at its end, when it is spent, nothing.
-fn knows_its_write(alloc: Global, ops: &OpSet, run: &mut CallRun) -> bool
-    requires full { IsFull ⟦<BoxedOp as Op>⟧.opcode ops.now }
-{
+fn knows_its_write<O: Op>(alloc: Global, ops: Ops<O>, run: &mut CallRun) -> bool {
+    let Ok(ops) = &FullOps::of(ops) else {
+        return false;
+    };
     takes_7(alloc, ops, run)
         && known_next_id(run) == None
         && moves(alloc, ops, run)
@@ -121,6 +113,6 @@ fn a_run_knows_what_it_wrote(rt: HostRuntime) -> Result<(), Fail> {
         &programs(alloc)?,
         &["0", "NoOp", "approves", "approves"],
     )?;
-    assert!(rt; knows_its_write(alloc, &full_ops(alloc)?, &mut run));
+    assert!(rt; knows_its_write(alloc, filled_ops(alloc)?, &mut run));
     Ok(())
 }

@@ -1,20 +1,20 @@
 //! Sets with an object of every opcode.
 
-ghost use Rattle.std.specs.Prelude.{IfOk};
-ghost use Rattle.avm_ops.specs.OpSets.{IsFull};
-
 use avm_objects::filled_set;
-use avm_ops::{BoxedOp, Op, OpSet};
+use avm_ops::{Op, OpSet, Ops};
+use avm_run::FullOps;
 use std::alloc::Global;
 use std::test::Fail;
 
-/// A set with an object of every opcode.
-pub fn full_ops(alloc: Global) -> Result<OpSet, Fail>
-    ensures full { IfOk result (λ ops. IsFull ⟦<BoxedOp as Op>⟧.opcode ops) }
-{
-    let ops = filled_set!(alloc, Err("memory is refused".into()));
-    if ops.missing().is_some() {
-        return Err("an opcode has no object".into());
+/// A set that is filled as the programs fill theirs.
+pub fn filled_ops(alloc: Global) -> Result<OpSet, Fail> {
+    Ok(filled_set!(alloc, Err("memory is refused".into())))
+}
+
+/// A set as a full one.
+pub fn full_ops<O: Op>(set: Ops<O>) -> Result<FullOps<O>, Fail> {
+    match FullOps::of(set) {
+        Ok(full) => Ok(full),
+        Err(_lacking) => Err("an opcode has no object".into()),
     }
-    Ok(ops)
 }

@@ -1,7 +1,6 @@
 //! What `trace` answers.
 
 ghost use Rattle.std.specs.Prelude.{◌≡◌, IfOk, Ok, Err};
-ghost use Rattle.avm_ops.specs.OpSets.{IsFull};
 ghost use Rattle.avm_input.specs.Shown.{reply_shown};
 ghost use Rattle.json_traces.specs.TraceReplies.{IsFoundReply, IsTraceReply, trace_reply};
 
@@ -10,19 +9,19 @@ use crate::trace::trace_found;
 use avm_block::Block;
 use avm_input::{DONE, REFUSED, Refusal, Reply, ledger_and_block, refusal_reply};
 use avm_ledger::Ledger;
-use avm_ops::{BoxedOp, Op, OpSet};
+use avm_ops::Op;
+use avm_run::FullOps;
 use std::alloc::{AllocError, Global};
 use teal_value::Failure;
 
 /// What `trace` answers to its input, the ledger before a block and the block: the trace of an entry's call, or why there is
 /// none. Entries are numbered from 1.
-pub fn trace_reply(
+pub fn trace_reply<O: Op>(
     alloc: Global,
     entry: u64,
     input: &[u8],
-    ops: &OpSet,
+    ops: &FullOps<O>,
 ) -> Result<Reply, AllocError>
-    requires full { IsFull ⟦<BoxedOp as Op>⟧.opcode ops.now }
     ensures { IfOk result (λ reply. IsTraceReply entry input.now (reply_shown reply)) }
 {
     match ledger_and_block(alloc, input) {
@@ -31,14 +30,13 @@ pub fn trace_reply(
     }
 }
 
-fn found_reply(
+fn found_reply<O: Op>(
     alloc: Global,
     ledger: &Ledger,
     block: &Block,
     entry: usize,
-    ops: &OpSet,
+    ops: &FullOps<O>,
 ) -> Result<Reply, AllocError>
-    requires full { IsFull ⟦<BoxedOp as Op>⟧.opcode ops.now }
     ensures { IfOk result (λ reply. IsFoundReply entry (Ok (ledger.now, block.now)) (reply_shown reply)) }
 {
     match trace_found(alloc, ledger, block, entry, ops) {

@@ -1,7 +1,6 @@
 //! The states of a call's program, from before its first instruction to the fault or the end.
 
 ghost use Rattle.std.specs.Prelude.{◌≡◌, IfErr, IfOk, OnOk};
-ghost use Rattle.avm_ops.specs.OpSets.{IsFull};
 ghost use Rattle.teal_dis.specs.Shown.{AreLineNumbers};
 ghost use Rattle.avm_stepper.specs.Shown.{next_seen};
 ghost use Rattle.json_traces.specs.StateRuns.{AddsStates, IsAtStart, IsStatesFailure, WritesState, is_instruction};
@@ -9,7 +8,8 @@ ghost use Rattle.json_traces.specs.StateRuns.{AddsStates, IsAtStart, IsStatesFai
 use crate::machine::put_state;
 use crate::refusal::TraceRefusal;
 use crate::weight::weight_of;
-use avm_ops::{BoxedOp, Op, OpSet};
+use avm_ops::Op;
+use avm_run::FullOps;
 use avm_stepper::{Next, Stepper};
 use json::Pretty;
 use json_views::writing::{begin_array, end_array};
@@ -33,15 +33,14 @@ struct StateWritten {
 }
 
 /// Writes all states of a call's program, and leaves the stepper in the last one. It costs what the machine holds in each.
-pub(crate) fn put_states(
+pub(crate) fn put_states<O: Op>(
     alloc: Global,
     out: &mut Pretty,
     program: &Program,
     lines: &[u16],
     stepper: &mut Stepper,
-    ops: &OpSet,
+    ops: &FullOps<O>,
 ) -> Result<(), Failure<TraceRefusal>>
-    requires full { IsFull ⟦<BoxedOp as Op>⟧.opcode ops.now }
     requires lines { AreLineNumbers program.now.placed lines.now }
     requires start { IsAtStart stepper.old }
     ensures written { OnOk result (AddsStates program.now stepper.old stepper.new out.old out.new) }

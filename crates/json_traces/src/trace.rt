@@ -2,7 +2,6 @@
 
 ghost use Rattle.std.specs.Prelude.{◌≡◌, ◌∷◌, [], IfErr, IfOk, OnOk, string_bytes};
 ghost use Rattle.json.specs.Tree.{json_tokens};
-ghost use Rattle.avm_ops.specs.OpSets.{IsFull};
 ghost use Rattle.avm_stepper.specs.Opening.{IsOpened};
 ghost use Rattle.avm_input.specs.Outcomes.{outcome_text};
 ghost use Rattle.json_views.specs.Documents.{member_tokens, text};
@@ -19,8 +18,8 @@ use avm_call::Outcome;
 use avm_input::outcome_text;
 use avm_items::Completion;
 use avm_ledger::{Header, Ledger};
-use avm_ops::{BoxedOp, Op, OpSet};
-use avm_run::call_plain;
+use avm_ops::Op;
+use avm_run::{FullOps, call_plain};
 use avm_stepper::{Stepper, entry_of};
 use json::Pretty;
 use json_views::writing::{
@@ -34,14 +33,13 @@ use teal_value::Failure;
 
 /// The text of the trace of a block's entry over the ledger before the block, or why there is none. Entries are numbered
 /// from 1.
-pub(crate) fn trace_found(
+pub(crate) fn trace_found<O: Op>(
     alloc: Global,
     ledger: &Ledger,
     block: &Block,
     number: usize,
-    ops: &OpSet,
+    ops: &FullOps<O>,
 ) -> Result<String, Failure<TraceRefusal>>
-    requires full { IsFull ⟦<BoxedOp as Op>⟧.opcode ops.now }
     ensures found { IfOk result (λ text. FindsText (ledger.now, block.now) number (string_bytes text)) }
     ensures refused { IfErr result (IsTraceRefused ledger.now block.now number) }
 {
@@ -57,14 +55,13 @@ pub(crate) fn trace_found(
 }
 
 /// The call of an entry, before the first instruction of its program.
-fn opened(
+fn opened<O: Op>(
     alloc: Global,
     ledger: &Ledger,
     block: &Block,
     number: usize,
-    ops: &OpSet,
+    ops: &FullOps<O>,
 ) -> Result<Stepper, Failure<TraceRefusal>>
-    requires full { IsFull ⟦<BoxedOp as Op>⟧.opcode ops.now }
     ensures opened { IfOk result (λ stepper. IsOpened ledger.now block.now number stepper) }
     ensures refused { IfErr result (IsTraceRefused ledger.now block.now number) }
 {
@@ -76,14 +73,13 @@ fn opened(
 }
 
 /// The text of the trace of an entry's call, from before its first instruction.
-fn trace_text(
+fn trace_text<O: Op>(
     alloc: Global,
     stepper: &mut Stepper,
     entry: &Entry,
     header: &Header,
-    ops: &OpSet,
+    ops: &FullOps<O>,
 ) -> Result<String, Failure<TraceRefusal>>
-    requires full { IsFull ⟦<BoxedOp as Op>⟧.opcode ops.now }
     requires start { IsStartOf stepper.old entry.now.call header.now }
     ensures text { IfOk result (λ text. IsTraceText stepper.old entry.now.outcome (string_bytes text)) }
     ensures refused { IfErr result (IsTraceFailure stepper.old entry.now.outcome) }
@@ -131,13 +127,12 @@ fn verdict_word(outcome: Outcome) -> &'static str
 }
 
 /// The states of the program, and its listing.
-fn put_run(
+fn put_run<O: Op>(
     alloc: Global,
     out: &mut Pretty,
     stepper: &mut Stepper,
-    ops: &OpSet,
+    ops: &FullOps<O>,
 ) -> Result<(), Failure<TraceRefusal>>
-    requires full { IsFull ⟦<BoxedOp as Op>⟧.opcode ops.now }
     requires start { IsAtStart stepper.old }
     ensures written { OnOk result (AddsRun stepper.old stepper.new out.old out.new) }
     ensures refused { IfErr result (IsStatesFailure stepper.old) }

@@ -2,7 +2,6 @@
 
 ghost use Rattle.std.specs.Prelude.{◌≡◌, [], None, Some, IfOk, OnOk, replicate};
 ghost use Rattle.std.specs.Arc.{arc_value};
-ghost use Rattle.avm_ops.specs.OpSets.{IsFull};
 ghost use Rattle.mv_parts.specs.Opening.{open_fault};
 ghost use Rattle.mv_core.specs.declared.world.Worker.TheVariants.{Idle};
 ghost use Rattle.mv_core.specs.Worlds.{AreLiveIn, AreSound, IsRun, IsRunTo, IsStep, input_of};
@@ -14,7 +13,8 @@ use crate::store::Store;
 use crate::world::{Worker, World};
 use avm_call::Call;
 use avm_ledger::{Header, Ledger};
-use avm_ops::{BoxedOp, Op, OpSet};
+use avm_ops::Op;
+use avm_run::FullOps;
 use std::alloc::{AllocError, Global};
 use std::mem;
 use std::sync::Arc;
@@ -25,15 +25,14 @@ const WORKER_COUNT: usize = 8;
 
 /// The store and its eight workers after these events, one after another: an event that does not apply where it comes
 /// changes nothing.
-pub fn run_events(
+pub fn run_events<O: Op>(
     alloc: Global,
     base: Ledger,
     header: Header,
     calls: Arc<Vec<Call>>,
-    ops: &OpSet,
+    ops: &FullOps<O>,
     events: &[Event],
 ) -> Result<World, AllocError>
-    requires full { IsFull ⟦<BoxedOp as Op>⟧.opcode ops.now }
     requires opens { open_fault header (arc_value calls).items ≡ None }
     ensures { IfOk result (λ world. IsRun (record { base = base; header = header; calls = (arc_value calls).items }) events.now world) }
 {
@@ -50,14 +49,13 @@ pub fn run_events(
 }
 
 /// All events, from a store in which nothing has begun and idle workers.
-fn run_on(
+fn run_on<O: Op>(
     alloc: Global,
-    ops: &OpSet,
+    ops: &FullOps<O>,
     store: &mut Store,
     workers: &mut Vec<Worker>,
     events: &[Event],
 ) -> Result<(), AllocError>
-    requires full { IsFull ⟦<BoxedOp as Op>⟧.opcode ops.now }
     requires first { IsRunTo (input_of store.old) [] store.old workers.old.items }
     ensures { OnOk result (IsRunTo (input_of store.old) events.now store.new workers.new.items) }
 {
@@ -79,14 +77,13 @@ fn idle_workers(alloc: Global) -> Result<Vec<Worker>, AllocError>
 }
 
 /// One event.
-fn step(
+fn step<O: Op>(
     alloc: Global,
-    ops: &OpSet,
+    ops: &FullOps<O>,
     store: &mut Store,
     workers: &mut Vec<Worker>,
     event: Event,
 ) -> Result<(), AllocError>
-    requires full { IsFull ⟦<BoxedOp as Op>⟧.opcode ops.now }
     requires sound { AreSound (input_of store.old) workers.old.items }
     requires live { AreLiveIn store.old workers.old.items }
     ensures { OnOk result (IsStep event store.old store.new workers.old.items workers.new.items) }
@@ -104,15 +101,14 @@ fn step(
 }
 
 /// A worker's event. There is no worker beyond the last.
-fn act(
+fn act<O: Op>(
     alloc: Global,
-    ops: &OpSet,
+    ops: &FullOps<O>,
     store: &mut Store,
     workers: &mut Vec<Worker>,
     number: u8,
     event: Event,
 ) -> Result<(), AllocError>
-    requires full { IsFull ⟦<BoxedOp as Op>⟧.opcode ops.now }
     requires sound { AreSound (input_of store.old) workers.old.items }
     requires live { AreLiveIn store.old workers.old.items }
     requires own { worker_in event ≡ Some number }

@@ -1,7 +1,6 @@
 //! What a worker's event makes of its attempt and of the store.
 
 ghost use Rattle.std.specs.Prelude.{◌≡◌, Some, IfOk, IsSome};
-ghost use Rattle.avm_ops.specs.OpSets.{IsFull};
 ghost use Rattle.mv_core.specs.Worlds.{TicketAsksFor, TicketHasEnded, IsLiveWith, IsSoundWorker, attempt_by, attempt_of, input_of, reads_or_none};
 ghost use Rattle.mv_core.specs.WorkerSteps.{IsAbandonBy, IsAdvanced, IsBegun, IsBegunBy, IsCommit, IsCommitBy, IsGoing, IsLiveIfAny, IsReadByStore, IsReadBy, IsWork, worker_in};
 
@@ -11,20 +10,19 @@ use crate::store::Store;
 use crate::ticket::Ticket;
 use crate::world::Worker;
 use avm_items::Item;
-use avm_ops::{BoxedOp, Op, OpSet};
-use avm_run::{Advance, CallRun, Finished, RunFault};
+use avm_ops::Op;
+use avm_run::{Advance, CallRun, Finished, FullOps, RunFault};
 use std::alloc::{AllocError, Global};
 use teal_value::Failure;
 
 /// A worker after its event.
-pub(crate) fn work(
+pub(crate) fn work<O: Op>(
     alloc: Global,
-    ops: &OpSet,
+    ops: &FullOps<O>,
     store: &mut Store,
     worker: Worker,
     event: Event,
 ) -> Result<Worker, AllocError>
-    requires full { IsFull ⟦<BoxedOp as Op>⟧.opcode ops.now }
     requires sound { IsSoundWorker (input_of store.old) worker }
     requires live { IsLiveIfAny store.old (attempt_of worker) }
     requires own { IsSome (worker_in event) }
@@ -44,14 +42,13 @@ pub(crate) fn work(
 }
 
 /// Begins a call, where the worker is idle.
-fn begin_by(
+fn begin_by<O: Op>(
     alloc: Global,
-    ops: &OpSet,
+    ops: &FullOps<O>,
     store: &mut Store,
     worker: Worker,
     number: u32,
 ) -> Result<Worker, AllocError>
-    requires full { IsFull ⟦<BoxedOp as Op>⟧.opcode ops.now }
     requires sound { IsSoundWorker (input_of store.old) worker }
     ensures begun { IfOk result (λ after. IsBegunBy store.old store.new number (attempt_of worker) (attempt_of after)) }
     ensures sound { IfOk result (λ after. IsSoundWorker (input_of store.old) after) }
@@ -63,13 +60,12 @@ fn begin_by(
 }
 
 /// Reads the item that the worker's run asks for, if it does.
-fn read_by(
+fn read_by<O: Op>(
     alloc: Global,
-    ops: &OpSet,
+    ops: &FullOps<O>,
     store: &mut Store,
     worker: Worker,
 ) -> Result<Worker, AllocError>
-    requires full { IsFull ⟦<BoxedOp as Op>⟧.opcode ops.now }
     requires sound { IsSoundWorker (input_of store.old) worker }
     requires live { IsLiveIfAny store.old (attempt_of worker) }
     ensures read { IfOk result (λ after. IsReadBy store.old store.new worker (attempt_of after)) }
@@ -108,8 +104,12 @@ fn abandon_by(store: &mut Store, worker: Worker)
 }
 
 /// Begins a call, where it is neither live nor committed, and runs it to the first item that it asks for, or to its end.
-fn begin(alloc: Global, ops: &OpSet, store: &mut Store, number: u32) -> Result<Worker, AllocError>
-    requires full { IsFull ⟦<BoxedOp as Op>⟧.opcode ops.now }
+fn begin<O: Op>(
+    alloc: Global,
+    ops: &FullOps<O>,
+    store: &mut Store,
+    number: u32,
+) -> Result<Worker, AllocError>
     ensures begun { IfOk result (λ after. IsBegun store.old store.new number (attempt_of after)) }
     ensures sound { IfOk result (λ after. IsSoundWorker (input_of store.old) after) }
 {
@@ -127,15 +127,14 @@ fn begin(alloc: Global, ops: &OpSet, store: &mut Store, number: u32) -> Result<W
 }
 
 /// Reads the item that a run asks for, and runs on to the next one, or to the end of the call.
-fn read(
+fn read<O: Op>(
     alloc: Global,
-    ops: &OpSet,
+    ops: &FullOps<O>,
     store: &mut Store,
     ticket: Ticket,
     run: CallRun,
     asks: Item,
 ) -> Result<Worker, AllocError>
-    requires full { IsFull ⟦<BoxedOp as Op>⟧.opcode ops.now }
     requires asks { TicketAsksFor (input_of store.old) ticket run asks }
     requires live { IsLiveWith store.old (attempt_by ticket (reads_or_none run)) }
     ensures read { IfOk result (λ after. IsReadByStore store.old store.new (attempt_by ticket (reads_or_none run)) asks (attempt_of after)) }
@@ -155,8 +154,12 @@ fn read(
 }
 
 /// Runs on to the next item that a run asks for, or to the end of its call.
-fn advance(alloc: Global, ops: &OpSet, ticket: Ticket, run: CallRun) -> Result<Worker, AllocError>
-    requires full { IsFull ⟦<BoxedOp as Op>⟧.opcode ops.now }
+fn advance<O: Op>(
+    alloc: Global,
+    ops: &FullOps<O>,
+    ticket: Ticket,
+    run: CallRun,
+) -> Result<Worker, AllocError>
     requires runs { IsGoing run }
     ensures { IfOk result (λ after. IsAdvanced ticket run after) }
 {

@@ -8,17 +8,15 @@
 //! - `steps WORDS` makes a run of a call, instruction by instruction, over the ledger: how many there are, where the program
 //!   then stands, and how the call ends.
 
-ghost use Rattle.avm_ops.specs.OpSets.{IsFull};
-
 use crate::ledgers::{Bench, digits_of, profile_of};
 use avm_block::{Block, Entry, encode};
 use avm_call::{Call, Outcome};
 use avm_debug::{Debugger, PastError, Source, state_of};
 use avm_items::item_of;
 use avm_ledger::{Header, Ledger};
-use avm_ops::{BoxedOp, Op, OpSet};
+use avm_ops::Op;
 use avm_replay::plain_block;
-use avm_run::{Advance, CallRun, Step};
+use avm_run::{Advance, CallRun, FullOps, Step};
 use sample_calls::calls::call;
 use sample_calls::words::{number, word};
 use std::alloc::Global;
@@ -63,16 +61,14 @@ impl Blocks {
 }
 
 /// The answer to a row, or nothing where its head is none of these.
-pub fn reply(
+pub fn reply<O: Op>(
     alloc: Global,
-    ops: &OpSet,
+    ops: &FullOps<O>,
     bench: &Bench,
     blocks: &mut Blocks,
     head: &str,
     words: &[&str],
-) -> Result<Option<String>, Fail>
-    requires full { IsFull ⟦<BoxedOp as Op>⟧.opcode ops.now }
-{
+) -> Result<Option<String>, Fail> {
     match head {
         "plain" => Ok(Some(plain(alloc, ops, bench, blocks, words)?)),
         "steps" => Ok(Some(steps(alloc, ops, bench, words)?)),
@@ -88,15 +84,13 @@ fn block_digits(alloc: Global, block: &Block) -> Result<String, Fail> {
     Ok(hex::encode(alloc, encode(alloc, block)?.as_slice())?)
 }
 
-fn plain(
+fn plain<O: Op>(
     alloc: Global,
-    ops: &OpSet,
+    ops: &FullOps<O>,
     bench: &Bench,
     blocks: &mut Blocks,
     words: &[&str],
-) -> Result<String, Fail>
-    requires full { IsFull ⟦<BoxedOp as Op>⟧.opcode ops.now }
-{
+) -> Result<String, Fail> {
     let header = bench.header(profile_of(word(words, 0)?)?);
     let calls = mem::replace(&mut blocks.calls, Vec::new(alloc));
     match plain_block(alloc, &bench.ledger, &header, calls, ops) {
@@ -119,16 +113,14 @@ fn outcomes(alloc: Global, entries: &[Entry]) -> Result<String, Fail> {
     Ok(text)
 }
 
-fn look(
+fn look<O: Op>(
     alloc: Global,
-    ops: &OpSet,
+    ops: &FullOps<O>,
     base: &Ledger,
     block: &Block,
     head: &str,
     words: &[&str],
-) -> Result<String, Fail>
-    requires full { IsFull ⟦<BoxedOp as Op>⟧.opcode ops.now }
-{
+) -> Result<String, Fail> {
     match head {
         "made" => block_digits(alloc, block),
         "copy" => copy(alloc, block),
@@ -152,15 +144,13 @@ fn copy(alloc: Global, block: &Block) -> Result<String, Fail> {
     Ok(format!(in alloc; "{digits} {ends}")?)
 }
 
-fn past_of(
+fn past_of<O: Op>(
     alloc: Global,
-    ops: &OpSet,
+    ops: &FullOps<O>,
     base: &Ledger,
     block: &Block,
     words: &[&str],
-) -> Result<String, Fail>
-    requires full { IsFull ⟦<BoxedOp as Op>⟧.opcode ops.now }
-{
+) -> Result<String, Fail> {
     let entry = number(words, 0)? as usize;
     let timestamp = number(words, 1)?;
     match Debugger::open(alloc, Source::Block(base, block), entry, ops) {
@@ -183,9 +173,12 @@ enum Turn {
     Ended(Outcome),
 }
 
-fn steps(alloc: Global, ops: &OpSet, bench: &Bench, words: &[&str]) -> Result<String, Fail>
-    requires full { IsFull ⟦<BoxedOp as Op>⟧.opcode ops.now }
-{
+fn steps<O: Op>(
+    alloc: Global,
+    ops: &FullOps<O>,
+    bench: &Bench,
+    words: &[&str],
+) -> Result<String, Fail> {
     let call = call(alloc, &bench.programs, words)?;
     let header = bench.header(call.needs());
     let mut run = started(alloc, &call, &header)?;
@@ -217,9 +210,12 @@ fn place_text(alloc: Global, run: &CallRun) -> Result<String, Fail> {
     }
 }
 
-fn turned(alloc: Global, ops: &OpSet, ledger: &Ledger, run: &mut CallRun) -> Result<Turn, Fail>
-    requires full { IsFull ⟦<BoxedOp as Op>⟧.opcode ops.now }
-{
+fn turned<O: Op>(
+    alloc: Global,
+    ops: &FullOps<O>,
+    ledger: &Ledger,
+    run: &mut CallRun,
+) -> Result<Turn, Fail> {
     match run.step_one(alloc, ops) {
         Ok(Step::Moved) => Ok(Turn::Moved),
         Ok(Step::Need(item)) => {
@@ -236,9 +232,7 @@ fn turned(alloc: Global, ops: &OpSet, ledger: &Ledger, run: &mut CallRun) -> Res
 }
 
 /// The outcome of a call whose program has ended.
-fn ended(alloc: Global, ops: &OpSet, run: &mut CallRun) -> Result<Turn, Fail>
-    requires full { IsFull ⟦<BoxedOp as Op>⟧.opcode ops.now }
-{
+fn ended<O: Op>(alloc: Global, ops: &FullOps<O>, run: &mut CallRun) -> Result<Turn, Fail> {
     match run.advance(alloc, ops) {
         Ok(Advance::Done(finished)) => Ok(Turn::Ended(finished.outcome())),
         _ => Err("a call whose program has ended is over".into()),

@@ -11,14 +11,12 @@
 //!
 //! `sample_calls` has the words of calls and the pieces of bytes.
 
-ghost use Rattle.avm_ops.specs.OpSets.{IsFull};
-
 use avm_block::{BlockFault, decode, encode};
 use avm_call_codec::{CallCodec, CallDataFault};
 use avm_items::CallData;
 use avm_ledger::{Header, Ledger, LedgerFault, Profile};
-use avm_ops::{BoxedOp, Op, OpSet};
-use avm_run::call_on;
+use avm_ops::Op;
+use avm_run::{FullOps, call_on};
 use sample_calls::calls::{HEADER, call_or_fault};
 use sample_calls::programs::Programs;
 use sample_calls::words::{joined, number, word};
@@ -51,16 +49,14 @@ impl Bench {
 }
 
 /// The answer to a row, or nothing where its head is none of these.
-pub fn reply(
+pub fn reply<O: Op>(
     alloc: Global,
-    ops: &OpSet,
+    ops: &FullOps<O>,
     bench: &mut Bench,
     input: &mut Vec<u8>,
     head: &str,
     words: &[&str],
-) -> Result<Option<String>, Fail>
-    requires full { IsFull ⟦<BoxedOp as Op>⟧.opcode ops.now }
-{
+) -> Result<Option<String>, Fail> {
     match head {
         "call" => Ok(Some(called(alloc, ops, bench, None, words)?)),
         "call3" => Ok(Some(called(alloc, ops, bench, Some(Profile::Three), words)?)),
@@ -159,15 +155,13 @@ fn block_again(alloc: Global, bench: &Bench, words: &[&str]) -> Result<String, F
 }
 
 /// How a call on the ledger ends, in this profile or else in the one that its programs need.
-fn called(
+fn called<O: Op>(
     alloc: Global,
-    ops: &OpSet,
+    ops: &FullOps<O>,
     bench: &mut Bench,
     profile: Option<Profile>,
     words: &[&str],
-) -> Result<String, Fail>
-    requires full { IsFull ⟦<BoxedOp as Op>⟧.opcode ops.now }
-{
+) -> Result<String, Fail> {
     match call_or_fault(alloc, &bench.programs, words)? {
         Ok(call) => {
             let header = bench.header(profile.unwrap_or(call.needs()));

@@ -12,8 +12,6 @@
 //! Others, as `# TEXT`, say nothing.
 #![tactic(auto)]
 
-ghost use Rattle.avm_ops.specs.OpSets.{IsFull};
-
 mod blocks;
 mod ledgers;
 mod streams;
@@ -24,7 +22,8 @@ use crate::ledgers::Bench;
 use crate::streams::{Input, Output};
 use avm_node::answer;
 use avm_objects::filled_set;
-use avm_ops::{BoxedOp, Op, OpSet};
+use avm_ops::{Op, Ops};
+use avm_run::FullOps;
 use std::alloc::Global;
 use std::io::ErrorKind;
 use std::test::Fail;
@@ -57,15 +56,18 @@ struct Said {
 
 fn main(rt: HostRuntime) -> Result<(), Fail> {
     let ops = filled_set!(rt.alloc(), Err("memory is refused".into()));
-    if ops.missing().is_some() {
-        return Err("an opcode has no object".into());
-    }
-    all_rows(&rt, &ops)
+    with_full(&rt, ops)
 }
 
-fn all_rows(rt: &HostRuntime, ops: &OpSet) -> Result<(), Fail>
-    requires full { IsFull ⟦<BoxedOp as Op>⟧.opcode ops.now }
-{
+/// Carries all rows out, with a set that has to be a full one.
+fn with_full<O: Op>(rt: &HostRuntime, ops: Ops<O>) -> Result<(), Fail> {
+    match FullOps::of(ops) {
+        Ok(ops) => all_rows(rt, &ops),
+        Err(_lacking) => Err("an opcode has no object".into()),
+    }
+}
+
+fn all_rows<O: Op>(rt: &HostRuntime, ops: &FullOps<O>) -> Result<(), Fail> {
     let alloc = rt.alloc();
     let mut said = Said {
         row: Row::new(alloc),
@@ -89,15 +91,13 @@ fn all_rows(rt: &HostRuntime, ops: &OpSet) -> Result<(), Fail>
 }
 
 /// The answer to a row that has one of its own; other rows are done.
-fn reply(
+fn reply<O: Op>(
     alloc: Global,
-    ops: &OpSet,
+    ops: &FullOps<O>,
     said: &mut Said,
     head: &str,
     rest: &str,
-) -> Result<Option<String>, Fail>
-    requires full { IsFull ⟦<BoxedOp as Op>⟧.opcode ops.now }
-{
+) -> Result<Option<String>, Fail> {
     if let Some(text) = texts::reply(alloc, head, rest)? {
         return Ok(Some(text));
     }
@@ -108,15 +108,13 @@ fn reply(
     reply_to_words(alloc, ops, said, head, words.as_slice())
 }
 
-fn reply_to_words(
+fn reply_to_words<O: Op>(
     alloc: Global,
-    ops: &OpSet,
+    ops: &FullOps<O>,
     said: &mut Said,
     head: &str,
     words: &[&str],
-) -> Result<Option<String>, Fail>
-    requires full { IsFull ⟦<BoxedOp as Op>⟧.opcode ops.now }
-{
+) -> Result<Option<String>, Fail> {
     let bench = &mut said.bench;
     if let Some(text) = ledgers::reply(alloc, ops, bench, &mut said.row.bytes, head, words)? {
         return Ok(Some(text));
@@ -141,9 +139,12 @@ fn reply_to_words(
 }
 
 /// The text of a command and, behind `=`, its status, or none where it is one that wants threads. The row begins anew.
-fn answered(alloc: Global, ops: &OpSet, words: &str, row: &mut Row) -> Result<String, Fail>
-    requires full { IsFull ⟦<BoxedOp as Op>⟧.opcode ops.now }
-{
+fn answered<O: Op>(
+    alloc: Global,
+    ops: &FullOps<O>,
+    words: &str,
+    row: &mut Row,
+) -> Result<String, Fail> {
     let words: Vec<&str> = words.split_whitespace().collect(alloc)?;
     let mut input = Input::new(row.bytes.as_slice(), row.failure);
     let mut output = Output::new(alloc, row.room);

@@ -3,7 +3,6 @@
 ghost use Rattle.std.specs.Prelude.{◌≡◌, [], IfOk};
 ghost use Rattle.avm_items.specs.declared.item_value.ItemValue.TheVariants.{Absent};
 ghost use Rattle.avm_items.specs.Items.{with_item};
-ghost use Rattle.avm_ops.specs.OpSets.{IsFull};
 
 use crate::said::Said;
 use crate::script::name;
@@ -13,8 +12,8 @@ use crate::texts::{digits_of, entries_text, item_text, late_text, value_text};
 use avm_call::Call;
 use avm_items::{Item, ItemMap, ItemValue};
 use avm_ledger::Header;
-use avm_ops::{BoxedOp, Op, OpSet};
-use avm_run::{Advance, CallRun, Finished};
+use avm_ops::Op;
+use avm_run::{Advance, CallRun, Finished, FullOps};
 use mv_parts::{CommitFault, Journal, Sealed, open_parts};
 use mv_shards::{Attempt, Held, Shard};
 use sample_calls::calls::HEADER;
@@ -141,14 +140,12 @@ impl Journals {
     }
 
     /// Does what a row says, or nothing where memory is refused in it.
-    pub fn carry_out(
+    pub fn carry_out<O: Op>(
         &mut self,
         alloc: Global,
-        ops: &OpSet,
+        ops: &FullOps<O>,
         event: &JournalEvent,
-    ) -> Result<Said, AllocError>
-        requires full { IsFull ⟦<BoxedOp as Op>⟧.opcode ops.now }
-    {
+    ) -> Result<Said, AllocError> {
         match event {
             JournalEvent::Open(stored) => self.open(alloc, stored),
             JournalEvent::Begin(name, number) => self.begin(alloc, name.as_str(), *number),
@@ -235,9 +232,12 @@ impl Journals {
         Ok(Said::Word("a stranger"))
     }
 
-    fn run(&mut self, alloc: Global, ops: &OpSet, name: &str) -> Result<Said, AllocError>
-        requires full { IsFull ⟦<BoxedOp as Op>⟧.opcode ops.now }
-    {
+    fn run<O: Op>(
+        &mut self,
+        alloc: Global,
+        ops: &FullOps<O>,
+        name: &str,
+    ) -> Result<Said, AllocError> {
         let Some(parts) = &mut self.parts else {
             return Ok(Said::Word("no journal"));
         };
@@ -442,9 +442,12 @@ fn attempt_text(alloc: Global, journal: &Journal, tried: &Tried) -> Result<Said,
 }
 
 /// The call of an attempt's number runs to its end, over what the attempt reads.
-fn run(alloc: Global, ops: &OpSet, parts: &mut Parts, tried: &mut Tried) -> Result<Said, AllocError>
-    requires full { IsFull ⟦<BoxedOp as Op>⟧.opcode ops.now }
-{
+fn run<O: Op>(
+    alloc: Global,
+    ops: &FullOps<O>,
+    parts: &mut Parts,
+    tried: &mut Tried,
+) -> Result<Said, AllocError> {
     let Some(attempt) = &mut tried.attempt else {
         return Ok(Said::Word("no such attempt"));
     };
@@ -462,15 +465,13 @@ fn run(alloc: Global, ops: &OpSet, parts: &mut Parts, tried: &mut Tried) -> Resu
     }
 }
 
-fn finished(
+fn finished<O: Op>(
     alloc: Global,
-    ops: &OpSet,
+    ops: &FullOps<O>,
     call: &Call,
     held: &mut Held,
     attempt: &mut Attempt,
-) -> Result<Option<Finished>, AllocError>
-    requires full { IsFull ⟦<BoxedOp as Op>⟧.opcode ops.now }
-{
+) -> Result<Option<Finished>, AllocError> {
     let mut run = CallRun::start(alloc, call, &HEADER, None)?;
     for _item in 0..16 {
         match run.advance(alloc, ops) {

@@ -9,8 +9,6 @@
 //! `script` says how rows read, `stores` and `journals` what they do.
 #![tactic(auto)]
 
-ghost use Rattle.avm_ops.specs.OpSets.{IsFull};
-
 mod journals;
 mod said;
 mod script;
@@ -23,20 +21,24 @@ use crate::said::{say, say_memory};
 use crate::script::{Row, Step, rows};
 use crate::stores::Stores;
 use avm_objects::filled_set;
-use avm_ops::{BoxedOp, Op, OpSet};
+use avm_ops::{Op, Ops};
+use avm_run::FullOps;
 use std::test::Fail;
 
 fn main(rt: HostRuntime) -> Result<(), Fail> {
     let ops = filled_set!(rt.alloc(), Err("memory is refused".into()));
-    if ops.missing().is_some() {
-        return Err("an opcode has no object".into());
-    }
-    carry_out_all(&rt, &ops)
+    with_full(&rt, ops)
 }
 
-fn carry_out_all(rt: &HostRuntime, ops: &OpSet) -> Result<(), Fail>
-    requires full { IsFull ⟦<BoxedOp as Op>⟧.opcode ops.now }
-{
+/// Carries all rows out, with a set that has to be a full one.
+fn with_full<O: Op>(rt: &HostRuntime, ops: Ops<O>) -> Result<(), Fail> {
+    match FullOps::of(ops) {
+        Ok(ops) => carry_out_all(rt, &ops),
+        Err(_lacking) => Err("an opcode has no object".into()),
+    }
+}
+
+fn carry_out_all<O: Op>(rt: &HostRuntime, ops: &FullOps<O>) -> Result<(), Fail> {
     let alloc = rt.alloc();
     let rows = rows(rt)?;
     let mut stores = Stores::new(alloc)?;
@@ -49,15 +51,13 @@ fn carry_out_all(rt: &HostRuntime, ops: &OpSet) -> Result<(), Fail>
 }
 
 /// Carries out a row, at the second try if memory is refused in the first.
-fn carry_out(
+fn carry_out<O: Op>(
     rt: &HostRuntime,
-    ops: &OpSet,
+    ops: &FullOps<O>,
     stores: &mut Stores,
     journals: &mut Journals,
     row: &Row,
-) -> Result<(), Fail>
-    requires full { IsFull ⟦<BoxedOp as Op>⟧.opcode ops.now }
-{
+) -> Result<(), Fail> {
     let alloc = rt.alloc();
     for _time in 0..2 {
         let before = stores.seen();

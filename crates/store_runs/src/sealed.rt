@@ -1,13 +1,12 @@
 //! Looks at a sealed block.
 
-ghost use Rattle.avm_ops.specs.OpSets.{IsFull};
-
 use crate::said::Said;
 use crate::texts::digits_of;
 use avm_block::encode;
 use avm_ledger::Ledger;
-use avm_ops::{BoxedOp, Op, OpSet};
+use avm_ops::Op;
 use avm_replay::{Verdict, replay};
+use avm_run::FullOps;
 use mv_parts::Sealed;
 use std::alloc::{AllocError, Global};
 
@@ -24,14 +23,12 @@ pub fn block_text(alloc: Global, sealed: &Option<Sealed>) -> Result<Said, AllocE
 }
 
 /// The ledger that its replay over a base leaves.
-pub fn replay_text(
+pub fn replay_text<O: Op>(
     alloc: Global,
-    ops: &OpSet,
+    ops: &FullOps<O>,
     base: &Ledger,
     sealed: &Option<Sealed>,
-) -> Result<Said, AllocError>
-    requires full { IsFull ⟦<BoxedOp as Op>⟧.opcode ops.now }
-{
+) -> Result<Said, AllocError> {
     match sealed {
         Some(sealed) => match replay(alloc, base, &sealed.block, ops)? {
             Verdict::Agrees(after) => Ok(Said::Text(digits_of(alloc, &after)?)),

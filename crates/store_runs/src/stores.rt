@@ -1,7 +1,5 @@
 //! Events of a store, and looks at it.
 
-ghost use Rattle.avm_ops.specs.OpSets.{IsFull};
-
 use crate::said::Said;
 use crate::script::Step;
 use crate::sealed::{block_text, replay_text};
@@ -10,8 +8,8 @@ use avm_call::Call;
 use avm_debug::{Debugger, PastError, Source, state_of};
 use avm_items::Item;
 use avm_ledger::{Header, Ledger};
-use avm_ops::{BoxedOp, Op, OpSet};
-use avm_run::{Advance, CallRun, Finished, call_plain};
+use avm_ops::Op;
+use avm_run::{Advance, CallRun, Finished, FullOps, call_plain};
 use mv_core::{CommitFault, Event, ReadFault, Store, Ticket, Worker, World, run_events};
 use mv_parts::{BeginFault, Sealed};
 use sample_calls::calls::HEADER;
@@ -198,14 +196,12 @@ impl Stores {
     }
 
     /// Does what a row says, or nothing where memory is refused in it.
-    pub fn carry_out(
+    pub fn carry_out<O: Op>(
         &mut self,
         alloc: Global,
-        ops: &OpSet,
+        ops: &FullOps<O>,
         event: &StoreEvent,
-    ) -> Result<Said, AllocError>
-        requires full { IsFull ⟦<BoxedOp as Op>⟧.opcode ops.now }
-    {
+    ) -> Result<Said, AllocError> {
         match event {
             StoreEvent::Open(stored) => self.open(alloc, stored),
             StoreEvent::Plain(stored) => plain(alloc, ops, stored),
@@ -238,15 +234,13 @@ impl Stores {
         }
     }
 
-    fn run_events(
+    fn run_events<O: Op>(
         &mut self,
         alloc: Global,
-        ops: &OpSet,
+        ops: &FullOps<O>,
         stored: &Stored,
         events: &[Event],
-    ) -> Result<Said, AllocError>
-        requires full { IsFull ⟦<BoxedOp as Op>⟧.opcode ops.now }
-    {
+    ) -> Result<Said, AllocError> {
         self.stored = stored.copied()?;
         let World { store, workers } = world_after(alloc, ops, stored, events)?;
         let said = self.keep_workers(alloc, workers)?;
@@ -300,15 +294,13 @@ impl Stores {
         Ok(())
     }
 
-    fn run(
+    fn run<O: Op>(
         &mut self,
         alloc: Global,
-        ops: &OpSet,
+        ops: &FullOps<O>,
         ticket: &Ticket,
         name: &str,
-    ) -> Result<Said, AllocError>
-        requires full { IsFull ⟦<BoxedOp as Op>⟧.opcode ops.now }
-    {
+    ) -> Result<Said, AllocError> {
         let Some(store) = &mut self.store else {
             return Ok(Said::Word("no store"));
         };
@@ -385,9 +377,7 @@ pub fn other_ledger(alloc: Global) -> Ledger {
     other.close()
 }
 
-fn plain(alloc: Global, ops: &OpSet, stored: &Stored) -> Result<Said, AllocError>
-    requires full { IsFull ⟦<BoxedOp as Op>⟧.opcode ops.now }
-{
+fn plain<O: Op>(alloc: Global, ops: &FullOps<O>, stored: &Stored) -> Result<Said, AllocError> {
     match stored.calls.first() {
         Some(call) => {
             let (outcome, after) = call_plain(alloc, &stored.base, call, &HEADER, ops)?;
@@ -398,14 +388,12 @@ fn plain(alloc: Global, ops: &OpSet, stored: &Stored) -> Result<Said, AllocError
     }
 }
 
-fn world_after(
+fn world_after<O: Op>(
     alloc: Global,
-    ops: &OpSet,
+    ops: &FullOps<O>,
     stored: &Stored,
     events: &[Event],
-) -> Result<World, AllocError>
-    requires full { IsFull ⟦<BoxedOp as Op>⟧.opcode ops.now }
-{
+) -> Result<World, AllocError> {
     let Stored { base, calls } = stored.copied()?;
     // That a store is opened says that there are few calls, each of the header's profile.
     match Store::open(alloc, base.clone()?, HEADER, Arc::try_clone(&calls)?) {
@@ -439,14 +427,12 @@ fn worker_text(alloc: Global, worker: &Worker) -> Result<String, AllocError> {
 }
 
 /// Runs a call to its end, over what its live attempt reads; none where it is not live.
-fn finished(
+fn finished<O: Op>(
     alloc: Global,
-    ops: &OpSet,
+    ops: &FullOps<O>,
     store: &mut Store,
     ticket: &Ticket,
-) -> Result<Option<Finished>, AllocError>
-    requires full { IsFull ⟦<BoxedOp as Op>⟧.opcode ops.now }
-{
+) -> Result<Option<Finished>, AllocError> {
     let mut run = match store.call(ticket.number) {
         Some(call) => CallRun::start(alloc, call, &HEADER, None)?,
         None => return Ok(None),
@@ -512,14 +498,12 @@ fn commit_refusal(alloc: Global, fault: &CommitFault) -> Result<Said, AllocError
 }
 
 /// An event of the store alone, or a look.
-fn on_store(
+fn on_store<O: Op>(
     alloc: Global,
-    ops: &OpSet,
+    ops: &FullOps<O>,
     store: &mut Store,
     event: &StoreEvent,
-) -> Result<Said, AllocError>
-    requires full { IsFull ⟦<BoxedOp as Op>⟧.opcode ops.now }
-{
+) -> Result<Said, AllocError> {
     match event {
         StoreEvent::Begin(number) => begin(store, *number),
         StoreEvent::Read(ticket, item) => read(alloc, store, ticket, item),
@@ -574,15 +558,13 @@ fn reads(store: &mut Store, ticket: &Ticket, item: &Item) -> Result<Said, AllocE
 }
 
 /// Where the program of a committed call stands after so many steps.
-fn debug(
+fn debug<O: Op>(
     alloc: Global,
-    ops: &OpSet,
+    ops: &FullOps<O>,
     store: &Store,
     entry: usize,
     steps: usize,
-) -> Result<Said, AllocError>
-    requires full { IsFull ⟦<BoxedOp as Op>⟧.opcode ops.now }
-{
+) -> Result<Said, AllocError> {
     match Debugger::open(alloc, Source::Live(store), entry, ops) {
         Ok(debugger) => {
             let mut debugger = debugger;
@@ -592,14 +574,12 @@ fn debug(
     }
 }
 
-fn place_after(
+fn place_after<O: Op>(
     alloc: Global,
-    ops: &OpSet,
+    ops: &FullOps<O>,
     debugger: &mut Debugger<'_>,
     steps: usize,
-) -> Result<Said, AllocError>
-    requires full { IsFull ⟦<BoxedOp as Op>⟧.opcode ops.now }
-{
+) -> Result<Said, AllocError> {
     for _step in 0..steps {
         match debugger.step(alloc, ops) {
             Ok(()) => {}
@@ -613,15 +593,13 @@ fn place_after(
 }
 
 /// The ledger of a timestamp, by the debugger of an entry, or by none.
-fn past(
+fn past<O: Op>(
     alloc: Global,
-    ops: &OpSet,
+    ops: &FullOps<O>,
     store: &Store,
     entry: usize,
     timestamp: u64,
-) -> Result<Said, AllocError>
-    requires full { IsFull ⟦<BoxedOp as Op>⟧.opcode ops.now }
-{
+) -> Result<Said, AllocError> {
     if entry == 0 {
         return past_text(alloc, state_of(alloc, Source::Live(store), timestamp, ops));
     }

@@ -3,7 +3,7 @@ use Rattle.mv_core.proofs.WorkerSteps.{live_here, stepped}
 use Rattle.mv_core.proofs.event_list.act.Goals as goal
 
 pub work-requires-clause-live : goal.work-requires-clause-live
-work-requires-clause-live g c =
+work-requires-clause-live g c κs within =
     live_here c.args.store.now c.args.workers.now.items c.from-index.result c.replace-worker.result c.index_mut.result.now (omega (arith, c.if-index-len.false, c.len.ensures)) c.replace-worker.ensures.value c.index_mut.ensures.value c.requires.live
 
 pub returns-in-Ok : goal.returns-in-Ok

@@ -3,10 +3,10 @@ use Rattle.mv_core.proofs.EventRuns.{live_all, run_all, run_further, sound_all}
 use Rattle.mv_core.proofs.event_list.run_on.Goals as goal
 
 pub step-requires-clause-sound : goal.step-requires-clause-sound
-step-requires-clause-sound g c = sound_all _ _ c.loop-event.store c.loop-event.workers.items c.loop-event.invariant
+step-requires-clause-sound g c κs within = sound_all _ _ c.loop-event.store c.loop-event.workers.items c.loop-event.invariant
 
 pub step-requires-clause-live : goal.step-requires-clause-live
-step-requires-clause-live g c = live_all _ _ c.loop-event.store c.loop-event.workers.items c.loop-event.invariant
+step-requires-clause-live g c κs within = live_all _ _ c.loop-event.store c.loop-event.workers.items c.loop-event.invariant
 
 pub loop-event-preserved : goal.loop-event-preserved
 loop-event-preserved g c =

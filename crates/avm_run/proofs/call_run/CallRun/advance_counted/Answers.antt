@@ -9,7 +9,7 @@ use Rattle.avm_run.proofs.Answering.{asks_for}
 use Rattle.avm_run.proofs.call_run.CallRun.advance_counted.Goals as goal
 
 pub run_on-requires-clause-follows : goal.run_on-requires-clause-follows
-run_on-requires-clause-follows g c =
+run_on-requires-clause-follows g c κs within =
     let kept : IsKeptRun c.in-Live.live = subst IsSoundState (sym c.in-Live.ensures.value) c.self.invariant in
     kept.alive.follows
 

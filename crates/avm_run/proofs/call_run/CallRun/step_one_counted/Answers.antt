@@ -9,7 +9,7 @@ use Rattle.avm_run.proofs.Answering.{asks_for, ends_there, makes_step}
 use Rattle.avm_run.proofs.call_run.CallRun.step_one_counted.Goals as goal
 
 pub step_on-requires-clause-follows : goal.step_on-requires-clause-follows
-step_on-requires-clause-follows g c =
+step_on-requires-clause-follows g c κs within =
     let kept : IsKeptRun c.in-Live.live = subst IsSoundState (sym c.in-Live.ensures.value) c.self.invariant in
     kept.alive.follows
 

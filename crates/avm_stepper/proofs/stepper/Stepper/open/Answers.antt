@@ -5,7 +5,7 @@ use Rattle.avm_stepper.proofs.Shows.{prepared_begun}
 use Rattle.avm_stepper.proofs.stepper.Stepper.open.Goals as goal
 
 pub start_over-requires-clause-tests : goal.start_over-requires-clause-tests
-start_over-requires-clause-tests g c = starts_at_first c.args.ledger c.args.call.now c.args.header.now c.in_ok-run.run' c.in_ok-run.ensures
+start_over-requires-clause-tests g c κs within = starts_at_first c.args.ledger c.args.call.now c.args.header.now c.in_ok-run.run' c.in_ok-run.ensures
 
 pub invariant_of-result : goal.invariant_of-result
 invariant_of-result g c =

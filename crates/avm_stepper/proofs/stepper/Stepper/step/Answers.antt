@@ -10,7 +10,7 @@ use Rattle.avm_stepper.proofs.stepper.Stepper.step.Goals.{in-None-6, in-Some-2}
 use Rattle.avm_stepper.proofs.stepper.Stepper.step.Goals as goal
 
 pub step_over-requires-clause-stands : goal.step_over-requires-clause-stands
-step_over-requires-clause-stands g c =
+step_over-requires-clause-stands g c κs within =
     let kept = subst (IsKeptDebug c.self.inside.ledger c.self.inside.fault) (sym c.take.ensures.value ∙ c.in-Some.is) c.self.invariant.0 in
     (comes_over c.self.inside.ledger c.self.inside.fault c.in-Some.run' kept c.if-not-comes_next.ensures).goes_on
 

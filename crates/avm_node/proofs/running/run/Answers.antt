@@ -1,0 +1,26 @@
+use Rattle.std.proofs.Common.{arith, subst, sym, Some}
+use Rattle.std.specs.List.{AllByRecursion}
+use Rattle.avm_ops.specs.OpSets.{IsFull}
+use Rattle.avm_pool.specs.Refusals.{AreFull}
+use Rattle.avm_input.specs.CommandLine.{AreOneToEight}
+use Rattle.avm_node.proofs.FullSets.{fewer_are_full, last_is_own, own_is_full}
+use Rattle.avm_node.proofs.running.run.Goals as goal
+
+pub proposed-requires-clause-sets : goal.proposed-requires-clause-sets
+proposed-requires-clause-sets g c κs within =
+    let opcode = g.O.Op.opcode in
+    let own = c.in-Some.own in
+    let n = c.in-Some-workers_of.workers in
+    let some : AreOneToEight (Some n) = subst AreOneToEight (sym c.in-Some-workers_of.ensures) c.in-Ok.ensures.workers in
+    let full = last_is_own opcode c.pop.new.self.items own (subst (AllByRecursion (IsFull opcode)) c.in-Some.ensures.items c.requires.sets.full) in
+    record {
+      some = omega (arith, some.0, c.from.ensures, c.truncate.ensures.len, c.in-Some.ensures.len, c.requires.sets.count);
+      few = omega (arith, some.1, c.from.ensures, c.truncate.ensures.len, c.in-Some.ensures.len, c.requires.sets.count);
+      full = subst (λ sets. AreFull opcode sets own) (sym c.truncate.ensures.items) (fewer_are_full opcode _ c.pop.new.self.items own full);
+    }
+
+pub from_full-requires-after_bounds : goal.from_full-requires-after_bounds
+from_full-requires-after_bounds g c κs within =
+    let opcode = g.O.Op.opcode in
+    own_is_full opcode c.pop.new.self.items c.in-Some.own
+    (last_is_own opcode c.pop.new.self.items c.in-Some.own (subst (AllByRecursion (IsFull opcode)) c.in-Some.ensures.items c.requires.sets.full))

@@ -1,0 +1,96 @@
+//! From a journal to its proposal. Freeing the shards and the journal takes as long as making the block, so other threads do
+//! it meanwhile; where no thread can be made, one comes after the other.
+
+ghost use Rattle.std.specs.Prelude.{◌≡◌, ◌↔◌, IfNone, IfOk, IfSome, IsTrue};
+ghost use Rattle.avm_block.specs.BlockSpelling.{block_bytes};
+ghost use Rattle.mv_parts.specs.Sealing.{IsJournalOf, IsSealed};
+ghost use Rattle.avm_pool.specs.Proposals.{IsProposal};
+
+use crate::holding::ShardLock;
+use crate::left::left_of;
+use crate::proposal::Proposal;
+use avm_block::{Block, encode};
+use avm_call::Call;
+use avm_ledger::{Header, Ledger};
+use mv_parts::{Journal, Sealed};
+use std::alloc::{AllocError, Global};
+use std::thread::{Threads, join};
+
+/// The proposal of a journal, if it is of this ledger, header and calls. The shards are not needed any more.
+pub(crate) fn proposal_of<R: Threads + Sync>(
+    rt: &R,
+    alloc: Global,
+    journal: Journal,
+    shards: Vec<ShardLock>,
+    base: &Ledger,
+    header: &Header,
+    calls: &[Call],
+) -> Result<Option<Proposal>, AllocError>
+    ensures proposal { IfOk result (λ made. IfSome made (IsProposal base.now header.now calls.now)) }
+    ensures none { IfOk result (λ made. IfNone made (IsJournalOf journal base.now header.now calls.now → ⊥)) }
+{
+    let (is_own, sealed) = block_of(rt, alloc, &journal, shards, base, header, calls);
+    if !is_own {
+        return Ok(None);
+    }
+    let Sealed { block, numbers } = sealed?;
+    let count = journal.calls().len() as u32;
+    let bytes = bytes_of(rt, alloc, journal, &block)?;
+    let left = left_of(alloc, &numbers, count)?;
+    Ok(Some(Proposal {
+        block,
+        bytes,
+        numbers,
+        left,
+    }))
+}
+
+/// Whether a journal is of this ledger, header and calls, and the block that it makes.
+fn block_of<R: Threads + Sync>(
+    rt: &R,
+    alloc: Global,
+    journal: &Journal,
+    shards: Vec<ShardLock>,
+    base: &Ledger,
+    header: &Header,
+    calls: &[Call],
+) -> (bool, Result<Sealed, AllocError>)
+    ensures own { IsTrue result.0 ↔ IsJournalOf journal.now base.now header.now calls.now }
+    ensures sealed { IfOk result.1 (λ sealed. IsSealed journal.now sealed.block sealed.numbers.items) }
+{
+    join(
+        rt,
+        move || -> bool
+            ensures { IsTrue result ↔ IsJournalOf journal.entry.now base.entry.now header.entry.now calls.entry.now }
+        {
+            free_shards(shards);
+            journal.is_of(base, header, calls)
+        },
+        || -> Result<Sealed, AllocError>
+            ensures { IfOk result (λ sealed. IsSealed journal.entry.now sealed.block sealed.numbers.items) }
+        { journal.to_block(alloc) },
+    )
+}
+
+/// The bytes of a block. The journal is not needed any more.
+fn bytes_of<R: Threads + Sync>(
+    rt: &R,
+    alloc: Global,
+    journal: Journal,
+    block: &Block,
+) -> Result<Vec<u8>, AllocError>
+    ensures { IfOk result (λ bytes. bytes.items ≡ block_bytes block.now) }
+{
+    let (_freed, bytes) = join(
+        rt,
+        move || free_journal(journal),
+        || -> Result<Vec<u8>, AllocError>
+            ensures { IfOk result (λ bytes. bytes.items ≡ block_bytes block.entry.now) }
+        { encode(alloc, block) },
+    );
+    bytes
+}
+
+fn free_shards(_shards: Vec<ShardLock>) {}
+
+fn free_journal(_journal: Journal) {}
