@@ -23,6 +23,7 @@ fn application_has_programs(ledger: &Ledger, id: u64)
     ensures { IsTrue (has_programs (at ledger.now (item.App id))) }
 {
     if let Some(row) = ledger.application(id) {
+        let row = row.get();
         let _approval = row.approval.program();
         let _clear = row.clear.program();
     }

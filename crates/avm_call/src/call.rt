@@ -11,7 +11,7 @@ ghost use Rattle.avm_items.specs.CallFields.{clears, creates};
 
 use crate::call_fault::{CallError, CallFault};
 use avm_items::{CallData, Completion};
-use avm_ledger::{Application, Profile, StoredProgram};
+use avm_ledger::{Application, Profile, SharedApplication, StoredProgram};
 use avm_states::{MAX_GLOBAL_ENTRIES, MAX_LOCAL_ENTRIES, Schema};
 use std::alloc::{AllocError, Global};
 use std::marker::Model;
@@ -127,35 +127,46 @@ impl Call {
     }
 
     /// The application that a creation makes.
-    pub fn created(&self) -> Result<Application, AllocError>
+    pub fn created(&self, alloc: Global) -> Result<SharedApplication, AllocError>
         requires { creates self.now ≡ true }
         ensures { IfOk result (λ row. row ≡ created self.now) }
     {
         let fields = &self.fields;
         match &self.programs {
-            Some(programs) => Ok(Application {
-                creator: fields.sender,
-                approval: programs.approval.clone()?,
-                clear: programs.clear.clone()?,
-                global_schema: fields.global_schema,
-                local_schema: fields.local_schema,
-            }),
+            Some(programs) => {
+                let row = Application {
+                    creator: fields.sender,
+                    approval: programs.approval.clone()?,
+                    clear: programs.clear.clone()?,
+                    global_schema: fields.global_schema,
+                    local_schema: fields.local_schema,
+                };
+                SharedApplication::new(alloc, row)
+            }
             None => unreachable!(),
         }
     }
 
     /// An application after an update.
-    pub fn updated(&self, row: Application) -> Result<Application, AllocError>
+    pub fn updated(
+        &self,
+        alloc: Global,
+        row: &Application,
+    ) -> Result<SharedApplication, AllocError>
         requires { updates self.now.completion ≡ true }
-        ensures { IfOk result (λ row_after. row_after ≡ updated self.now row) }
+        ensures { IfOk result (λ row_after. row_after ≡ updated self.now row.now) }
     {
         let _fields = &self.fields;
         match &self.programs {
             Some(programs) => {
-                let mut row = row;
-                row.approval = programs.approval.clone()?;
-                row.clear = programs.clear.clone()?;
-                Ok(row)
+                let row = Application {
+                    creator: row.creator,
+                    approval: programs.approval.clone()?,
+                    clear: programs.clear.clone()?,
+                    global_schema: row.global_schema,
+                    local_schema: row.local_schema,
+                };
+                SharedApplication::new(alloc, row)
             }
             None => unreachable!(),
         }

@@ -5,7 +5,7 @@ ghost use Rattle.avm_states.specs.Entries.{with_entry, without_entry};
 ghost use Rattle.avm_items.specs.Items.{local_changed};
 ghost use Rattle.avm_items.specs.SameValues.{is_same_application, is_same_schema, is_same_value};
 
-use avm_ledger::Application;
+use avm_ledger::{Application, SharedApplication};
 use avm_states::{EntryCounts, Schema, State};
 use std::alloc::AllocError;
 use teal_value::{StateKey, Value};
@@ -16,7 +16,7 @@ pub enum ItemValue {
     /// The ledger has no such application, key or local state.
     Absent,
     NextApp(u64),
-    App(Application),
+    App(SharedApplication),
     Counts(EntryCounts),
     Key(Value),
     Local(State),
@@ -70,7 +70,9 @@ impl ItemValue {
         match (self, other) {
             (ItemValue::Absent, ItemValue::Absent) => true,
             (ItemValue::NextApp(id), ItemValue::NextApp(other)) => id == other,
-            (ItemValue::App(row), ItemValue::App(other)) => is_same_application(row, other),
+            (ItemValue::App(row), ItemValue::App(other)) => is_same_application(
+                row.get(), other.get(),
+            ),
             (ItemValue::Counts(counts), ItemValue::Counts(other)) => is_same_counts(
                 *counts, *other,
             ),

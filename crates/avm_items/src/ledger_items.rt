@@ -45,7 +45,7 @@ pub fn is_value_in(ledger: &Ledger, item: &Item, value: &ItemValue) -> bool
             _ => false,
         },
         Item::App(id) => match (ledger.application(*id), value) {
-            (Some(row), ItemValue::App(other)) => is_same_application(row, other),
+            (Some(row), ItemValue::App(other)) => is_same_application(row.get(), other.get()),
             (None, ItemValue::Absent) => true,
             _ => false,
         },

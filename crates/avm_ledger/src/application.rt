@@ -1,7 +1,8 @@
 //! Applications.
 
-ghost use Rattle.std.specs.Prelude.{◌≡◌, IfOk};
+ghost use Rattle.std.specs.Prelude.{◌≡◌};
 
+use crate::shared_application::SharedApplication;
 use crate::stored_program::StoredProgram;
 use avm_states::{Schema, State};
 use std::alloc::AllocError;
@@ -22,25 +23,10 @@ pub struct Application {
     pub local_schema: Schema,
 }
 
-impl Application {
-    /// The same application. It shares the programs.
-    pub fn clone(&self) -> Result<Application, AllocError>
-        ensures { IfOk result (λ copy. copy ≡ self.now) }
-    {
-        Ok(Application {
-            creator: self.creator,
-            approval: self.approval.clone()?,
-            clear: self.clear.clone()?,
-            global_schema: self.global_schema,
-            local_schema: self.local_schema,
-        })
-    }
-}
-
 /// An application with its global state.
 #[derive(Debug, Drop)]
 pub struct StoredApplication {
-    pub row: Application,
+    pub row: SharedApplication,
     pub state: State,
 }
 

@@ -78,7 +78,7 @@ fn put_application(
 ) -> Result<(), AllocError>
     ensures { OnOk result (bytes.new.items ≡ bytes.old.items ++ application_bytes (id, application.now)) }
 {
-    let row = &application.row;
+    let row = application.row.get();
     put_u64(bytes, id)?;
     bytes.extend_from_slice(&row.creator.0)?;
     put_string(bytes, row.approval.as_slice())?;

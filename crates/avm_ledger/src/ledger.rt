@@ -12,6 +12,7 @@ ghost use Rattle.avm_ledger.specs.Ledgers.{IsOrderly, application_at, creation, 
 use crate::application::{Application, StoredApplication};
 use crate::ids_end::IdsEnd;
 use crate::open_ledger::OpenLedger;
+use crate::shared_application::SharedApplication;
 use crate::stored_program::StoredProgram;
 use avm_states::{Schema, State};
 use std::alloc::{AllocError, Global};
@@ -120,6 +121,7 @@ impl Ledger {
             global_schema,
             local_schema,
         };
+        let row = SharedApplication::new(alloc, row)?;
         let state = State::new(alloc);
         self.applications
             .insert(id, StoredApplication { row, state })?;
@@ -165,7 +167,7 @@ impl Ledger {
     }
 
     /// An application, without its global state.
-    pub fn application(&self, id: u64) -> Option<&Application>
+    pub fn application(&self, id: u64) -> Option<&SharedApplication>
         ensures { option_copied result ≡ option_map (λ app. app.row) (application_at self.now id) }
     {
         match self.applications.get(&id) {

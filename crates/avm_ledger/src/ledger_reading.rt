@@ -8,6 +8,7 @@ ghost use Rattle.avm_ledger.specs.LedgerReader.{account_at, applications_at, id_
 use crate::application::{Application, StoredApplication};
 use crate::fields::Fields;
 use crate::ledger_fault::{LedgerError, LedgerFault};
+use crate::shared_application::SharedApplication;
 use crate::sorted_map::map_of;
 use crate::state_reading::state_of;
 use crate::stored_program::StoredProgram;
@@ -73,7 +74,7 @@ fn applications_of(
         let (id, next) = id_of(before, next_id, rest)?;
         let last = applications
             .last_key_value()
-            .map(|entry: (&u64, &StoredApplication)| &entry.1.row);
+            .map(|entry: (&u64, &StoredApplication)| entry.1.row.get());
         let (application, next) = application_of(alloc, last, next)?;
         applications.insert(id, application)?;
         before = id;
@@ -114,6 +115,7 @@ fn application_of<'a>(
         global_schema,
         local_schema,
     };
+    let row = SharedApplication::new(alloc, row)?;
     Ok((StoredApplication { row, state }, rest))
 }
 
@@ -235,7 +237,7 @@ fn room_of(application: Option<&StoredApplication>) -> (u16, Schema)
 {
     match application {
         Some(application) => {
-            let schema = application.row.local_schema;
+            let schema = application.row.get().local_schema;
             (entries_within(schema), schema)
         }
         None => {

@@ -7,8 +7,9 @@ ghost use Rattle.teal_value.specs.declared.address.Address.{Address};
 ghost use Rattle.avm_states.specs.Entries.{Entries, with_entry, without_entry};
 ghost use Rattle.avm_ledger.specs.Ledgers.{IsInOrder, IsOrderly, application_at, global_value, local_state_at, with_application, with_local_state, with_row, with_state, without_application, without_local_state};
 
-use crate::application::{Application, StoredApplication};
+use crate::application::StoredApplication;
 use crate::ledger::Ledger;
+use crate::shared_application::SharedApplication;
 use avm_states::State;
 use std::alloc::{AllocError, Global};
 use std::collections::BTreeMap;
@@ -91,8 +92,8 @@ impl OpenLedger {
         &mut self,
         alloc: Global,
         id: u64,
-        row: Application,
-    ) -> Result<Option<Application>, AllocError>
+        row: SharedApplication,
+    ) -> Result<Option<SharedApplication>, AllocError>
         ensures old { IfOk result (λ old. old ≡ option_map (λ app. app.row) (application_at self.old id)) }
         ensures set { IfOk result (λ _. self.new ≡ with_application self.old id (with_row (application_at self.old id) row)) }
         ensures unchanged { IfErr result (λ _. self.new ≡ self.old) }

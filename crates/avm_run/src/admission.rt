@@ -12,7 +12,7 @@ ghost use Rattle.avm_run.specs.Tests.{HasRoom, IsAdmitted, Tests};
 
 use avm_call::{Call, Why};
 use avm_items::{CallData, Completion, Item, ItemMap, ItemValue};
-use avm_ledger::Application;
+use avm_ledger::SharedApplication;
 use avm_states::{EntryCounts, State};
 use std::alloc::{AllocError, Global};
 
@@ -41,7 +41,7 @@ impl From<AllocError> for AdmissionStop {
 #[derive(Drop)]
 pub(crate) struct Admitted {
     pub id: u64,
-    pub row: Option<Application>,
+    pub row: Option<SharedApplication>,
 }
 
 /// The item that a call asks for first.
@@ -65,8 +65,8 @@ fn next_id(items: &ItemMap) -> Result<u64, AdmissionStop>
     }
 }
 
-/// An application without its state, where it stands. Its programs are shared.
-fn application(items: &ItemMap, id: u64) -> Result<Option<Application>, AdmissionStop>
+/// An application without its state, where it stands.
+fn application(items: &ItemMap, id: u64) -> Result<Option<SharedApplication>, AdmissionStop>
     ensures { Tests result (answer_from (value_in items.now) (reads application_in (item.App id))) }
 {
     let app = Item::App(id);
@@ -96,7 +96,7 @@ fn is_opted_in(call: &CallData, items: &ItemMap, id: u64) -> Result<bool, Admiss
 }
 
 /// The application that a creation makes.
-fn new_target(call: &Call, items: &ItemMap) -> Result<Admitted, AdmissionStop>
+fn new_target(alloc: Global, call: &Call, items: &ItemMap) -> Result<Admitted, AdmissionStop>
     requires { creates call.now ≡ true }
     ensures tests { IsAdmitted result (answer_from (value_in items.now) (new_target call.now)) }
     ensures room { IfOk result (λ t. t.id < 2 ^ 64 - 1) }
@@ -105,7 +105,7 @@ fn new_target(call: &Call, items: &ItemMap) -> Result<Admitted, AdmissionStop>
     if id == u64::MAX {
         return Err(AdmissionStop::Refused(Why::IdsEnd));
     }
-    let row = call.created()?;
+    let row = call.created(alloc)?;
     Ok(Admitted { id, row: Some(row) })
 }
 
@@ -145,23 +145,23 @@ fn test_opt_in(call: &CallData, items: &ItemMap, id: u64) -> Result<(), Admissio
 }
 
 /// The application of a call.
-fn target_of(call: &Call, items: &ItemMap) -> Result<Admitted, AdmissionStop>
+fn target_of(alloc: Global, call: &Call, items: &ItemMap) -> Result<Admitted, AdmissionStop>
     ensures tests { IsAdmitted result (answer_from (value_in items.now) (target call.now)) }
     ensures room { IfOk result (λ t. HasRoom call.now t.id) }
 {
     if call.fields().application == 0 {
-        new_target(call, items)
+        new_target(alloc, call, items)
     } else {
         called_target(call, items)
     }
 }
 
 /// The tests before a call's program.
-pub(crate) fn admit(call: &Call, items: &ItemMap) -> Result<Admitted, AdmissionStop>
+pub(crate) fn admit(alloc: Global, call: &Call, items: &ItemMap) -> Result<Admitted, AdmissionStop>
     ensures tests { IsAdmitted result (answer_from (value_in items.now) (admitted call.now)) }
     ensures room { IfOk result (λ t. HasRoom call.now t.id) }
 {
-    let admitted = target_of(call, items)?;
+    let admitted = target_of(alloc, call, items)?;
     match test_opt_in(call.fields(), items, admitted.id) {
         Ok(()) => Ok(admitted),
         Err(halt) => Err(halt),
@@ -174,7 +174,7 @@ fn new_application(alloc: Global, call: &Call, id: u64) -> Result<ItemMap, Alloc
     requires room { id < 2 ^ 64 - 1 }
     ensures { IfOk result (λ writes. writes ≡ new_application call.now id) }
 {
-    let row = call.created()?;
+    let row = call.created(alloc)?;
     let mut writes = ItemMap::new(alloc);
     writes.insert(Item::NextApp, ItemValue::NextApp(id + 1))?;
     writes.insert(Item::App(id), ItemValue::App(row))?;

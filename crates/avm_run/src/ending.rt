@@ -17,6 +17,7 @@ pub(crate) struct Ending {
 
 /// What an approved call writes beside what its program wrote.
 fn completed(
+    alloc: Global,
     call: &Call,
     id: u64,
     row: &Application,
@@ -32,7 +33,7 @@ fn completed(
             writes.insert(Item::Local(fields.sender, id), ItemValue::Absent)?;
         }
         Completion::UpdateApplication => {
-            let row = call.updated(row.clone()?)?;
+            let row = call.updated(alloc, row)?;
             writes.insert(Item::App(id), ItemValue::App(row))?;
         }
         Completion::DeleteApplication => {
@@ -86,7 +87,7 @@ pub(crate) fn end_call(
     match ended {
         Ended::Approved => Ok(Ending {
             outcome: Outcome::Approved,
-            writes: completed(call, id, row, writes)?,
+            writes: completed(alloc, call, id, row, writes)?,
         }),
         Ended::Rejected if clears => cleared(alloc, call, id, Cause::Rejected),
         Ended::Rejected => Ok(without_writes(alloc, Outcome::Rejected)),

@@ -104,6 +104,7 @@ fn keeps_programs(value: &ItemValue)
     ensures { IsTrue (has_programs value.now) }
 {
     if let ItemValue::App(row) = value {
+        let row = row.get();
         let _approval = row.approval.program();
         let _clear = row.clear.program();
     }
@@ -171,7 +172,7 @@ fn run_tests(
 ) -> Result<AdmissionOutcome, AllocError>
     ensures { IfOk result (λ tested. TestsTo call.now header.now items tested) }
 {
-    match admit(call, &items) {
+    match admit(alloc, call, &items) {
         Ok(Admitted { id, row: Some(row) }) => {
             let running = start_program(alloc, call, header, items, id, row, spare)?;
             Ok(AdmissionOutcome::Begins(running))
@@ -305,7 +306,7 @@ fn ended_run(
     let empty = Env::new(alloc, call.shared_fields()?, *header, id);
     let env = mem::replace(&mut running.env, empty);
     let (reads, writes) = env.into_items();
-    let end = end_call(alloc, call, id, &running.row, writes, ended)?;
+    let end = end_call(alloc, call, id, running.row.get(), writes, ended)?;
     Ok(EndedRun {
         reads,
         writes: end.writes,

@@ -50,7 +50,7 @@ fn global_value(alloc: Global, env: &Env, field: GlobalField) -> Result<Value, S
         GlobalField::LatestTimestamp => Ok(Value::Uint(header.latest_timestamp)),
         GlobalField::CurrentApplicationId => Ok(Value::Uint(env.current())),
         GlobalField::CreatorAddress => match known(alloc, env, &Item::App(env.current()))? {
-            ItemValue::App(row) => Ok(bytes_value(alloc, &row.creator.0)?),
+            ItemValue::App(row) => Ok(bytes_value(alloc, &row.get().creator.0)?),
             _ => Ok(bytes_value(alloc, &ZERO_ADDRESS)?),
         },
     }

@@ -36,7 +36,7 @@ pub(crate) fn application<'a>(
     ensures { Answers option_copied result (answer_from (known_to env.now) (application id)) }
 {
     match known(alloc, env, &Item::App(id))? {
-        ItemValue::App(row) => Ok(Some(row)),
+        ItemValue::App(row) => Ok(Some(row.get())),
         _ => Ok(None),
     }
 }

@@ -51,7 +51,7 @@ fn has_row(ledger: &Ledger) -> bool {
         None => false,
     };
     match ledger.application(1) {
-        Some(row) => uint && row.local_schema == Schema { uints: 0, bytes: 1 },
+        Some(row) => uint && row.get().local_schema == Schema { uints: 0, bytes: 1 },
         None => false,
     }
 }

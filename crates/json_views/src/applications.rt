@@ -50,7 +50,7 @@ fn put_params(
 ) -> Result<(), AllocError>
     ensures { OnOk result (Adds out.old out.new (json_tokens (shown_params application.now))) }
 {
-    let row = &application.row;
+    let row = application.row.get();
     begin_object(out)?;
     put_base64_member(alloc, out, "approval-program", row.approval.as_slice())?;
     put_base64_member(alloc, out, "clear-state-program", row.clear.as_slice())?;
