@@ -17,7 +17,7 @@ use Rattle.avm_ledger.specs.Ledgers.{Ledger, account_cmp, application_at, local_
 use Rattle.avm_ledger.specs.LedgerReader.{local_room, room_of_schema}
 use Rattle.avm_ledger.specs.LedgerRules.{IsApplicationBelow, IsLocalStateBelow, KeepsRules}
 use Rattle.avm_ledger.proofs.Changes.{account_same, account_total}
-use Rattle.sorted_entries.proofs.Maps.{sorted-inserted}
+use Rattle.avm_states.proofs.Maps.{sorted-inserted}
 use Rattle.avm_rule_laws.specs.Rules.{AreBytes}
 use Rattle.json.specs.Json.{Json}
 use Rattle.json_fields.specs.declared.what.What.TheVariants.{Differs, IdRange}

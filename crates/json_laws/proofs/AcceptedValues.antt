@@ -25,7 +25,7 @@ use Rattle.avm_states.specs.declared.schema.Schema.{Schema}
 use Rattle.avm_states.specs.Entries.{Entries, IsInKeyOrder, byte_cmp, most_value_bytes, value_of_key, with_entry}
 use Rattle.avm_states.specs.Schemas.{counts_in, is_within, no_entries}
 use Rattle.avm_states.proofs.KeyOrder.{byte_same, byte_total}
-use Rattle.sorted_entries.proofs.Maps.{sorted-inserted}
+use Rattle.avm_states.proofs.Maps.{sorted-inserted}
 use Rattle.avm_ledger.specs.LedgerReader.{Room}
 use Rattle.avm_ledger.specs.LedgerRules.{IsStateValue, IsStateEntry, IsStateIn}
 use Rattle.avm_rule_laws.specs.Rules.{AreBytes}

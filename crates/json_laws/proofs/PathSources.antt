@@ -6,7 +6,7 @@ use Rattle.std.specs.Ordering.{is_eq, nat_cmp}
 use Rattle.std.specs.FinMap.{nat_cmp-IsAntisymmetric}
 use Rattle.std.proofs.lemmas.Bool.{true≢false}
 use Rattle.std.proofs.lemmas.Cmp.{nat_cmp_total}
-use Rattle.sorted_entries.proofs.Maps.{is_Equal, lookup-inserted_other}
+use Rattle.avm_states.proofs.Maps.{is_Equal, lookup-inserted_other}
 use Rattle.std.specs.Str.{bytes_eq}
 use Rattle.teal_value.specs.Answer.{◌>>=◌}
 use Rattle.teal_source.specs.declared.fault.AsmFault.{AsmFault}

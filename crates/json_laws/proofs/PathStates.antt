@@ -8,7 +8,7 @@ use Rattle.teal_value.specs.declared.value.Value.{Value}
 use Rattle.teal_value.specs.declared.value.Value.TheVariants.{Uint, Bytes}
 use Rattle.teal_check.specs.declared.fault.CheckFault.{CheckFault}
 use Rattle.teal_check.specs.WellFormed.{WellFormed, checked}
-use Rattle.sorted_entries.proofs.Maps.{is_Equal, lookup-inserted_other}
+use Rattle.avm_states.proofs.Maps.{is_Equal, lookup-inserted_other}
 use Rattle.avm_states.proofs.KeyOrder.{byte_same, byte_total}
 use Rattle.avm_states.specs.Entries.{Entries, byte_cmp, most_value_bytes, value_of_key, with_entry}
 use Rattle.avm_states.specs.Schemas.{counts_in, is_within}

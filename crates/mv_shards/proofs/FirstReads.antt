@@ -5,7 +5,7 @@ use Rattle.std.specs.Ordering.{is_eq}
 use Rattle.std.specs.Map.{lookup}
 use Rattle.std.specs.BTreeMap.{is_at}
 use Rattle.avm_ledger.specs.Ledgers.{Ledger}
-use Rattle.sorted_entries.proofs.Maps.{same_map, sorted-inserted}
+use Rattle.avm_states.proofs.Maps.{same_map, sorted-inserted}
 use Rattle.avm_items.specs.declared.item.Item.{Item}
 use Rattle.avm_items.specs.declared.item_value.ItemValue.{ItemValue}
 use Rattle.avm_items.specs.Items.{item_cmp, value_in}

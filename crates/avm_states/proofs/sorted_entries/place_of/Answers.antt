@@ -1,7 +1,7 @@
 use Rattle.std.proofs.Common.{rules, of_calls}
 use Rattle.std.proofs.lemmas.Fn.{always_returns_same}
-use Rattle.sorted_entries.proofs.Places.{searched}
-use Rattle.sorted_entries.proofs.place_of.Goals as goal
+use Rattle.avm_states.proofs.Places.{searched}
+use Rattle.avm_states.proofs.sorted_entries.place_of.Goals as goal
 
 pub returns : goal.returns
 returns g c =

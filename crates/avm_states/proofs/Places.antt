@@ -9,7 +9,7 @@ use Rattle.std.specs.List.Sorted.{IsBinarySearchResult, IsSearchInRange, IsStric
 use Rattle.std.specs.Map.{keys_of, lookup, remove_entry}
 use Rattle.std.specs.BTreeMap.{insert_entry, is_at}
 use Rattle.std.proofs.lemmas.List.Sorted.{searchable_from_sorted}
-use Rattle.sorted_entries.specs.Places.{IsPlaceOf, StandsAt, WouldGoTo}
+use Rattle.avm_states.specs.Places.{IsPlaceOf, StandsAt, WouldGoTo}
 
 module _ {K : Type 0} {R : K → K → Ordering} (o : IsTotalOrder R) where
   turned : (x k : K) (r : Ordering) → R x k ≡ r → R k x ≡ ordering_reverse r

@@ -2,14 +2,13 @@
 //!
 //! They serve maps of few entries: a list takes one piece of memory of its own size, which is read from its front to its
 //! back, where a tree takes a node of a fixed size and more for the first entry. A new entry moves those behind it.
-#![tactic(auto)]
 
 ghost use Rattle.std.specs.Prelude.{◌≡◌, ◌+◌, ◌≤◌, None, IfErr, IfOk, if◌then◌else◌, is_some, length};
 ghost use Rattle.std.specs.Option.{option_copied};
 ghost use Rattle.std.specs.Map.{keys_of, lookup, remove_entry};
 ghost use Rattle.std.specs.BTreeMap.{insert_entry, is_at};
 ghost use Rattle.std.specs.List.Sorted.{IsStrictlySortedBy};
-ghost use Rattle.sorted_entries.specs.Places.{IsPlaceOf};
+ghost use Rattle.avm_states.specs.Places.{IsPlaceOf};
 
 use std::alloc::AllocError;
 use std::mem;
