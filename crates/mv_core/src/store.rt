@@ -8,7 +8,7 @@ ghost use Rattle.avm_laws.specs.LedgerLooks.{IsOfLedger};
 ghost use Rattle.mv_history.specs.History.{entries_below};
 ghost use Rattle.mv_history.specs.Schedule.{IsConsistentWorld};
 ghost use Rattle.mv_history.specs.World.{after_abandon, after_begin};
-ghost use Rattle.mv_agreement.specs.Stores.{HoldEntries};
+ghost use Rattle.mv_chain.specs.Stores.{HoldEntries};
 ghost use Rattle.mv_calls.specs.CallHistory.{meaning_of, same_item};
 ghost use Rattle.mv_calls.specs.CallNumbers.{call_of};
 ghost use Rattle.mv_calls.specs.SerialCalls.{AreSerialCalls, ledger_of};

@@ -11,7 +11,7 @@ use Rattle.avm_items.specs.declared.item_value.ItemValue.{ItemValue}
 use Rattle.avm_items.specs.Items.{item_cmp, value_in}
 use Rattle.avm_items.specs.LedgerItems.{at}
 use Rattle.avm_items.proofs.Puts.{item_same, item_total}
-use Rattle.mv_chain.specs.declared.Version.{Version}
+use Rattle.mv_chain.specs.declared.chain.Version.{Version}
 use Rattle.mv_chain.specs.Versions.{newest_at, oldest_timestamp, versions_read_at}
 use Rattle.mv_shards.specs.Attempts.{CallAttempt}
 use Rattle.mv_shards.specs.Chains.{versions_in, versions_or, with_versions}
