@@ -31,11 +31,11 @@ use Rattle.mv_history.proofs.Versions.{all_with, next_below}
 use Rattle.mv_chain.specs.Stores.{IsStore, after_entry, marks_of}
 use Rattle.mv_chain.proofs.Agreements.{every_write_follows_the_version_below_lem, no_version_is_at_a_fresh_timestamp_lem}
 use Rattle.mv_chain.proofs.Stores.{every_commit_leaves_a_store_lem}
-use Rattle.mv_calls.specs.CallHistory.{CallAttempt, CallEntry, CallWorld, meaning_of, same_item}
-use Rattle.mv_calls.specs.CallNumbers.{call_of}
-use Rattle.mv_calls.specs.Laws.{entry_of}
-use Rattle.mv_calls.proofs.Histories.{finished_calls_are_entries}
-use Rattle.mv_calls.proofs.SerialCalls.{items_have_an_equality}
+use Rattle.mv_parts.specs.CallHistory.{CallAttempt, CallEntry, CallWorld, meaning_of, same_item}
+use Rattle.mv_parts.specs.CallNumbers.{call_of}
+use Rattle.mv_parts.specs.CallLaws.{entry_of}
+use Rattle.mv_parts.proofs.Histories.{finished_calls_are_entries}
+use Rattle.mv_parts.proofs.SerialCalls.{items_have_an_equality}
 use Rattle.mv_shards.specs.Indexes.{shard_of}
 use Rattle.mv_shards.specs.Helds.{ShardSlots}
 use Rattle.mv_shards.specs.Shards.{Shard, versions_held}

@@ -26,8 +26,8 @@ use Rattle.mv_history.proofs.SameWorlds.{version_below-monotone}
 use Rattle.mv_history.proofs.Worlds.{greatest_mark-push}
 use Rattle.mv_chain.specs.Stores.{IsStore, KeepsMarksFrom, marks_of}
 use Rattle.mv_chain.proofs.Stores.{every_prune_leaves_a_store_lem, every_read_leaves_a_store_lem}
-use Rattle.mv_calls.specs.CallHistory.{CallAttempt, CallWorld, meaning_of, same_item}
-use Rattle.mv_calls.proofs.SerialCalls.{items_have_an_equality}
+use Rattle.mv_parts.specs.CallHistory.{CallAttempt, CallWorld, meaning_of, same_item}
+use Rattle.mv_parts.proofs.SerialCalls.{items_have_an_equality}
 use Rattle.mv_shards.specs.Indexes.{shard_count, shard_of}
 use Rattle.mv_shards.specs.Chains.{with_versions}
 use Rattle.mv_shards.specs.Shards.{Shard, versions_held}

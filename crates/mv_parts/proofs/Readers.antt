@@ -24,8 +24,8 @@ use Rattle.mv_chain.specs.Agreement.{HoldsVersions}
 use Rattle.mv_chain.specs.Stores.{HoldEntries, after_entry, marked_where, written_where}
 use Rattle.mv_chain.proofs.Agreements.{every_read_keeps_agreement_lem, no_version_is_at_a_fresh_timestamp_lem}
 use Rattle.mv_chain.proofs.Stores.{reads_found}
-use Rattle.mv_calls.specs.CallHistory.{CallEntry, same_item}
-use Rattle.mv_calls.proofs.SerialCalls.{items_have_an_equality}
+use Rattle.mv_parts.specs.CallHistory.{CallEntry, same_item}
+use Rattle.mv_parts.proofs.SerialCalls.{items_have_an_equality}
 use Rattle.mv_parts.specs.Commits.{version_followed}
 use Rattle.mv_parts.specs.Journals.{AreMarkedByEntries, greatest_among, greatest_reader, has_read, version_read}
 

@@ -16,9 +16,9 @@ use Rattle.avm_laws.specs.LedgerLooks.{IsLookOf, IsOfLedger}
 use Rattle.mv_history.specs.History.{IsRising, commit_count, entries_below, state_below}
 use Rattle.mv_history.specs.Schedule.{IsConsistent}
 use Rattle.mv_history.specs.World.{AllApply, Applies, Begin, after_event, after_events, first_world, live_count}
-use Rattle.mv_calls.specs.CallHistory.{CallEntry, CallEvent, CallWorld, calls_made, meaning_of, same_item}
-use Rattle.mv_calls.specs.CallNumbers.{call_of}
-use Rattle.mv_calls.specs.EntryWrites.{ledger_with}
+use Rattle.mv_parts.specs.CallHistory.{CallEntry, CallEvent, CallWorld, calls_made, meaning_of, same_item}
+use Rattle.mv_parts.specs.CallNumbers.{call_of}
+use Rattle.mv_parts.specs.EntryWrites.{ledger_with}
 
 -- what begins is one of the calls
 abbrev pub BeginsACall : List CallData → CallEvent → Type 0

@@ -23,8 +23,8 @@ use Rattle.avm_laws.proofs.LedgerLooks.{calls_are_the_ledgers}
 use Rattle.avm_laws.proofs.ReadCalls.{pruned_alike}
 use Rattle.avm_laws.proofs.Pruned.{are_changes}
 use Rattle.mv_history.specs.History.{lookup_after}
-use Rattle.mv_calls.specs.CallHistory.{same_item}
-use Rattle.mv_calls.specs.Laws.{LeavesLookup}
+use Rattle.mv_parts.specs.CallHistory.{same_item}
+use Rattle.mv_parts.specs.CallLaws.{LeavesLookup}
 
 -- ---- an application that was deleted stays gone
 

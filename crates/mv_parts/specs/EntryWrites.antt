@@ -2,7 +2,7 @@
 use Rattle.std.specs.Prelude.{List, [], ◌∷◌}
 use Rattle.avm_ledger.specs.Ledgers.{Ledger}
 use Rattle.avm_items.specs.LedgerItems.{put}
-use Rattle.mv_calls.specs.CallHistory.{CallEntry}
+use Rattle.mv_parts.specs.CallHistory.{CallEntry}
 
 -- the entries' writes, put into a ledger one entry after another
 abbrev pub ledger_with : Ledger → List CallEntry → Ledger

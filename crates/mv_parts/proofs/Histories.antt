@@ -17,11 +17,11 @@ use Rattle.avm_run.proofs.FinishedCalls.{on_ledgers}
 use Rattle.avm_laws.proofs.Given.{item_same}
 use Rattle.mv_history.specs.History as history
 use Rattle.mv_history.specs.History.{Agrees, Replays, lookup_after, state_after}
-use Rattle.mv_calls.specs.CallHistory.{CallEntry, meaning_of, result_in, same_item}
-use Rattle.mv_calls.specs.CallNumbers.{call_of}
-use Rattle.mv_calls.specs.Laws.{AreCallsOf, IsReplayOf, entry_of}
-use Rattle.mv_calls.specs.EntryWrites.{ledger_with}
-use Rattle.mv_calls.proofs.LookupsAfter.{calls_leave_lookups}
+use Rattle.mv_parts.specs.CallHistory.{CallEntry, meaning_of, result_in, same_item}
+use Rattle.mv_parts.specs.CallNumbers.{call_of}
+use Rattle.mv_parts.specs.CallLaws.{AreCallsOf, IsReplayOf, entry_of}
+use Rattle.mv_parts.specs.EntryWrites.{ledger_with}
+use Rattle.mv_parts.proofs.LookupsAfter.{calls_leave_lookups}
 
 -- ---- what was read of a look-up
 

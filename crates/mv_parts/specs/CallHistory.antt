@@ -13,7 +13,7 @@ use Rattle.avm_call.specs.declared.outcome.Outcome.TheVariants as outcome
 use Rattle.avm_call.specs.Calls.{CallResult, call_result}
 use Rattle.mv_history.specs.History.{Entry, CallMeaning}
 use Rattle.mv_history.specs.World.{Attempt, Event, World}
-use Rattle.mv_calls.specs.CallNumbers.{call_of}
+use Rattle.mv_parts.specs.CallNumbers.{call_of}
 
 -- the test of items
 abbrev pub same_item : Item → Item → Bool

@@ -1,17 +1,16 @@
 //! The order theorem for calls on a ledger: whatever attempts begin, read, commit, abandon and prune, the committed
 //! calls, made one after another by rising timestamp, are a replay by the definition of a call. The statement and
 //! what it needs stand in specs/SerialCalls.antt. It takes the theorem of mv_history at the items, values and
-//! outcomes of ledgers (specs/CallHistory.antt), with the laws of calls over look-ups of a ledger (specs/Laws.antt).
+//! outcomes of ledgers (specs/CallHistory.antt), with the laws of calls over look-ups of a ledger (specs/CallLaws.antt).
 //! Each function is a law and does no work.
-#![tactic(auto)]
 
 ghost use Rattle.avm_items.specs.declared.item.Item.{Item as ItemOf};
 ghost use Rattle.avm_items.specs.declared.item_value.ItemValue.{ItemValue as ValueOf};
 ghost use Rattle.avm_call.specs.declared.outcome.Outcome.{Outcome as OutcomeOf};
 ghost use Rattle.avm_laws.specs.LedgerLooks.{IsOfLedger};
 ghost use Rattle.mv_history.specs.Serial.{EveryInterleavingIsSerial};
-ghost use Rattle.mv_calls.specs.Laws.{CallsLeaveLookups, FinishedCallsAreEntries, HistoriesAreReplays, ItemsHaveAnEquality};
-ghost use Rattle.mv_calls.specs.SerialCalls.{EveryConsistentWorldOfCallsIsSerial, EveryEventOfCallsLeadsOn, EveryInterleavingOfCallsIsSerial};
+ghost use Rattle.mv_parts.specs.CallLaws.{CallsLeaveLookups, FinishedCallsAreEntries, HistoriesAreReplays, ItemsHaveAnEquality};
+ghost use Rattle.mv_parts.specs.SerialCalls.{EveryConsistentWorldOfCallsIsSerial, EveryEventOfCallsLeadsOn, EveryInterleavingOfCallsIsSerial};
 
 use avm_call::Outcome;
 use avm_items::{Item, ItemValue};

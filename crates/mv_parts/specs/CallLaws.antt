@@ -10,9 +10,9 @@ use Rattle.avm_laws.specs.LedgerLooks.{IsLookOf, IsOfLedger}
 use Rattle.avm_run.specs.Results.{CallRecord, IsFinishedCall}
 use Rattle.mv_history.specs.History as history
 use Rattle.mv_history.specs.History.{IsEquality, lookup_after, Replays, state_after}
-use Rattle.mv_calls.specs.CallHistory.{CallEntry, same_item, result_in, meaning_of}
-use Rattle.mv_calls.specs.CallNumbers.{call_of}
-use Rattle.mv_calls.specs.EntryWrites.{ledger_with}
+use Rattle.mv_parts.specs.CallHistory.{CallEntry, same_item, result_in, meaning_of}
+use Rattle.mv_parts.specs.CallNumbers.{call_of}
+use Rattle.mv_parts.specs.EntryWrites.{ledger_with}
 
 -- the test of items says exactly which are the same
 abbrev pub ItemsHaveAnEquality : Type 0

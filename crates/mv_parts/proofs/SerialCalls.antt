@@ -24,11 +24,11 @@ use Rattle.mv_history.proofs.Lists.{Compared, less, not_less, compared, all_map,
 use Rattle.mv_history.proofs.Replay.{none_left}
 use Rattle.mv_history.proofs.Versions.{all_with}
 use Rattle.mv_history.proofs.Worlds.{after_events-push, all_apply-push}
-use Rattle.mv_calls.specs.CallHistory.{CallAttempt, CallEntry, CallEvent, CallWorld, calls_made, meaning_of, same_item, with_call}
-use Rattle.mv_calls.specs.CallNumbers.{call_of}
-use Rattle.mv_calls.specs.Laws.{AreCallsOf, IsReplayOf, ItemsHaveAnEquality}
-use Rattle.mv_calls.specs.SerialCalls.{AreOfCalls, AreSerialCalls, BeginsACall, EveryConsistentWorldOfCallsIsSerial, EveryEventOfCallsLeadsOn, EveryInterleavingOfCallsIsSerial, ledger_of}
-use Rattle.mv_calls.proofs.Histories.{histories_are_replays, reads_agree}
+use Rattle.mv_parts.specs.CallHistory.{CallAttempt, CallEntry, CallEvent, CallWorld, calls_made, meaning_of, same_item, with_call}
+use Rattle.mv_parts.specs.CallNumbers.{call_of}
+use Rattle.mv_parts.specs.CallLaws.{AreCallsOf, IsReplayOf, ItemsHaveAnEquality}
+use Rattle.mv_parts.specs.SerialCalls.{AreOfCalls, AreSerialCalls, BeginsACall, EveryConsistentWorldOfCallsIsSerial, EveryEventOfCallsLeadsOn, EveryInterleavingOfCallsIsSerial, ledger_of}
+use Rattle.mv_parts.proofs.Histories.{histories_are_replays, reads_agree}
 
 pub items_have_an_equality : ItemsHaveAnEquality
 items_have_an_equality = record { itself = λ x. ap is_eq (tied_itself item_total x); exact = λ x y e. item_same x y e }
