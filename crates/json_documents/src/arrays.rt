@@ -5,8 +5,8 @@ ghost use Rattle.std.specs.Option.{option_map};
 ghost use Rattle.json.specs.Find.{as_array};
 ghost use Rattle.teal_value.specs.Answer.{Gives};
 ghost use Rattle.json.specs.Value.{items_view, value_view};
-ghost use Rattle.json_fields.specs.Arrays.{each, gathered};
-ghost use Rattle.json_fields.specs.Members.{optional};
+ghost use Rattle.json_documents.specs.Arrays.{each, gathered};
+ghost use Rattle.json_documents.specs.Members.{optional};
 
 use crate::fault::{Fault, FieldError, in_item, in_member};
 use crate::members::member;
@@ -21,7 +21,7 @@ pub trait Gather {
 
     ghost use Rattle.std.specs.Prelude.{Result};
     ghost use Rattle.json.specs.Json.{Json};
-    ghost use Rattle.json_fields.specs.Faults.{Fault as ShownFault};
+    ghost use Rattle.json_documents.specs.Faults.{Fault as ShownFault};
 
     ghost adding: { Self → Self.Gathered → Json → Result Self.Gathered ShownFault };
 

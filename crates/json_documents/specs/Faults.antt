@@ -2,8 +2,8 @@
 use Rattle.std.specs.Prelude.{◌≡◌, ℕ, List, [], ◌∷◌, ◌++◌, Option, Some, None, Result, Ok, Err}
 use Rattle.teal_value.specs.declared.failure.Failure.{Failure}
 use Rattle.teal_value.specs.declared.failure.Failure.TheVariants as failure
-use Rattle.json_fields.specs.declared.what.What.{What}
-use Rattle.json_fields.specs.Steps.{Step}
+use Rattle.json_documents.specs.declared.what.What.{What}
+use Rattle.json_documents.specs.Steps.{Step}
 
 -- what is wrong with a value, and the steps to it from the document, the last one first
 pub record Fault : Type 0 where

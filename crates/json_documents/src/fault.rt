@@ -2,9 +2,9 @@
 
 ghost use Rattle.std.specs.Prelude.{◌≡◌, ◌++◌, IfOk, OnOk, string_bytes};
 ghost use Rattle.teal_value.specs.declared.failure.Failure.TheVariants as failure;
-ghost use Rattle.json_fields.specs.Faults.{IsFurther, here};
-ghost use Rattle.json_fields.specs.Shown.{step_shown};
-ghost use Rattle.json_fields.specs.Steps.{at_index, at_name, path_text, step_text};
+ghost use Rattle.json_documents.specs.Faults.{IsFurther, here};
+ghost use Rattle.json_documents.specs.ShownSteps.{step_shown};
+ghost use Rattle.json_documents.specs.Steps.{at_index, at_name, path_text, step_text};
 
 use crate::step::Step;
 use crate::what::What;
@@ -20,11 +20,11 @@ pub struct Fault {
 }
 
 impl Model for Fault {
-    ghost use Rattle.json_fields.specs.Faults.{Fault as ShownFault};
+    ghost use Rattle.json_documents.specs.Faults.{Fault as ShownFault};
 
     ghost Value = { ShownFault };
 
-    ghost use Rattle.json_fields.specs.Shown.{steps_shown};
+    ghost use Rattle.json_documents.specs.ShownSteps.{steps_shown};
 
     ghost view = { λ f. record { path = steps_shown f.path.items; what = f.what } };
 }

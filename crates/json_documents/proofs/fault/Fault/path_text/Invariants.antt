@@ -1,7 +1,7 @@
 use Rattle.std.proofs.Common.{◌≡◌, ◌≤◌, length, drop, string_bytes}
-use Rattle.json_fields.specs.Shown.{steps_shown}
-use Rattle.json_fields.specs.Steps.{path_text}
-use Rattle.json_fields.proofs.fault.Fault.path_text.Given as goal
+use Rattle.json_documents.specs.ShownSteps.{steps_shown}
+use Rattle.json_documents.specs.Steps.{path_text}
+use Rattle.json_documents.proofs.fault.Fault.path_text.Given as goal
 
 -- the text is that of the steps from here on
 abbrev pub invariant-loop-left : goal.invariant-loop-left

@@ -11,9 +11,9 @@ use Rattle.teal_value.specs.declared.address_spelling.AddressFault.TheVariants a
 use Rattle.teal_text.specs.Numbers.{number_of}
 use Rattle.json.specs.Json.{Json}
 use Rattle.json.specs.Find.{as_number, as_str}
-use Rattle.json_fields.specs.declared.what.What.{What}
-use Rattle.json_fields.specs.declared.what.What.TheVariants.{NotUint, NotText, BadBase64, BadAddress, BadChecksum}
-use Rattle.json_fields.specs.Faults.{Fault, here, or_else_fault}
+use Rattle.json_documents.specs.declared.what.What.{What}
+use Rattle.json_documents.specs.declared.what.What.TheVariants.{NotUint, NotText, BadBase64, BadAddress, BadChecksum}
+use Rattle.json_documents.specs.Faults.{Fault, here, or_else_fault}
 
 -- zeros stand in front, behind which source text has numbers of another base
 abbrev pub has_zero_in_front : List ℕ → Bool

@@ -5,8 +5,8 @@ ghost use Rattle.std.specs.Option.{option_map};
 ghost use Rattle.teal_value.specs.Answer.{Fails, Gives};
 ghost use Rattle.json.specs.Find.{as_object};
 ghost use Rattle.json.specs.Value.{members_view, value_view};
-ghost use Rattle.json_fields.specs.Members.{is_among, is_below, known, least_unknown, lesser, member, needed, optional, unless_unknown};
-ghost use Rattle.json_fields.specs.Shown.{names_shown};
+ghost use Rattle.json_documents.specs.Members.{is_among, is_below, known, least_unknown, lesser, member, needed, optional, unless_unknown};
+ghost use Rattle.json_documents.specs.ShownSteps.{names_shown};
 
 use crate::fault::{Fault, FieldError, in_member};
 use crate::text::Text;
@@ -24,7 +24,7 @@ pub trait Form {
     /// What a value means, or its first fault.
     ghost use Rattle.std.specs.Prelude.{Result};
     ghost use Rattle.json.specs.Json.{Json};
-    ghost use Rattle.json_fields.specs.Faults.{Fault as ShownFault};
+    ghost use Rattle.json_documents.specs.Faults.{Fault as ShownFault};
 
     ghost meaning: { Self → Json → Result Self.Read ShownFault };
 

@@ -1,9 +1,9 @@
 -- Steps of the program, without where their names lie in memory.
 use Rattle.std.specs.Prelude.{ℕ, List, map}
 use Rattle.std.specs.Borrow.{Bor}
-use Rattle.json_fields.specs.declared.step.Step.{Step as WrittenStep}
-use Rattle.json_fields.specs.declared.step.Step.TheVariants as written
-use Rattle.json_fields.specs.Steps.{Step, at_name, at_index}
+use Rattle.json_documents.specs.declared.step.Step.{Step as WrittenStep}
+use Rattle.json_documents.specs.declared.step.Step.TheVariants as written
+use Rattle.json_documents.specs.Steps.{Step, at_name, at_index}
 
 abbrev pub step_shown : WrittenStep → Step
 step_shown (written.Name name) = at_name name.now

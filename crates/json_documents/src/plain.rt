@@ -3,7 +3,7 @@
 ghost use Rattle.std.specs.Prelude.{◌≡◌};
 ghost use Rattle.teal_value.specs.Answer.{Gives};
 ghost use Rattle.json.specs.Value.{value_view};
-ghost use Rattle.json_fields.specs.Plain.{address, address_what, base64, bytes, decimal_of, text, uint};
+ghost use Rattle.json_documents.specs.Plain.{address, address_what, base64, bytes, decimal_of, text, uint};
 
 use crate::fault::{Fault, FieldError};
 use crate::members::Form;
@@ -23,7 +23,7 @@ pub struct Uint;
 impl Form for Uint {
     type Read = u64;
 
-    ghost use Rattle.json_fields.specs.Plain.{uint};
+    ghost use Rattle.json_documents.specs.Plain.{uint};
 
     ghost meaning = { λ _ j. uint j };
 
@@ -39,7 +39,7 @@ pub struct PlainText;
 impl Form for PlainText {
     type Read = Text;
 
-    ghost use Rattle.json_fields.specs.Plain.{text};
+    ghost use Rattle.json_documents.specs.Plain.{text};
 
     ghost meaning = { λ _ j. text j };
 
@@ -56,7 +56,7 @@ pub struct Bytes;
 impl Form for Bytes {
     type Read = ByteString;
 
-    ghost use Rattle.json_fields.specs.Plain.{bytes};
+    ghost use Rattle.json_documents.specs.Plain.{bytes};
 
     ghost meaning = { λ _ j. bytes j };
 
@@ -73,7 +73,7 @@ pub struct PlainAddress;
 impl Form for PlainAddress {
     type Read = Address;
 
-    ghost use Rattle.json_fields.specs.Plain.{address};
+    ghost use Rattle.json_documents.specs.Plain.{address};
 
     ghost meaning = { λ _ j. address j };
 

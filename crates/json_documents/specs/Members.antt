@@ -6,9 +6,9 @@ use Rattle.std.specs.Ordering.{nat_cmp, is_lt}
 use Rattle.std.specs.Cmp.Lexicographic.{slice_cmp}
 use Rattle.json.specs.Json.{Json, Members, no_members, member as member_of}
 use Rattle.json.specs.Find.{get, is_null, as_object}
-use Rattle.json_fields.specs.declared.what.What.TheVariants.{Missing, NotObject, Unknown}
-use Rattle.json_fields.specs.Steps.{at_name}
-use Rattle.json_fields.specs.Faults.{Fault, here, in_step}
+use Rattle.json_documents.specs.declared.what.What.TheVariants.{Missing, NotObject, Unknown}
+use Rattle.json_documents.specs.Steps.{at_name}
+use Rattle.json_documents.specs.Faults.{Fault, here, in_step}
 
 abbrev pub unless_null : Option Json → Option Json
 unless_null None = None

@@ -1,7 +1,7 @@
 use Rattle.std.proofs.Common.{◌≡◌, drop}
 use Rattle.json.specs.Value.{items_view}
-use Rattle.json_fields.specs.Arrays.{gathered}
-use Rattle.json_fields.proofs.arrays.gather_items.Given as goal
+use Rattle.json_documents.specs.Arrays.{gathered}
+use Rattle.json_documents.proofs.arrays.gather_items.Given as goal
 
 -- what is gathered so far goes on to all that is meant
 abbrev pub invariant-items : goal.invariant-items

@@ -1,7 +1,7 @@
 //! What documents are refused for.
 
 ghost use Rattle.std.specs.Prelude.{◌≡◌};
-ghost use Rattle.json_fields.specs.FaultNames.{what_name};
+ghost use Rattle.json_documents.specs.FaultNames.{what_name};
 
 use crate::text::Text;
 use teal_check::CheckFault;

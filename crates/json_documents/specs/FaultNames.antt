@@ -1,7 +1,7 @@
 -- The names of what documents are refused for.
 use Rattle.std.specs.Prelude.{ℕ, List, codes}
-use Rattle.json_fields.specs.declared.what.What.{What}
-use Rattle.json_fields.specs.declared.what.What.TheVariants as what
+use Rattle.json_documents.specs.declared.what.What.{What}
+use Rattle.json_documents.specs.declared.what.What.TheVariants as what
 
 abbrev pub what_name : What → List ℕ
 what_name what.Syntax = codes "Syntax"

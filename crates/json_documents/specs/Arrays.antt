@@ -3,9 +3,9 @@ use Rattle.std.specs.Prelude.{ℕ, ◌+◌, Option, Some, None, Result, Ok, Err}
 use Rattle.teal_value.specs.Answer.{◌>>=◌}
 use Rattle.json.specs.Json.{Json, Items, no_items, item}
 use Rattle.json.specs.Find.{as_array}
-use Rattle.json_fields.specs.declared.what.What.TheVariants.{NotArray}
-use Rattle.json_fields.specs.Steps.{at_index}
-use Rattle.json_fields.specs.Faults.{Fault, in_step, or_else_fault}
+use Rattle.json_documents.specs.declared.what.What.TheVariants.{NotArray}
+use Rattle.json_documents.specs.Steps.{at_index}
+use Rattle.json_documents.specs.Faults.{Fault, in_step, or_else_fault}
 
 -- each element in turn is added to what was gathered before it, from an index on
 unfoldable pub gathered : {A : Type 0} → (A → Json → Result A Fault) → ℕ → A → Items → Result A Fault

@@ -1,9 +1,9 @@
 use Rattle.std.proofs.Common.{◌≡◌, ◌≤◌, length, drop}
 use Rattle.std.specs.Option.{option_map}
 use Rattle.json.specs.Value.{members_view}
-use Rattle.json_fields.specs.Members.{least_unknown}
-use Rattle.json_fields.specs.Shown.{names_shown}
-use Rattle.json_fields.proofs.members.least_unknown.Given as goal
+use Rattle.json_documents.specs.Members.{least_unknown}
+use Rattle.json_documents.specs.ShownSteps.{names_shown}
+use Rattle.json_documents.proofs.members.least_unknown.Given as goal
 
 -- the name is the least of the members from here on
 abbrev pub invariant-loop-left : goal.invariant-loop-left
