@@ -4,8 +4,8 @@ use Rattle.std.specs.Prelude.{slice_get, option_map}
 use Rattle.avm_items.specs.declared.call_data.CallData.{CallData}
 use Rattle.avm_call.specs.Replay.{replayed}
 use Rattle.mv_history.specs.History.{IsRising, entries_below}
-use Rattle.mv_calls.specs.CallHistory.{CallEntry, calls_made}
-use Rattle.mv_calls.specs.CallNumbers.{call_of}
+use Rattle.mv_parts.specs.CallHistory.{CallEntry, calls_made}
+use Rattle.mv_parts.specs.CallNumbers.{call_of}
 use Rattle.avm_debug.specs.Laws.{LiveLedgersBeforeAreReplays}
 use Rattle.avm_debug.specs.LiveOpening.{call_of_entry, live_entry}
 

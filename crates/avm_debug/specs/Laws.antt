@@ -3,7 +3,7 @@ use Rattle.std.specs.Prelude.{◌≡◌, ℕ, ◌-◌, Some, take}
 use Rattle.avm_call.specs.Replay.{replayed}
 use Rattle.avm_items.specs.declared.call_data.CallData.{CallData}
 use Rattle.mv_history.specs.History.{IsRising}
-use Rattle.mv_calls.specs.CallHistory.{calls_made}
+use Rattle.mv_parts.specs.CallHistory.{calls_made}
 use Rattle.mv_core.specs.SeenStores.{Store}
 use Rattle.avm_debug.specs.LiveOpening.{ledger_of_store, met_live}
 

@@ -5,9 +5,9 @@ use Rattle.teal_value.specs.declared.failure.Failure.TheVariants as failure
 use Rattle.avm_ledger.specs.Ledgers.{Ledger}
 use Rattle.avm_items.specs.declared.call_data.CallData.{CallData}
 use Rattle.mv_history.specs.History.{entries_below}
-use Rattle.mv_calls.specs.CallHistory.{CallEntry}
-use Rattle.mv_calls.specs.CallNumbers.{call_of}
-use Rattle.mv_calls.specs.SerialCalls.{ledger_of}
+use Rattle.mv_parts.specs.CallHistory.{CallEntry}
+use Rattle.mv_parts.specs.CallNumbers.{call_of}
+use Rattle.mv_parts.specs.SerialCalls.{ledger_of}
 use Rattle.mv_core.specs.SeenStores.{Store}
 use Rattle.avm_stepper.specs.declared.faults.OpenFault.{OpenFault}
 use Rattle.avm_stepper.specs.declared.faults.OpenFault.TheVariants as fault

@@ -1,8 +1,8 @@
 -- The value of an item changed in place.
 use Rattle.std.proofs.Common.{◌≡◌, ◌∙◌, ℕ, Some, get_or, set, sym, ap, subst}
 use Rattle.avm_states.specs.Entries.{Entries}
-use Rattle.sorted_entries.proofs.Maps.{sorted-inserted}
-use Rattle.sorted_entries.specs.Places.{StandsAt}
+use Rattle.avm_states.proofs.Maps.{sorted-inserted}
+use Rattle.avm_states.specs.Places.{StandsAt}
 use Rattle.avm_items.specs.declared.item.Item.{Item}
 use Rattle.avm_items.specs.declared.item_value.ItemValue.{ItemValue}
 use Rattle.avm_items.specs.Items.{ItemMap, IsInItemOrder, item_cmp, value_in, with_item, local_changed, with_state_changed}

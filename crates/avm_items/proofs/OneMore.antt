@@ -3,7 +3,7 @@ use Rattle.std.proofs.Common.{◌≡◌, ◌+◌, Bool, true, false, cond, [], �
 use Rattle.std.specs.Ordering.{is_eq, match_ordering}
 use Rattle.std.specs.declared.cmp.Ordering.{Ordering}
 use Rattle.std.specs.declared.cmp.Ordering.TheVariants.{Less, Equal, Greater}
-use Rattle.sorted_entries.proofs.Maps.{is_Equal, lookup-inserted, lookup-inserted_other}
+use Rattle.avm_states.proofs.Maps.{is_Equal, lookup-inserted, lookup-inserted_other}
 use Rattle.avm_items.specs.declared.item.Item.{Item}
 use Rattle.avm_items.specs.declared.item_value.ItemValue.{ItemValue}
 use Rattle.avm_items.specs.Items.{ItemMap, Look, item_cmp, value_in, with_item}

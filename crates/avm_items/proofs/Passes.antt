@@ -16,7 +16,7 @@ use Rattle.avm_states.specs.Entries.{Entries, byte_cmp, with_entry, without_entr
 use Rattle.avm_ledger.specs.Ledgers.{Ledger, application_at, with_application, without_application, with_local_state, with_row, with_state, IsInOrder}
 use Rattle.avm_states.proofs.KeyOrder.{byte_same, byte_total}
 use Rattle.avm_ledger.proofs.Changes.{account_same, account_total}
-use Rattle.sorted_entries.proofs.Maps.{lookup-removed, is_Equal, insert-insert, remove-insert, remove-insert_same}
+use Rattle.avm_states.proofs.Maps.{lookup-removed, is_Equal, insert-insert, remove-insert, remove-insert_same}
 use Rattle.avm_items.specs.declared.item.Item.{Item}
 use Rattle.avm_items.specs.declared.item.Item.TheVariants as item
 use Rattle.avm_items.specs.declared.item_value.ItemValue.{ItemValue}

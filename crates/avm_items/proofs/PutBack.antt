@@ -13,7 +13,7 @@ use Rattle.avm_states.specs.Entries.{Entries, value_of_key, with_entry, without_
 use Rattle.avm_ledger.specs.Ledgers.{Ledger, application_at, global_value, local_state_at, with_application, with_local_state, with_row, with_state, IsInOrder}
 use Rattle.avm_states.proofs.KeyOrder.{byte_same, byte_total}
 use Rattle.avm_ledger.proofs.Changes.{account_same, account_total, set_application}
-use Rattle.sorted_entries.proofs.Maps.{lookup-inserted, insert-insert_same, insert_same, remove-insert_same, remove_absent}
+use Rattle.avm_states.proofs.Maps.{lookup-inserted, insert-insert_same, insert_same, remove-insert_same, remove_absent}
 use Rattle.avm_items.specs.declared.item.Item.{Item}
 use Rattle.avm_items.specs.declared.item.Item.TheVariants as item
 use Rattle.avm_items.specs.declared.item_value.ItemValue.{ItemValue}

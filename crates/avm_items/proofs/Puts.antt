@@ -17,7 +17,7 @@ use Rattle.avm_ledger.specs.declared.application.StoredApplication.{StoredApplic
 use Rattle.avm_ledger.specs.Ledgers.{Ledger, account_cmp, application_at, with_application, without_application, local_state_at, with_local_state, without_local_state, with_row, with_state, IsInOrder}
 use Rattle.avm_states.proofs.KeyOrder.{byte_total, byte_same}
 use Rattle.avm_ledger.proofs.Changes.{account_total, account_same, address_is, set_application, with_application_in_order, without_application_in_order}
-use Rattle.sorted_entries.proofs.Maps.{lookup-inserted, lookup-inserted_other, lookup-removed, lookup-removed_other, is_Equal, above_tied, below_none, sorted-inserted, sorted-removed, same_map}
+use Rattle.avm_states.proofs.Maps.{lookup-inserted, lookup-inserted_other, lookup-removed, lookup-removed_other, is_Equal, above_tied, below_none, sorted-inserted, sorted-removed, same_map}
 use Rattle.avm_items.specs.declared.item.Item.{Item}
 use Rattle.avm_items.specs.declared.item.Item.TheVariants as item
 use Rattle.avm_items.specs.declared.item_value.ItemValue.{ItemValue}

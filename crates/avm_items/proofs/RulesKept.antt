@@ -22,7 +22,7 @@ use Rattle.avm_states.specs.Schemas.{counts_in, uncounted, counts_after, is_with
 use Rattle.avm_ledger.specs.LedgerReader.{local_room, room_of_schema, stored_in}
 use Rattle.avm_ledger.specs.LedgerRules.{IsStateValue, IsStateEntry, IsStateIn, IsApplicationBelow, IsLocalStateBelow, KeepsRules}
 use Rattle.avm_ledger.proofs.Changes.{account_total}
-use Rattle.sorted_entries.proofs.Maps.{is_Equal, lookup-inserted, lookup-inserted_other, lookup-removed, lookup-removed_other, sorted-inserted, sorted-removed}
+use Rattle.avm_states.proofs.Maps.{is_Equal, lookup-inserted, lookup-inserted_other, lookup-removed, lookup-removed_other, sorted-inserted, sorted-removed}
 use Rattle.avm_states.proofs.Counts.{follow_puts, follow_deletes}
 use Rattle.avm_items.specs.declared.item.Item.{Item}
 use Rattle.avm_items.specs.declared.item.Item.TheVariants as item

@@ -9,7 +9,7 @@ ghost use Rattle.avm_items.specs.SameValues.{is_same_value};
 
 use crate::item::Item;
 use crate::item_value::ItemValue;
-use sorted_entries::{place_of, put, value_of};
+use avm_states::sorted_entries::{place_of, put, value_of};
 use std::alloc::{AllocError, Global};
 use std::cmp::Ordering;
 use std::marker::Model;

@@ -5,7 +5,7 @@ use Rattle.avm_input.specs.CommandLine.{u64_of}
 use Rattle.avm_input.specs.Replies.{Reply, usage}
 use Rattle.json_documents.specs.Replies.{lines_reply}
 use Rattle.json_views.specs.Show.{show_reply}
-use Rattle.json_traces.specs.TraceReplies.{IsTraceReply}
+use Rattle.json_views.specs.TraceReplies.{IsTraceReply}
 use Rattle.avm_json.specs.declared.commands.JsonCommand.{JsonCommand}
 use Rattle.avm_json.specs.declared.commands.JsonCommand.TheVariants.{Lines, Show, Trace}
 

@@ -11,8 +11,7 @@ use avm_input::{FAILED, INPUT_LIMIT, Reply, USAGE, input_refusal, read_input, wr
 use avm_ops::Op;
 use avm_run::FullOps;
 use json_documents::lines_reply;
-use json_traces::trace_reply;
-use json_views::show_reply;
+use json_views::{show_reply, trace_reply};
 use std::alloc::{AllocError, Global};
 use std::io::{self, Read, Write};
 

@@ -14,7 +14,7 @@ use Rattle.avm_ledger.specs.declared.application.StoredApplication.{StoredApplic
 use Rattle.avm_ledger.specs.declared.header.Header.{Header}
 use Rattle.avm_ledger.specs.Ledgers.{Ledger, application_at, without_application, IsInOrder}
 use Rattle.std.proofs.lemmas.Cmp.{nat_cmp_total}
-use Rattle.sorted_entries.proofs.Maps.{sorted-inserted, lookup-removed}
+use Rattle.avm_states.proofs.Maps.{sorted-inserted, lookup-removed}
 use Rattle.avm_items.specs.declared.call_data.Completion.{Completion}
 use Rattle.avm_items.specs.declared.call_data.Completion.TheVariants as completion
 use Rattle.avm_items.specs.declared.call_data.CallData.{CallData}

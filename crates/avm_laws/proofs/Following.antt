@@ -12,7 +12,7 @@ use Rattle.avm_states.specs.Schemas.{counts_in, no_entries, keeps_kind, counts_a
 use Rattle.avm_ledger.specs.Ledgers.{Ledger, application_at, with_row, with_state, IsInOrder}
 use Rattle.avm_ledger.proofs.Changes.{set_application}
 use Rattle.avm_states.proofs.Counts.{follow_puts, follow_deletes, stay_with_kind}
-use Rattle.sorted_entries.proofs.Maps.{lookup-inserted, lookup-inserted_other, sorted-inserted}
+use Rattle.avm_states.proofs.Maps.{lookup-inserted, lookup-inserted_other, sorted-inserted}
 use Rattle.avm_items.specs.declared.item.Item.{Item}
 use Rattle.avm_items.specs.declared.item.Item.TheVariants as item
 use Rattle.avm_items.specs.declared.item_value.ItemValue.{ItemValue}

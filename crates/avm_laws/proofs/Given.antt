@@ -16,7 +16,7 @@ use Rattle.avm_ledger.specs.declared.application.StoredApplication.{StoredApplic
 use Rattle.avm_ledger.specs.Ledgers.{Ledger, application_at, local_state_at, IsInOrder}
 use Rattle.avm_states.proofs.KeyOrder.{byte_total, byte_same}
 use Rattle.avm_ledger.proofs.Changes.{account_total, account_same}
-use Rattle.sorted_entries.proofs.Maps.{is_Equal, above_tied, all_below, below_none, same_map}
+use Rattle.avm_states.proofs.Maps.{is_Equal, above_tied, all_below, below_none, same_map}
 use Rattle.avm_items.specs.declared.item.Item.{Item}
 use Rattle.avm_items.specs.declared.item.Item.TheVariants as item
 use Rattle.avm_items.specs.declared.item_value.ItemValue.{ItemValue}

@@ -16,7 +16,7 @@ use Rattle.avm_states.specs.declared.schema.Schema.{Schema}
 use Rattle.avm_states.specs.Entries.{is_same_entry}
 use Rattle.avm_ledger.specs.Ledgers.{Ledger, IsInOrder}
 use Rattle.avm_ledger.proofs.Changes.{address_is}
-use Rattle.sorted_entries.proofs.Maps.{is_Equal, above_tied, below_none}
+use Rattle.avm_states.proofs.Maps.{is_Equal, above_tied, below_none}
 use Rattle.avm_states.proofs.SameStates.{states-Decides}
 use Rattle.avm_items.specs.declared.item.Item.{Item}
 use Rattle.avm_items.specs.declared.item_value.ItemValue.{ItemValue}

@@ -14,7 +14,7 @@ use Rattle.avm_ledger.specs.declared.application.Application.{Application}
 use Rattle.avm_ledger.specs.declared.application.StoredApplication.{StoredApplication}
 use Rattle.avm_states.specs.Entries.{Entries, byte_cmp, IsInKeyOrder}
 use Rattle.avm_ledger.specs.Ledgers.{Ledger, account_cmp, application_at, with_application, without_application, with_row, with_state, IsInOrder}
-use Rattle.sorted_entries.proofs.Maps.{lookup-inserted, lookup-inserted_other, lookup-removed, lookup-removed_other, is_Equal, sorted-inserted, sorted-removed, set_value-there}
+use Rattle.avm_states.proofs.Maps.{lookup-inserted, lookup-inserted_other, lookup-removed, lookup-removed_other, is_Equal, sorted-inserted, sorted-removed, set_value-there}
 use Rattle.avm_states.proofs.KeyOrder.{byte_same, byte_total}
 
 pub account_total : IsTotalOrder account_cmp

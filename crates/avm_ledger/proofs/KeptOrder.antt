@@ -8,7 +8,7 @@ use Rattle.std.proofs.lemmas.Map.Views.{Contains-from_lookup}
 use Rattle.avm_ledger.specs.declared.application.StoredApplication.{StoredApplication}
 use Rattle.avm_ledger.specs.Ledgers.{Ledger, application_at, IsOrderly}
 use Rattle.avm_ledger.specs.LedgerRules.{IsApplicationBelow, KeepsRules}
-use Rattle.sorted_entries.proofs.Maps.{is_Equal}
+use Rattle.avm_states.proofs.Maps.{is_Equal}
 use Rattle.avm_ledger.proofs.LedgerRead.{in_order}
 
 same_id : (x y : ℕ) → is_at (nat_cmp x) y ≡ true → x ≡ y

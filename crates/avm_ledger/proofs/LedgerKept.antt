@@ -24,7 +24,7 @@ use Rattle.avm_states.specs.Schemas.{count_with, count_without, counts_in}
 use Rattle.avm_ledger.specs.FieldReader.{number_at, short_string_at, string_at, address_at, schema_at, alone}
 use Rattle.avm_ledger.specs.LedgerReader.{tested, Room, local_room, room_of_schema, stored_in, rises_from_key, key_at, uint_at, bytes_value_at, value_of_kind, value_at, entries_at, state_of_count, state_at, limited_schema_at, program_at, stored_application_at, id_between, applications_at, rises_from_pair, is_no_lower, account_at, local_id_at, local_states_at, next_id_at, ledger_front, ledger_at}
 use Rattle.avm_ledger.specs.LedgerRules.{IsStateValue, IsStateEntry, IsStateIn, IsApplicationBelow, IsLocalStateBelow, KeepsRules, IsCountable}
-use Rattle.sorted_entries.proofs.Maps.{all_below}
+use Rattle.avm_states.proofs.Maps.{all_below}
 use Rattle.avm_ledger.proofs.Changes.{account_total}
 use Rattle.teal_code.proofs.Bytes.{AllBytes, all_bytes}
 use Rattle.avm_ledger.proofs.FieldsSpelled.{from, same_value, byte_spelled, u32_spelled, address_spelled}

@@ -6,7 +6,7 @@ use Rattle.avm_ledger.specs.Ledgers.{Ledger}
 use Rattle.avm_items.specs.declared.call_data.CallData.{CallData}
 use Rattle.avm_block.specs.declared.entry.Entry.{Entry}
 use Rattle.avm_block.specs.Blocks.{Replays}
-use Rattle.mv_calls.specs.CallNumbers.{call_of}
+use Rattle.mv_parts.specs.CallNumbers.{call_of}
 use Rattle.avm_pool.specs.declared.proposal.Proposal.{Proposal}
 
 -- how often a number stands in a list

@@ -24,7 +24,7 @@ use Rattle.avm_ledger.specs.LedgerReader.{local_room, room_of_schema}
 use Rattle.avm_ledger.specs.LedgerRules.{IsStateValue, IsStateEntry, IsStateIn, IsLocalStateBelow, KeepsRules}
 use Rattle.avm_ledger.proofs.Changes.{account_same}
 use Rattle.avm_states.proofs.Counts.{follow_puts, stay_with_kind}
-use Rattle.sorted_entries.proofs.Maps.{is_Equal, sorted-inserted}
+use Rattle.avm_states.proofs.Maps.{is_Equal, sorted-inserted}
 use Rattle.avm_items.specs.declared.item.Item.{Item}
 use Rattle.avm_items.specs.declared.item.Item.TheVariants as item
 use Rattle.avm_items.specs.declared.item_value.ItemValue.{ItemValue}

@@ -2,7 +2,7 @@
 use Rattle.std.proofs.Common.{◌≡◌, ◌+◌, ◌-◌, ◌<◌, [], length, sym, ap, subst, ◌∙◌, arith}
 use Rattle.std.specs.Prelude.{IsTrue, None, Some, Err}
 use Rattle.avm_ledger.specs.declared.header.Header.{Header}
-use Rattle.sorted_entries.proofs.Maps.{lookup-inserted_other}
+use Rattle.avm_states.proofs.Maps.{lookup-inserted_other}
 use Rattle.avm_items.specs.declared.call_data.CallData.{CallData}
 use Rattle.avm_items.specs.declared.item.Item.{Item}
 use Rattle.avm_items.specs.declared.item_value.ItemValue.{ItemValue}

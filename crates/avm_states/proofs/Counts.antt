@@ -14,7 +14,7 @@ use Rattle.teal_value.specs.declared.value.Value.TheVariants.{Uint, Bytes}
 use Rattle.avm_states.specs.declared.schema.Schema.{Schema}
 use Rattle.avm_states.specs.Entries.{Entries, byte_cmp, value_of_key, with_entry, without_entry, IsInKeyOrder}
 use Rattle.avm_states.specs.Schemas.{IsCounted, no_entries, count_with, count_without, counts_in, uncounted, counts_after, keeps_kind}
-use Rattle.sorted_entries.proofs.Maps.{below_none, all_below, is_Equal}
+use Rattle.avm_states.proofs.Maps.{below_none, all_below, is_Equal}
 use Rattle.avm_states.proofs.KeyOrder.{byte_same, byte_total}
 
 pub none_counted : IsCounted [] (record { uints = 0; bytes = 0 }) × IsInKeyOrder []

@@ -1,3 +1,5 @@
+mod Places
+pub mod Maps
 pub mod KeyOrder
 pub mod Counts
 pub mod SameStates

@@ -7,7 +7,7 @@ ghost use Rattle.avm_states.specs.Entries.{value_of_key, with_entry, without_ent
 ghost use Rattle.avm_states.specs.Schemas.{counts_in};
 
 use crate::entry_counts::EntryCounts;
-use sorted_entries::{put, take, value_of};
+use crate::sorted_entries::{put, take, value_of};
 use std::alloc::{AllocError, Global};
 use std::marker::Model;
 use teal_value::{StateKey, Value};

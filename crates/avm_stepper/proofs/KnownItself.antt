@@ -8,7 +8,7 @@ use Rattle.teal_table.specs.declared.opcode.Opcode.TheVariants as op
 use Rattle.teal_code.specs.declared.instr.Immediates.{Immediates}
 use Rattle.avm_states.specs.Entries.{value_of_key, with_entry, without_entry}
 use Rattle.avm_states.specs.Schemas.{count_without, counts_after, counts_in, is_within, keeps_kind, no_entries}
-use Rattle.sorted_entries.proofs.Maps.{lookup-inserted_other}
+use Rattle.avm_states.proofs.Maps.{lookup-inserted_other}
 use Rattle.avm_items.specs.declared.item.Item.{Item}
 use Rattle.avm_items.specs.declared.item.Item.TheVariants as item
 use Rattle.avm_items.specs.declared.item_value.ItemValue.{ItemValue}

@@ -9,7 +9,7 @@ use Rattle.std.proofs.lemmas.Map.Views.{All-keys-insert_entry}
 use Rattle.teal_value.specs.Choice.{or_else}
 use Rattle.avm_ledger.specs.Ledgers.{Ledger}
 use Rattle.avm_states.specs.Schemas.{no_entries}
-use Rattle.sorted_entries.proofs.Maps.{lookup-inserted_other}
+use Rattle.avm_states.proofs.Maps.{lookup-inserted_other}
 use Rattle.avm_items.specs.declared.call_data.Completion.{Completion}
 use Rattle.avm_items.specs.declared.call_data.Completion.TheVariants as completion
 use Rattle.avm_items.specs.declared.call_data.CallData.{CallData}

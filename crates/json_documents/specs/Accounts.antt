@@ -5,10 +5,10 @@ use Rattle.teal_value.specs.declared.address.Address.{Address}
 use Rattle.avm_ledger.specs.LedgerReader.{local_room}
 use Rattle.avm_ledger.specs.Ledgers.{Ledger, application_at}
 use Rattle.json.specs.Json.{Json}
-use Rattle.json_fields.specs.Faults.{Fault}
-use Rattle.json_fields.specs.Members.{known, needed, optional}
-use Rattle.json_fields.specs.Arrays.{each}
-use Rattle.json_fields.specs.Plain.{address}
+use Rattle.json_documents.specs.Faults.{Fault}
+use Rattle.json_documents.specs.Members.{known, needed, optional}
+use Rattle.json_documents.specs.Arrays.{each}
+use Rattle.json_documents.specs.Plain.{address}
 use Rattle.json_documents.specs.Drafts.{add_local_state}
 use Rattle.json_documents.specs.Ids.{id_below}
 use Rattle.json_documents.specs.States.{state}

@@ -8,9 +8,9 @@ use Rattle.avm_ledger.specs.declared.application.StoredApplication.{StoredApplic
 use Rattle.avm_ledger.specs.LedgerReader.{room_of_schema}
 use Rattle.avm_ledger.specs.Ledgers.{Ledger}
 use Rattle.json.specs.Json.{Json}
-use Rattle.json_fields.specs.Faults.{Fault}
-use Rattle.json_fields.specs.Members.{known, needed, optional}
-use Rattle.json_fields.specs.Plain.{address}
+use Rattle.json_documents.specs.Faults.{Fault}
+use Rattle.json_documents.specs.Members.{known, needed, optional}
+use Rattle.json_documents.specs.Plain.{address}
 use Rattle.json_documents.specs.declared.sources.SourceField.TheVariants as field
 use Rattle.json_documents.specs.Drafts.{add_application}
 use Rattle.json_documents.specs.Ids.{id_below}

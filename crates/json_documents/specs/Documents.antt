@@ -6,10 +6,10 @@ use Rattle.avm_ledger.specs.declared.header.Profile.TheVariants.{Three}
 use Rattle.avm_ledger.specs.Ledgers.{Ledger, empty_ledger}
 use Rattle.avm_items.specs.declared.call_data.CallData.{CallData}
 use Rattle.json.specs.Json.{Json}
-use Rattle.json_fields.specs.Faults.{Fault}
-use Rattle.json_fields.specs.Members.{known, optional}
-use Rattle.json_fields.specs.Arrays.{each}
-use Rattle.json_fields.specs.Plain.{uint}
+use Rattle.json_documents.specs.Faults.{Fault}
+use Rattle.json_documents.specs.Members.{known, optional}
+use Rattle.json_documents.specs.Arrays.{each}
+use Rattle.json_documents.specs.Plain.{uint}
 use Rattle.json_documents.specs.Accounts.{account}
 use Rattle.json_documents.specs.Applications.{application}
 use Rattle.json_documents.specs.Ids.{end_of_ids, first_next_id, next_id}

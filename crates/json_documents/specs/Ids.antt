@@ -2,10 +2,10 @@
 use Rattle.std.specs.Prelude.{ℕ, ◌-◌, ◌^◌, ◌&&◌, nat_le, nat_lt, if◌then◌else◌, codes, Option, Some, None, Result, Ok, Err}
 use Rattle.teal_value.specs.Answer.{◌>>=◌}
 use Rattle.json.specs.Json.{Json}
-use Rattle.json_fields.specs.declared.what.What.TheVariants.{IdRange}
-use Rattle.json_fields.specs.Faults.{Fault, here}
-use Rattle.json_fields.specs.Members.{optional}
-use Rattle.json_fields.specs.Plain.{uint}
+use Rattle.json_documents.specs.declared.what.What.TheVariants.{IdRange}
+use Rattle.json_documents.specs.Faults.{Fault, here}
+use Rattle.json_documents.specs.Members.{optional}
+use Rattle.json_documents.specs.Plain.{uint}
 
 abbrev pub in_range : ℕ → ℕ → Result ℕ Fault
 in_range end n = if nat_le 1 n && nat_lt n end then Ok n else Err (here IdRange)

@@ -6,9 +6,9 @@ use Rattle.teal_check.specs.WellFormed.{WellFormed, checked}
 use Rattle.teal_source.specs.declared.fault.AsmFault.{AsmFault}
 use Rattle.teal_asm.specs.Program.{assembled}
 use Rattle.json.specs.Json.{Json}
-use Rattle.json_fields.specs.declared.what.What.TheVariants as what
-use Rattle.json_fields.specs.Faults.{Fault, here}
-use Rattle.json_fields.specs.Plain.{bytes}
+use Rattle.json_documents.specs.declared.what.What.TheVariants as what
+use Rattle.json_documents.specs.Faults.{Fault, here}
+use Rattle.json_documents.specs.Plain.{bytes}
 
 abbrev pub if_checked : List ℕ → Result WellFormed CheckFault → Result (List ℕ) Fault
 if_checked code (Ok w) = Ok code

@@ -6,11 +6,11 @@ use Rattle.teal_source.specs.FaultNames.{asm_fault_name}
 use Rattle.avm_input.specs.Refusals.{check_place}
 use Rattle.avm_input.specs.Replies.{Reply, input_refusal, refused, succeeded}
 use Rattle.json.specs.Print.{quoted}
-use Rattle.json_fields.specs.declared.what.What.{What}
-use Rattle.json_fields.specs.declared.what.What.TheVariants as what
-use Rattle.json_fields.specs.FaultNames.{what_name}
-use Rattle.json_fields.specs.Steps.{path_text}
-use Rattle.json_fields.specs.Faults.{Fault}
+use Rattle.json_documents.specs.declared.what.What.{What}
+use Rattle.json_documents.specs.declared.what.What.TheVariants as what
+use Rattle.json_documents.specs.FaultNames.{what_name}
+use Rattle.json_documents.specs.Steps.{path_text}
+use Rattle.json_documents.specs.Faults.{Fault}
 use Rattle.json_documents.specs.Documents.{Document}
 use Rattle.json_documents.specs.Lines.{lines_text}
 use Rattle.json_documents.specs.Reading.{document_of_text}

@@ -3,10 +3,10 @@ use Rattle.std.specs.Prelude.{ℕ, ◌+◌, nat_le, if◌then◌else◌, List, [
 use Rattle.teal_value.specs.Answer.{◌>>=◌}
 use Rattle.avm_states.specs.declared.schema.Schema.{Schema}
 use Rattle.json.specs.Json.{Json}
-use Rattle.json_fields.specs.declared.what.What.TheVariants.{SchemaSize}
-use Rattle.json_fields.specs.Faults.{Fault, here}
-use Rattle.json_fields.specs.Members.{known, optional}
-use Rattle.json_fields.specs.Plain.{uint}
+use Rattle.json_documents.specs.declared.what.What.TheVariants.{SchemaSize}
+use Rattle.json_documents.specs.Faults.{Fault, here}
+use Rattle.json_documents.specs.Members.{known, optional}
+use Rattle.json_documents.specs.Plain.{uint}
 
 -- a schema of at most so many entries
 abbrev pub limited : ℕ → ℕ → ℕ → Result Schema Fault

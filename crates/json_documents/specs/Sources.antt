@@ -7,11 +7,11 @@ use Rattle.std.specs.BTreeMap.{insert_entry, is_at}
 use Rattle.teal_value.specs.Answer.{◌>>=◌}
 use Rattle.avm_ledger.specs.Ledgers.{Ledger, application_at}
 use Rattle.json.specs.Json.{Json}
-use Rattle.json_fields.specs.declared.what.What.TheVariants as what
-use Rattle.json_fields.specs.Steps.{at_name, at_index}
-use Rattle.json_fields.specs.Faults.{Fault, here, in_step}
-use Rattle.json_fields.specs.Members.{known, needed, optional}
-use Rattle.json_fields.specs.Plain.{text, uint}
+use Rattle.json_documents.specs.declared.what.What.TheVariants as what
+use Rattle.json_documents.specs.Steps.{at_name, at_index}
+use Rattle.json_documents.specs.Faults.{Fault, here, in_step}
+use Rattle.json_documents.specs.Members.{known, needed, optional}
+use Rattle.json_documents.specs.Plain.{text, uint}
 use Rattle.json_documents.specs.declared.sources.SourceField.{SourceField}
 use Rattle.json_documents.specs.declared.sources.SourceField.TheVariants as field
 use Rattle.json_documents.specs.Programs.{program_of_source}

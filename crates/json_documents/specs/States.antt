@@ -8,12 +8,12 @@ use Rattle.avm_states.specs.Entries.{Entries, most_value_bytes, value_of_key, wi
 use Rattle.avm_states.specs.Schemas.{counts_in, is_within}
 use Rattle.avm_ledger.specs.LedgerReader.{Room}
 use Rattle.json.specs.Json.{Json}
-use Rattle.json_fields.specs.declared.what.What.TheVariants as what
-use Rattle.json_fields.specs.Steps.{at_name}
-use Rattle.json_fields.specs.Faults.{Fault, here, further, in_step}
-use Rattle.json_fields.specs.Members.{known, needed, optional}
-use Rattle.json_fields.specs.Arrays.{each}
-use Rattle.json_fields.specs.Plain.{bytes, uint}
+use Rattle.json_documents.specs.declared.what.What.TheVariants as what
+use Rattle.json_documents.specs.Steps.{at_name}
+use Rattle.json_documents.specs.Faults.{Fault, here, further, in_step}
+use Rattle.json_documents.specs.Members.{known, needed, optional}
+use Rattle.json_documents.specs.Arrays.{each}
+use Rattle.json_documents.specs.Plain.{bytes, uint}
 use Rattle.json_documents.specs.Tables.{key_value_names, value_names}
 
 -- 1 stands for a byte string, 2 for a uint

@@ -14,13 +14,13 @@ use Rattle.avm_call.specs.declared.call_fault.CallFault.TheVariants as call
 use Rattle.avm_call.specs.CallRules.{call_fault}
 use Rattle.json.specs.Json.{Json}
 use Rattle.json.specs.Find.{as_object, at}
-use Rattle.json_fields.specs.declared.what.What.{What}
-use Rattle.json_fields.specs.declared.what.What.TheVariants as what
-use Rattle.json_fields.specs.Steps.{at_name}
-use Rattle.json_fields.specs.Faults.{Fault, here, in_step}
-use Rattle.json_fields.specs.Members.{known, member, needed, optional}
-use Rattle.json_fields.specs.Arrays.{each}
-use Rattle.json_fields.specs.Plain.{address, bytes, text, uint}
+use Rattle.json_documents.specs.declared.what.What.{What}
+use Rattle.json_documents.specs.declared.what.What.TheVariants as what
+use Rattle.json_documents.specs.Steps.{at_name}
+use Rattle.json_documents.specs.Faults.{Fault, here, in_step}
+use Rattle.json_documents.specs.Members.{known, member, needed, optional}
+use Rattle.json_documents.specs.Arrays.{each}
+use Rattle.json_documents.specs.Plain.{address, bytes, text, uint}
 use Rattle.json_documents.specs.declared.sources.SourceField.TheVariants as field
 use Rattle.json_documents.specs.declared.call_parts.Target.{Target}
 use Rattle.json_documents.specs.declared.call_parts.Terms.{Terms}

@@ -6,17 +6,21 @@ ghost use Rattle.teal_value.specs.Answer.{Gives};
 ghost use Rattle.avm_ledger.specs.LedgerReader.{local_room};
 ghost use Rattle.avm_ledger.specs.Ledgers.{application_at};
 ghost use Rattle.json.specs.Value.{value_view};
-ghost use Rattle.json_fields.specs.Members.{optional};
+ghost use Rattle.json_documents.specs.Members.{optional};
 ghost use Rattle.json_documents.specs.Drafts.{add_local_state};
 ghost use Rattle.json_documents.specs.States.{state};
 
+use crate::arrays::{Gather, optional_each};
+use crate::fault::{Fault, FieldError};
 use crate::ids::{Id, IdForm};
 use crate::ledger_draft::{ApplicationDraft, LedgerDraft};
+use crate::members::{known, needed};
+use crate::plain::PlainAddress;
 use crate::states::{StateForm, optional_state};
 use crate::tables::{ACCOUNT, LOCAL};
+use crate::what::What;
 use avm_states::State;
 use json::Value;
-use json_fields::{Fault, FieldError, Gather, PlainAddress, What, known, needed, optional_each};
 use std::alloc::Global;
 use teal_value::Address;
 

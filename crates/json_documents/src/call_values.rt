@@ -4,9 +4,13 @@ ghost use Rattle.std.specs.Prelude.{◌≡◌};
 ghost use Rattle.teal_value.specs.Answer.{Gives};
 ghost use Rattle.json_documents.specs.Transactions.{completion_of, only_appl, whole_lease};
 
+use crate::arrays::Gather;
+use crate::fault::{Fault, FieldError};
+use crate::members::Form;
+use crate::plain::{Bytes, PlainAddress, Uint, text_of};
+use crate::what::What;
 use avm_items::{Addresses, Completion};
 use json::Value;
-use json_fields::{Bytes, Fault, FieldError, Form, Gather, PlainAddress, Uint, What, text_of};
 use std::alloc::Global;
 use teal_value::{ByteStrings, Uints};
 

@@ -3,22 +3,25 @@
 ghost use Rattle.std.specs.Prelude.{◌≡◌, codes};
 ghost use Rattle.teal_value.specs.Answer.{Gives};
 ghost use Rattle.json.specs.Value.{value_view};
-ghost use Rattle.json_fields.specs.Arrays.{each};
-ghost use Rattle.json_fields.specs.Members.{optional};
+ghost use Rattle.json_documents.specs.Arrays.{each};
+ghost use Rattle.json_documents.specs.Members.{optional};
 ghost use Rattle.json_documents.specs.Documents.{document, front, ledger};
 ghost use Rattle.json_documents.specs.Shown.{document_shown, front_shown};
 ghost use Rattle.json_documents.specs.Sources.{no_sources, with_source};
 
 use crate::accounts::Accounts;
 use crate::applications::Applications;
+use crate::arrays::optional_each;
+use crate::fault::FieldError;
 use crate::ids::{NextIdForm, end_of_ids, first_next_id};
 use crate::ledger_draft::LedgerDraft;
+use crate::members::{known, optional};
+use crate::plain::Uint;
 use crate::sources::{SourceTexts, Sources};
 use crate::tables::DOCUMENT;
 use crate::transactions::{Calls, TransactionsForm};
 use avm_ledger::{Header, Profile};
 use json::Value;
-use json_fields::{FieldError, Uint, known, optional, optional_each};
 use std::alloc::Global;
 
 /// What a document says: a ledger, the header of a block over it, and calls for the block.

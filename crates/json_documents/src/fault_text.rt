@@ -7,9 +7,10 @@ ghost use Rattle.avm_input.specs.Refusals.{check_place};
 ghost use Rattle.json.specs.Print.{quoted};
 ghost use Rattle.json_documents.specs.Replies.{fault_text, place_text, rest_text};
 
+use crate::fault::Fault;
+use crate::what::What;
 use avm_input::check_place;
 use json::Writer;
-use json_fields::{Fault, What};
 use std::alloc::{AllocError, Global};
 use teal_check::CheckFault;
 use teal_source::AsmFault;

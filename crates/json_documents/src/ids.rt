@@ -4,8 +4,11 @@ ghost use Rattle.std.specs.Prelude.{◌≡◌, ◌+◌};
 ghost use Rattle.teal_value.specs.Answer.{Gives};
 ghost use Rattle.json_documents.specs.Ids.{in_range, some_positive, end_of_ids, first_next_id};
 
+use crate::fault::{Fault, FieldError};
+use crate::members::Form;
+use crate::plain::Uint;
+use crate::what::What;
 use json::Value;
-use json_fields::{Fault, FieldError, Form, Uint, What};
 use std::alloc::Global;
 use std::marker::Model;
 

@@ -6,8 +6,11 @@ ghost use Rattle.teal_value.specs.Answer.{Gives};
 ghost use Rattle.json_documents.specs.Programs.{checked_code, on_source, program_of_source};
 ghost use Rattle.teal_asm.specs.Program.{assembled};
 
+use crate::fault::{Fault, FieldError};
+use crate::members::Form;
+use crate::plain::Bytes;
+use crate::what::What;
 use json::Value;
-use json_fields::{Bytes, Fault, FieldError, Form, What};
 use std::alloc::Global;
 use teal_asm::assemble;
 use teal_check::check;

@@ -13,8 +13,9 @@ ghost use Rattle.json_documents.specs.Reading.{document_of_text, is_finite, is_i
 ghost use Rattle.json_documents.specs.Shown.{document_shown};
 
 use crate::document::{Document, document_of};
+use crate::fault::{Fault, FieldError};
+use crate::what::What;
 use json::{Error, Reader, Scratch, Token, Value};
-use json_fields::{Fault, FieldError, What};
 use std::alloc::{AllocError, Global};
 
 /// How deep arrays and objects nest at most.

@@ -7,11 +7,11 @@ ghost use Rattle.json_documents.specs.Replies.{document_reply, lines_reply};
 ghost use Rattle.json_documents.specs.Shown.{document_shown};
 
 use crate::document::Document;
+use crate::fault::Fault;
 use crate::fault_text::fault_text;
 use crate::lines::lines_text;
 use crate::reading::read_document;
 use avm_input::{DONE, REFUSED, Reply, input_refusal};
-use json_fields::Fault;
 use std::alloc::{AllocError, Global};
 use std::str;
 

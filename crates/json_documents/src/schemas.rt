@@ -4,9 +4,12 @@ ghost use Rattle.std.specs.Prelude.{◌≡◌, codes};
 ghost use Rattle.teal_value.specs.Answer.{Gives};
 ghost use Rattle.json_documents.specs.Schemas.{limited};
 
+use crate::fault::{Fault, FieldError};
+use crate::members::{Form, known, optional};
+use crate::plain::Uint;
+use crate::what::What;
 use avm_states::Schema;
 use json::Value;
-use json_fields::{Fault, FieldError, Form, Uint, What, known, optional};
 use std::alloc::Global;
 
 /// A schema that allows no entries.

@@ -5,14 +5,15 @@ ghost use Rattle.std.specs.Option.{option_copied};
 ghost use Rattle.teal_value.specs.Answer.{Gives};
 ghost use Rattle.json_documents.specs.Sources.{field_named, index_of, is_there, no_sources, only_source, program_at, targets, targets_from, with_source_at};
 
+use crate::arrays::Gather;
+use crate::fault::{Fault, FieldError, in_item, in_member};
 use crate::ledger_draft::LedgerDraft;
+use crate::members::{Form, known, needed, optional};
+use crate::plain::{PlainText, Uint, text_of};
 use crate::programs::program_of_source;
 use crate::tables::SOURCE;
+use crate::what::What;
 use json::Value;
-use json_fields::{
-    Fault, FieldError, Form, Gather, PlainText, Uint, What, in_item, in_member, known, needed,
-    optional, text_of,
-};
 use std::alloc::{AllocError, Global};
 use std::collections::BTreeMap;
 use std::marker::Model;

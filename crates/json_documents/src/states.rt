@@ -4,16 +4,18 @@ ghost use Rattle.std.specs.Prelude.{◌≡◌, [], None};
 ghost use Rattle.teal_value.specs.Answer.{Gives};
 ghost use Rattle.avm_ledger.specs.LedgerReader.{local_room, room_of_schema};
 ghost use Rattle.json.specs.Value.{value_view};
-ghost use Rattle.json_fields.specs.Members.{optional};
+ghost use Rattle.json_documents.specs.Members.{optional};
 ghost use Rattle.json_documents.specs.States.{kind_of, new_entry, short_key, short_value, state, value_of_kind, within};
 
+use crate::arrays::{Gather, each};
 use crate::entries::Entries;
+use crate::fault::{Fault, FieldError, in_member};
+use crate::members::{Form, known, needed, optional};
+use crate::plain::{Bytes, Uint};
 use crate::tables::{KEY_VALUE, VALUE};
+use crate::what::What;
 use avm_states::{MAX_LOCAL_ENTRIES, MAX_VALUE_BYTES, Schema, State};
 use json::Value;
-use json_fields::{
-    Bytes, Fault, FieldError, Form, Gather, Uint, What, each, in_member, known, needed, optional,
-};
 use std::alloc::Global;
 use std::marker::Model;
 use teal_value::{ByteString, StateKey, Value as StateValue};

@@ -4,28 +4,29 @@ ghost use Rattle.std.specs.Prelude.{◌≡◌, ◌++◌, ◌∷◌, [], IfOk, is
 ghost use Rattle.teal_value.specs.Answer.{Gives};
 ghost use Rattle.json.specs.Find.{as_object};
 ghost use Rattle.json.specs.Value.{value_view};
-ghost use Rattle.json_fields.specs.Members.{optional};
-ghost use Rattle.json_fields.specs.Plain.{bytes};
+ghost use Rattle.json_documents.specs.Members.{optional};
+ghost use Rattle.json_documents.specs.Plain.{bytes};
 ghost use Rattle.json_documents.specs.Programs.{given_or};
 ghost use Rattle.json_documents.specs.Sources.{program_at};
 ghost use Rattle.json_documents.specs.Transactions.{call_what, checked_call, lone_call, target, terms, ungrouped};
 
+use crate::arrays::{Gather, each, optional_each};
 use crate::call_parts::{Target, Terms, fields};
 use crate::call_values::{
     Arguments, CallAccounts, CompletionForm, ForeignApplications, LeaseForm, TypeForm,
 };
+use crate::fault::{Fault, FieldError, in_member};
+use crate::members::{Form, known, member, needed, optional};
+use crate::plain::{Bytes, PlainAddress, Uint};
 use crate::schemas::{NO_ENTRIES, SchemaForm};
 use crate::sources::{SourceField, Sources};
 use crate::tables::{SIGNED, TRANSACTION};
+use crate::what::What;
 use avm_block::MAX_ENTRIES;
 use avm_call::{Call, CallFault};
 use avm_items::{Addresses, CallData, Completion};
 use avm_states::{MAX_GLOBAL_ENTRIES, MAX_LOCAL_ENTRIES};
 use json::Value;
-use json_fields::{
-    Bytes, Fault, FieldError, Form, Gather, PlainAddress, Uint, What, each, in_member, known,
-    member, needed, optional, optional_each,
-};
 use std::alloc::{AllocError, Global};
 use std::marker::Model;
 use std::sync::Arc;

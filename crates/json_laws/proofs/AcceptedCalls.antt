@@ -16,12 +16,12 @@ use Rattle.avm_rule_laws.specs.Rules.{AreBytes}
 use Rattle.json.specs.Json.{Json, Items, no_items, item}
 use Rattle.json.specs.Json as json
 use Rattle.json.specs.Find.{as_array, at, get_item}
-use Rattle.json_fields.specs.declared.what.What.TheVariants as what
-use Rattle.json_fields.specs.Faults.{here, in_step}
-use Rattle.json_fields.specs.Steps.{at_index}
-use Rattle.json_fields.specs.Members.{known, needed, optional}
-use Rattle.json_fields.specs.Arrays.{each, elements, gathered}
-use Rattle.json_fields.specs.Plain.{address, bytes, uint}
+use Rattle.json_documents.specs.declared.what.What.TheVariants as what
+use Rattle.json_documents.specs.Faults.{here, in_step}
+use Rattle.json_documents.specs.Steps.{at_index}
+use Rattle.json_documents.specs.Members.{known, needed, optional}
+use Rattle.json_documents.specs.Arrays.{each, elements, gathered}
+use Rattle.json_documents.specs.Plain.{address, bytes, uint}
 use Rattle.json_documents.specs.Programs.{given_or}
 use Rattle.json_documents.specs.Schemas.{schema}
 use Rattle.json_documents.specs.Sources.{Programs, Sources, no_sources, program_for}

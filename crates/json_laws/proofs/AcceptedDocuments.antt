@@ -9,9 +9,9 @@ use Rattle.avm_block.specs.BlockRoundTrip.{IsHeader}
 use Rattle.avm_block.specs.Blocks.{most_calls}
 use Rattle.avm_rule_laws.specs.Rules.{AreBytes, IsCallOfBytes}
 use Rattle.json.specs.Json.{Json}
-use Rattle.json_fields.specs.Members.{known, optional}
-use Rattle.json_fields.specs.Arrays.{each}
-use Rattle.json_fields.specs.Plain.{uint}
+use Rattle.json_documents.specs.Members.{known, optional}
+use Rattle.json_documents.specs.Arrays.{each}
+use Rattle.json_documents.specs.Plain.{uint}
 use Rattle.json_documents.specs.Documents.{Document, Front, document, front, ledger}
 use Rattle.json_documents.specs.Ids.{end_of_ids, next_id}
 use Rattle.json_documents.specs.Sources.{Sources, no_sources, targets, with_source}

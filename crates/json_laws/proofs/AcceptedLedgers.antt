@@ -17,14 +17,14 @@ use Rattle.avm_ledger.specs.Ledgers.{Ledger, account_cmp, application_at, local_
 use Rattle.avm_ledger.specs.LedgerReader.{local_room, room_of_schema}
 use Rattle.avm_ledger.specs.LedgerRules.{IsApplicationBelow, IsLocalStateBelow, KeepsRules}
 use Rattle.avm_ledger.proofs.Changes.{account_same, account_total}
-use Rattle.sorted_entries.proofs.Maps.{sorted-inserted}
+use Rattle.avm_states.proofs.Maps.{sorted-inserted}
 use Rattle.avm_rule_laws.specs.Rules.{AreBytes}
 use Rattle.json.specs.Json.{Json}
-use Rattle.json_fields.specs.declared.what.What.TheVariants.{Differs, IdRange}
-use Rattle.json_fields.specs.Faults.{here}
-use Rattle.json_fields.specs.Members.{known, needed, optional}
-use Rattle.json_fields.specs.Arrays.{each}
-use Rattle.json_fields.specs.Plain.{address, uint}
+use Rattle.json_documents.specs.declared.what.What.TheVariants.{Differs, IdRange}
+use Rattle.json_documents.specs.Faults.{here}
+use Rattle.json_documents.specs.Members.{known, needed, optional}
+use Rattle.json_documents.specs.Arrays.{each}
+use Rattle.json_documents.specs.Plain.{address, uint}
 use Rattle.json_documents.specs.Accounts.{account, local}
 use Rattle.json_documents.specs.Applications.{Limits, application, limits, params}
 use Rattle.json_documents.specs.Drafts.{application_beside, is_same_state, is_same_stored, local_state_beside, raised}

@@ -11,12 +11,12 @@ use Rattle.teal_check.specs.declared.fault.CheckFault.{CheckFault}
 use Rattle.teal_check.specs.WellFormed.{WellFormed, checked}
 use Rattle.teal_asm.specs.Program.{assembled}
 use Rattle.json.specs.Json.{Json}
-use Rattle.json_fields.specs.declared.what.What.TheVariants.{Twice}
-use Rattle.json_fields.specs.Faults.{Fault, here, in_step}
-use Rattle.json_fields.specs.Steps.{at_name}
-use Rattle.json_fields.specs.Members.{known, needed, optional}
-use Rattle.json_fields.specs.Arrays.{each}
-use Rattle.json_fields.specs.Plain.{bytes, text, uint}
+use Rattle.json_documents.specs.declared.what.What.TheVariants.{Twice}
+use Rattle.json_documents.specs.Faults.{Fault, here, in_step}
+use Rattle.json_documents.specs.Steps.{at_name}
+use Rattle.json_documents.specs.Members.{known, needed, optional}
+use Rattle.json_documents.specs.Arrays.{each}
+use Rattle.json_documents.specs.Plain.{bytes, text, uint}
 use Rattle.json_documents.specs.Programs.{checked_code, given_or, if_checked, on_source, program, program_of_source}
 use Rattle.json_documents.specs.Sources.{Programs, Sources, field_named, index_of, no_sources, only_source, program_at, program_for, source_field, with_program, with_source, with_source_at}
 use Rattle.json_documents.specs.Tables.{source_names}

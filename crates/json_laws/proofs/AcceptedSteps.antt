@@ -3,11 +3,11 @@ use Rattle.std.proofs.Common.{◌≡◌, ℕ, ◌+◌, Bool, true, false, cond, 
 pub use Rattle.avm_ledger.proofs.FieldsSpelled.{from, same_value}
 use Rattle.json.specs.Json.{Json, Items, no_items, item}
 use Rattle.json.specs.Find.{get, is_null, as_array}
-use Rattle.json_fields.specs.declared.what.What.{What}
-use Rattle.json_fields.specs.Steps.{Step, at_index}
-use Rattle.json_fields.specs.Faults.{Fault, in_step, or_else_fault}
-use Rattle.json_fields.specs.Members.{unless_null, member, needed_in, optional_in, needed, optional}
-use Rattle.json_fields.specs.Arrays.{gathered, elements, each}
+use Rattle.json_documents.specs.declared.what.What.{What}
+use Rattle.json_documents.specs.Steps.{Step, at_index}
+use Rattle.json_documents.specs.Faults.{Fault, in_step, or_else_fault}
+use Rattle.json_documents.specs.Members.{unless_null, member, needed_in, optional_in, needed, optional}
+use Rattle.json_documents.specs.Arrays.{gathered, elements, each}
 
 -- The type of the values that a reader gives: a name for a type that its crate does not export by name.
 abbrev pub TypeIn : {A F : Type 0} → Result A F → Type 0

@@ -25,18 +25,18 @@ use Rattle.avm_states.specs.declared.schema.Schema.{Schema}
 use Rattle.avm_states.specs.Entries.{Entries, IsInKeyOrder, byte_cmp, most_value_bytes, value_of_key, with_entry}
 use Rattle.avm_states.specs.Schemas.{counts_in, is_within, no_entries}
 use Rattle.avm_states.proofs.KeyOrder.{byte_same, byte_total}
-use Rattle.sorted_entries.proofs.Maps.{sorted-inserted}
+use Rattle.avm_states.proofs.Maps.{sorted-inserted}
 use Rattle.avm_ledger.specs.LedgerReader.{Room}
 use Rattle.avm_ledger.specs.LedgerRules.{IsStateValue, IsStateEntry, IsStateIn}
 use Rattle.avm_rule_laws.specs.Rules.{AreBytes}
 use Rattle.json.specs.Json.{Json}
 use Rattle.json.specs.Find.{as_number}
-use Rattle.json_fields.specs.declared.what.What.TheVariants.{KeyLength, OtherKind, Schema as NoRoom, SchemaSize, TooLong, Twice}
-use Rattle.json_fields.specs.Faults.{here, in_step}
-use Rattle.json_fields.specs.Steps.{at_name}
-use Rattle.json_fields.specs.Members.{known, needed, optional}
-use Rattle.json_fields.specs.Arrays.{each}
-use Rattle.json_fields.specs.Plain.{has_zero_in_front, decimal_of, uint, on_address, text, bytes, address}
+use Rattle.json_documents.specs.declared.what.What.TheVariants.{KeyLength, OtherKind, Schema as NoRoom, SchemaSize, TooLong, Twice}
+use Rattle.json_documents.specs.Faults.{here, in_step}
+use Rattle.json_documents.specs.Steps.{at_name}
+use Rattle.json_documents.specs.Members.{known, needed, optional}
+use Rattle.json_documents.specs.Arrays.{each}
+use Rattle.json_documents.specs.Plain.{has_zero_in_front, decimal_of, uint, on_address, text, bytes, address}
 use Rattle.json_documents.specs.Schemas.{schema}
 use Rattle.json_documents.specs.States.{kind, short_value, value_of_kind, value, key, new_entry, with_key_value, within, state}
 use Rattle.json_documents.specs.Tables.{key_value_names, value_names}

@@ -14,8 +14,8 @@ use Rattle.avm_ledger.specs.LedgerReader.{room_of_schema}
 use Rattle.avm_ledger.specs.LedgerRules.{IsApplicationBelow}
 use Rattle.avm_ledger.specs.Ledgers.{Ledger}
 use Rattle.avm_rule_laws.specs.Rules.{AreBytes}
-use Rattle.json_fields.specs.Arrays.{each}
-use Rattle.json_fields.specs.Members.{least_unknown}
+use Rattle.json_documents.specs.Arrays.{each}
+use Rattle.json_documents.specs.Members.{least_unknown}
 use Rattle.json_documents.specs.Applications.{application, limits, params}
 use Rattle.json_documents.specs.Drafts.{add_application}
 use Rattle.json_documents.specs.Ids.{id_below}

@@ -4,9 +4,9 @@ use Rattle.std.specs.Prelude.{map}
 use Rattle.std.proofs.lemmas.List.Elements.{All-head, All-tail, All-same}
 use Rattle.teal_value.specs.Answer.{◌>>=◌}
 use Rattle.json.specs.Json.{Json}
-use Rattle.json_fields.specs.Arrays.{each, gathered}
-use Rattle.json_fields.specs.Faults.{Fault, in_step}
-use Rattle.json_fields.specs.Steps.{Step}
+use Rattle.json_documents.specs.Arrays.{each, gathered}
+use Rattle.json_documents.specs.Faults.{Fault, in_step}
+use Rattle.json_documents.specs.Steps.{Step}
 use Rattle.json_views.specs.Documents.{array_of, items_of}
 
 -- a step that is known

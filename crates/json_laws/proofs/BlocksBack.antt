@@ -16,7 +16,7 @@ use Rattle.avm_block.specs.BlockRoundTrip.{AreEntries, IsBlock}
 use Rattle.avm_rule_laws.specs.Rules.{IsCallOfBytes}
 use Rattle.json.specs.Json.{Json}
 use Rattle.json.specs.Find.{get_item}
-use Rattle.json_fields.specs.Members.{least_unknown}
+use Rattle.json_documents.specs.Members.{least_unknown}
 use Rattle.json_documents.specs.Documents.{document, front}
 use Rattle.json_documents.specs.Sources.{no_sources, targets_from}
 use Rattle.json_documents.specs.Transactions.{transactions, with_signed}

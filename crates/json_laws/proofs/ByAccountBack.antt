@@ -7,8 +7,8 @@ use Rattle.std.proofs.lemmas.List.{map-append}
 use Rattle.teal_value.specs.declared.address.Address.{Address}
 use Rattle.teal_value.specs.SameValues.{are_same_bytes}
 use Rattle.json.specs.Json.{Json}
-use Rattle.json_fields.specs.Arrays.{each}
-use Rattle.json_fields.specs.Faults.{Fault}
+use Rattle.json_documents.specs.Arrays.{each}
+use Rattle.json_documents.specs.Faults.{Fault}
 use Rattle.json_views.specs.Documents.{array_of}
 use Rattle.json_views.specs.ByAccount.{Account, with_item, by_account, shown_account, shown_by_account}
 use Rattle.json_laws.proofs.ArraysBack.{array_back, at_seam}

@@ -13,10 +13,10 @@ use Rattle.avm_items.specs.CallFields.{completion_number}
 use Rattle.avm_call.specs.CallRules.{call_fault, entries_in}
 use Rattle.avm_rule_laws.specs.Rules.{AreBytes, IsCallOfBytes}
 use Rattle.json.specs.Json.{Json}
-use Rattle.json_fields.specs.Arrays.{each}
-use Rattle.json_fields.specs.Faults.{Fault}
-use Rattle.json_fields.specs.Members.{optional}
-use Rattle.json_fields.specs.Plain as read
+use Rattle.json_documents.specs.Arrays.{each}
+use Rattle.json_documents.specs.Faults.{Fault}
+use Rattle.json_documents.specs.Members.{optional}
+use Rattle.json_documents.specs.Plain as read
 use Rattle.json_documents.specs.Schemas.{schema}
 use Rattle.json_documents.specs.Sources.{no_sources}
 use Rattle.json_documents.specs.Tables.{transaction_names}

@@ -13,12 +13,12 @@ use Rattle.avm_ledger.specs.LedgerRules.{IsCountable}
 use Rattle.avm_ledger.specs.Ledgers.{Ledger, account_cmp, application_at, local_state_at, with_application, with_local_state}
 use Rattle.json.specs.Json.{Json, Items, no_items, item}
 use Rattle.json.specs.Find.{as_array, get}
-use Rattle.json_fields.specs.declared.what.What.TheVariants.{Differs, NotArray}
-use Rattle.json_fields.specs.Faults.{Fault, here, in_step}
-use Rattle.json_fields.specs.Steps.{at_index}
-use Rattle.json_fields.specs.Members.{known, member, needed, optional, optional_in}
-use Rattle.json_fields.specs.Arrays.{each, elements, gathered}
-use Rattle.json_fields.specs.Plain.{address}
+use Rattle.json_documents.specs.declared.what.What.TheVariants.{Differs, NotArray}
+use Rattle.json_documents.specs.Faults.{Fault, here, in_step}
+use Rattle.json_documents.specs.Steps.{at_index}
+use Rattle.json_documents.specs.Members.{known, member, needed, optional, optional_in}
+use Rattle.json_documents.specs.Arrays.{each, elements, gathered}
+use Rattle.json_documents.specs.Plain.{address}
 use Rattle.json_documents.specs.Accounts.{account, local}
 use Rattle.json_documents.specs.Applications.{application, params}
 use Rattle.json_documents.specs.Documents.{Document, bare_ledger, document, front, ledger}

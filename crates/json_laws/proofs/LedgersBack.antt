@@ -5,10 +5,10 @@ use Rattle.std.proofs.lemmas.Bool.{le-leb}
 use Rattle.avm_ledger.specs.Ledgers.{Ledger}
 use Rattle.avm_ledger.specs.LedgerRules.{KeepsRules}
 use Rattle.json.specs.Json.{Json}
-use Rattle.json_fields.specs.Arrays.{each}
-use Rattle.json_fields.specs.Faults.{in_step}
-use Rattle.json_fields.specs.Members.{least_unknown, member, optional_in}
-use Rattle.json_fields.specs.Steps.{at_name}
+use Rattle.json_documents.specs.Arrays.{each}
+use Rattle.json_documents.specs.Faults.{in_step}
+use Rattle.json_documents.specs.Members.{least_unknown, member, optional_in}
+use Rattle.json_documents.specs.Steps.{at_name}
 use Rattle.json_documents.specs.Accounts.{account}
 use Rattle.json_documents.specs.Applications.{application}
 use Rattle.json_documents.specs.Documents.{document, front, ledger}

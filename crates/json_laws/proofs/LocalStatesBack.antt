@@ -13,10 +13,10 @@ use Rattle.avm_ledger.specs.LedgerRules.{IsLocalStateBelow}
 use Rattle.avm_ledger.specs.Ledgers.{Ledger, account_cmp}
 use Rattle.avm_ledger.proofs.Changes.{account_total}
 use Rattle.avm_rule_laws.specs.Rules.{AreBytes}
-use Rattle.json_fields.specs.Arrays.{each}
-use Rattle.json_fields.specs.Faults.{in_step}
-use Rattle.json_fields.specs.Members.{least_unknown}
-use Rattle.json_fields.specs.Steps.{at_name}
+use Rattle.json_documents.specs.Arrays.{each}
+use Rattle.json_documents.specs.Faults.{in_step}
+use Rattle.json_documents.specs.Members.{least_unknown}
+use Rattle.json_documents.specs.Steps.{at_name}
 use Rattle.json_documents.specs.Accounts.{account, local}
 use Rattle.json_documents.specs.Drafts.{add_local_state}
 use Rattle.json_views.specs.Accounts.{local_of, locals_name, shown_local}

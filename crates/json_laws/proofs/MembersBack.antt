@@ -5,9 +5,9 @@ use Rattle.std.proofs.lemmas.Bool.{and_parts}
 use Rattle.std.specs.Str.{bytes_eq}
 use Rattle.json.specs.Json.{Json}
 use Rattle.json.specs.Find.{get_member, is_null, later_or}
-use Rattle.json_fields.specs.Faults.{Fault, in_step}
-use Rattle.json_fields.specs.Members.{is_among, known, least_unknown, lesser, member, needed, needed_in, optional, optional_in, unless_null, unless_unknown}
-use Rattle.json_fields.specs.Steps.{at_name}
+use Rattle.json_documents.specs.Faults.{Fault, in_step}
+use Rattle.json_documents.specs.Members.{is_among, known, least_unknown, lesser, member, needed, needed_in, optional, optional_in, unless_null, unless_unknown}
+use Rattle.json_documents.specs.Steps.{at_name}
 use Rattle.json_views.specs.Documents.{Member, members_of, object_of}
 use Rattle.json_views.specs.ShownCalls.{if_not}
 

@@ -20,13 +20,13 @@ use Rattle.avm_call.specs.declared.call_fault.CallFault.TheVariants as call
 use Rattle.avm_call.specs.CallRules.{call_fault}
 use Rattle.json.specs.Json.{Json, Members}
 use Rattle.json.specs.Find.{as_object, as_str, at, get, is_null}
-use Rattle.json_fields.specs.declared.what.What.{What}
-use Rattle.json_fields.specs.declared.what.What.TheVariants as what
-use Rattle.json_fields.specs.Steps.{Step, at_index, at_name}
-use Rattle.json_fields.specs.Faults.{Fault, here, in_step}
-use Rattle.json_fields.specs.Members.{known, member, unless_null, needed, needed_in, optional}
-use Rattle.json_fields.specs.Arrays.{each}
-use Rattle.json_fields.specs.Plain.{address, bytes, text, uint}
+use Rattle.json_documents.specs.declared.what.What.{What}
+use Rattle.json_documents.specs.declared.what.What.TheVariants as what
+use Rattle.json_documents.specs.Steps.{Step, at_index, at_name}
+use Rattle.json_documents.specs.Faults.{Fault, here, in_step}
+use Rattle.json_documents.specs.Members.{known, member, unless_null, needed, needed_in, optional}
+use Rattle.json_documents.specs.Arrays.{each}
+use Rattle.json_documents.specs.Plain.{address, bytes, text, uint}
 use Rattle.json_documents.specs.Ids.{end_of_ids, id_below, in_range, next_id}
 use Rattle.json_documents.specs.Schemas.{schema}
 use Rattle.json_documents.specs.States.{state}

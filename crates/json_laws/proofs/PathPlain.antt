@@ -13,11 +13,11 @@ use Rattle.teal_value.specs.declared.address_spelling.AddressFault.{AddressFault
 use Rattle.teal_value.specs.declared.address_spelling.AddressFault.TheVariants as address_fault
 use Rattle.json.specs.Json.{Json}
 use Rattle.json.specs.Find.{as_number, as_str}
-use Rattle.json_fields.specs.declared.what.What.{What}
-use Rattle.json_fields.specs.declared.what.What.TheVariants as what
-use Rattle.json_fields.specs.Faults.{Fault, here, or_else_fault}
-use Rattle.json_fields.specs.Members.{known, optional}
-use Rattle.json_fields.specs.Plain.{address, base64, bytes, decimal_of, on_address, text, uint}
+use Rattle.json_documents.specs.declared.what.What.{What}
+use Rattle.json_documents.specs.declared.what.What.TheVariants as what
+use Rattle.json_documents.specs.Faults.{Fault, here, or_else_fault}
+use Rattle.json_documents.specs.Members.{known, optional}
+use Rattle.json_documents.specs.Plain.{address, base64, bytes, decimal_of, on_address, text, uint}
 use Rattle.json_documents.specs.Ids.{end_of_ids, id_below, in_range, next_id, some_positive}
 use Rattle.json_documents.specs.Schemas.{schema}
 use Rattle.json_laws.specs.Paths.{Ends, next_id_of, table, IsRefusedSchema, IsWrong, is_plain}

@@ -9,10 +9,10 @@ use Rattle.std.proofs.lemmas.List.Concat.{flat_map-append}
 use Rattle.std.proofs.lemmas.List.Folds.{list_all-append}
 use Rattle.json.specs.Json.{Json, null, boolean, number, string, array, object}
 use Rattle.json.specs.Find.{get, is_null}
-use Rattle.json_fields.specs.Steps.{Step, at_index, at_name, step_text}
-use Rattle.json_fields.specs.declared.what.What.TheVariants as what
-use Rattle.json_fields.specs.Faults.{Fault, here}
-use Rattle.json_fields.specs.Members.{unless_null}
+use Rattle.json_documents.specs.Steps.{Step, at_index, at_name, step_text}
+use Rattle.json_documents.specs.declared.what.What.TheVariants as what
+use Rattle.json_documents.specs.Faults.{Fault, here}
+use Rattle.json_documents.specs.Members.{unless_null}
 use Rattle.json_documents.specs.Reading.{on_value, value_of_text}
 use Rattle.json_laws.specs.Paths.{Enters, Follow, PathsAreShown, PointersLead, TokensArePlain, TokensOfTextsArePlain, behind, is_plain, pointer_tokens, value_at}
 use Rattle.json_laws.proofs.PathSteps.{ArePlain, IsPlain}

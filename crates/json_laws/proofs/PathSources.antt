@@ -6,7 +6,7 @@ use Rattle.std.specs.Ordering.{is_eq, nat_cmp}
 use Rattle.std.specs.FinMap.{nat_cmp-IsAntisymmetric}
 use Rattle.std.proofs.lemmas.Bool.{true≢false}
 use Rattle.std.proofs.lemmas.Cmp.{nat_cmp_total}
-use Rattle.sorted_entries.proofs.Maps.{is_Equal, lookup-inserted_other}
+use Rattle.avm_states.proofs.Maps.{is_Equal, lookup-inserted_other}
 use Rattle.std.specs.Str.{bytes_eq}
 use Rattle.teal_value.specs.Answer.{◌>>=◌}
 use Rattle.teal_source.specs.declared.fault.AsmFault.{AsmFault}
@@ -14,12 +14,12 @@ use Rattle.teal_asm.specs.Program.{assembled}
 use Rattle.avm_ledger.specs.Ledgers.{Ledger}
 use Rattle.json.specs.Json.{Json, Items, no_items, item}
 use Rattle.json.specs.Find.{as_array, as_str, at, get_item}
-use Rattle.json_fields.specs.declared.what.What.TheVariants as what
-use Rattle.json_fields.specs.Steps.{Step, at_index, at_name}
-use Rattle.json_fields.specs.Faults.{Fault, here, in_step, or_else_fault}
-use Rattle.json_fields.specs.Members.{known, needed, optional}
-use Rattle.json_fields.specs.Arrays.{each, gathered}
-use Rattle.json_fields.specs.Plain.{text, uint}
+use Rattle.json_documents.specs.declared.what.What.TheVariants as what
+use Rattle.json_documents.specs.Steps.{Step, at_index, at_name}
+use Rattle.json_documents.specs.Faults.{Fault, here, in_step, or_else_fault}
+use Rattle.json_documents.specs.Members.{known, needed, optional}
+use Rattle.json_documents.specs.Arrays.{each, gathered}
+use Rattle.json_documents.specs.Plain.{text, uint}
 use Rattle.json_documents.specs.Programs.{checked_code, on_source, program_of_source}
 use Rattle.json_documents.specs.Sources.{Place, Programs, Sources, field_named, index_of, is_there, no_sources, program_at, program_for, source_field, targets, targets_from, with_program, with_source, with_source_at}
 use Rattle.json_documents.specs.Tables.{source_names}

@@ -8,19 +8,19 @@ use Rattle.teal_value.specs.declared.value.Value.{Value}
 use Rattle.teal_value.specs.declared.value.Value.TheVariants.{Uint, Bytes}
 use Rattle.teal_check.specs.declared.fault.CheckFault.{CheckFault}
 use Rattle.teal_check.specs.WellFormed.{WellFormed, checked}
-use Rattle.sorted_entries.proofs.Maps.{is_Equal, lookup-inserted_other}
+use Rattle.avm_states.proofs.Maps.{is_Equal, lookup-inserted_other}
 use Rattle.avm_states.proofs.KeyOrder.{byte_same, byte_total}
 use Rattle.avm_states.specs.Entries.{Entries, byte_cmp, most_value_bytes, value_of_key, with_entry}
 use Rattle.avm_states.specs.Schemas.{counts_in, is_within}
 use Rattle.avm_ledger.specs.LedgerReader.{Room}
 use Rattle.json.specs.Json.{Json}
 use Rattle.json.specs.Find.{at}
-use Rattle.json_fields.specs.declared.what.What.TheVariants as what
-use Rattle.json_fields.specs.Steps.{Step, at_index, at_name}
-use Rattle.json_fields.specs.Faults.{Fault, here, in_step}
-use Rattle.json_fields.specs.Members.{known, member, needed, optional}
-use Rattle.json_fields.specs.Arrays.{each}
-use Rattle.json_fields.specs.Plain.{bytes, uint}
+use Rattle.json_documents.specs.declared.what.What.TheVariants as what
+use Rattle.json_documents.specs.Steps.{Step, at_index, at_name}
+use Rattle.json_documents.specs.Faults.{Fault, here, in_step}
+use Rattle.json_documents.specs.Members.{known, member, needed, optional}
+use Rattle.json_documents.specs.Arrays.{each}
+use Rattle.json_documents.specs.Plain.{bytes, uint}
 use Rattle.json_documents.specs.Programs.{checked_code, if_checked, program}
 use Rattle.json_documents.specs.States.{key, kind, kind_of, short_key, short_value, state, value, value_of_kind, with_key_value, within}
 use Rattle.json_documents.specs.Tables.{key_value_names, value_names}

@@ -5,12 +5,12 @@ use Rattle.std.specs.List.{list_all}
 use Rattle.teal_value.specs.Answer.{◌>>=◌}
 use Rattle.json.specs.Json.{Json, null, boolean, number, string, array, object, Items, no_items, item, Members}
 use Rattle.json.specs.Find.{as_array, as_object, at, get_item}
-use Rattle.json_fields.specs.declared.what.What.{What}
-use Rattle.json_fields.specs.declared.what.What.TheVariants as what
-use Rattle.json_fields.specs.Steps.{Step, at_name, at_index}
-use Rattle.json_fields.specs.Faults.{Fault, here, in_step, or_else_fault}
-use Rattle.json_fields.specs.Members.{member, needed, needed_in, optional, optional_in, known, known_in, least_unknown, unless_unknown}
-use Rattle.json_fields.specs.Arrays.{gathered, each}
+use Rattle.json_documents.specs.declared.what.What.{What}
+use Rattle.json_documents.specs.declared.what.What.TheVariants as what
+use Rattle.json_documents.specs.Steps.{Step, at_name, at_index}
+use Rattle.json_documents.specs.Faults.{Fault, here, in_step, or_else_fault}
+use Rattle.json_documents.specs.Members.{member, needed, needed_in, optional, optional_in, known, known_in, least_unknown, unless_unknown}
+use Rattle.json_documents.specs.Arrays.{gathered, each}
 use Rattle.json_laws.specs.Paths.{behind, value_at, is_plain, first_items, table, Before, IsObject, NamesMissing, IsWrong}
 
 -- a value of a document, and the steps that lead to it

@@ -18,7 +18,7 @@ use Rattle.teal_value.specs.AddressText.{checksum}
 use Rattle.teal_value.proofs.AddressLaw as address_law
 use Rattle.teal_text.proofs.ReadBack.{decimal_back}
 use Rattle.avm_rule_laws.specs.Rules.{AreBytes}
-use Rattle.json_fields.specs.Plain.{address, bytes, has_zero_in_front, on_address, uint}
+use Rattle.json_documents.specs.Plain.{address, bytes, has_zero_in_front, on_address, uint}
 use Rattle.json_views.specs.Documents as shown
 
 -- ---- numbers

@@ -28,7 +28,7 @@ use Rattle.json_documents.specs.Documents.{Document, document}
 use Rattle.json_documents.specs.Lines.{call_line, line, lines_text}
 use Rattle.json_documents.specs.Reading.{document_of_text}
 use Rattle.json_documents.specs.Replies.{document_reply, lines_reply}
-use Rattle.json_fields.specs.Faults.{Fault}
+use Rattle.json_documents.specs.Faults.{Fault}
 use Rattle.json_laws.specs.Accepted.{IsAllowedCall, KeepsAllRules}
 use Rattle.json_laws.specs.OfBytes.{HasStringsOfBytes, IsDocumentOfBytes}
 use Rattle.json_laws.specs.Proposed.{IsProposed, input_of}

@@ -10,10 +10,10 @@ use Rattle.avm_ledger.specs.LedgerReader.{Room}
 use Rattle.avm_ledger.specs.LedgerRules.{IsStateEntry, IsStateIn, IsStateValue}
 use Rattle.base64.proofs.OnLiterals.{base64_on_literals}
 use Rattle.avm_rule_laws.specs.Rules.{AreBytes}
-use Rattle.json_fields.specs.Faults.{in_step}
-use Rattle.json_fields.specs.Members.{least_unknown, needed}
-use Rattle.json_fields.specs.Steps.{at_name}
-use Rattle.json_fields.specs.Plain.{bytes}
+use Rattle.json_documents.specs.Faults.{in_step}
+use Rattle.json_documents.specs.Members.{least_unknown, needed}
+use Rattle.json_documents.specs.Steps.{at_name}
+use Rattle.json_documents.specs.Plain.{bytes}
 use Rattle.json_documents.specs.States.{key, kind, new_entry, state, value, with_key_value}
 use Rattle.json_views.specs.Documents.{base64, text, uint}
 use Rattle.json_views.specs.States.{shown_entry, shown_state, shown_value}

@@ -22,13 +22,13 @@ use Rattle.avm_items.specs.declared.call_data.CallData.{CallData}
 use Rattle.avm_block.specs.Blocks.{most_calls}
 use Rattle.json.specs.Json.{Json, array, object, Items, no_items, item}
 use Rattle.json.specs.Find.{as_array, as_number, as_object, as_str, at, get_item, get_member, is_null}
-use Rattle.json_fields.specs.declared.what.What.{What}
-use Rattle.json_fields.specs.declared.what.What.TheVariants as what
-use Rattle.json_fields.specs.Steps.{Step, at_name, at_index, path_text, step_text}
-use Rattle.json_fields.specs.Faults.{Fault, here}
-use Rattle.json_fields.specs.Members.{known, member, needed, optional}
-use Rattle.json_fields.specs.Arrays.{each, gathered}
-use Rattle.json_fields.specs.Plain.{address, bytes, decimal_of, uint}
+use Rattle.json_documents.specs.declared.what.What.{What}
+use Rattle.json_documents.specs.declared.what.What.TheVariants as what
+use Rattle.json_documents.specs.Steps.{Step, at_name, at_index, path_text, step_text}
+use Rattle.json_documents.specs.Faults.{Fault, here}
+use Rattle.json_documents.specs.Members.{known, member, needed, optional}
+use Rattle.json_documents.specs.Arrays.{each, gathered}
+use Rattle.json_documents.specs.Plain.{address, bytes, decimal_of, uint}
 use Rattle.json_documents.specs.Accounts.{account, local}
 use Rattle.json_documents.specs.Applications.{application}
 use Rattle.json_documents.specs.Ids.{end_of_ids, id_below, next_id}

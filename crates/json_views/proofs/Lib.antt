@@ -2,3 +2,11 @@ pub mod AccountRuns
 pub mod BlockEnds
 pub mod MemberRuns
 pub mod Steps
+pub mod TokenRuns
+pub mod NumberedPlaces
+pub mod StateTokens
+pub mod ListedLines
+pub mod ScratchRuns
+pub mod Weights
+pub mod StateRuns
+pub mod TraceTexts

@@ -9,3 +9,10 @@ pub mod ShownLedgers
 pub mod ShownCalls
 pub mod ShownBlocks
 pub mod Show
+pub mod MachineStates
+pub mod Changes
+pub mod Disassembly
+pub mod Traces
+pub mod TraceReplies
+pub mod ValueTokens
+pub mod StateRuns

@@ -3,6 +3,11 @@
 //!
 //! What a ledger is shown as stands in `specs/ShownLedgers.antt`, and a block in `specs/ShownBlocks.antt`, over the parts in
 //! the other files of `specs/`. Documents are written token by token, so that no second form of a ledger stands in memory.
+//!
+//! What each instruction of an entry's call did is a document too, in the words of dry-run responses: what `avm_json trace`
+//! answers (`specs/TraceReplies.antt`). What a trace is stands in `specs/Traces.antt`. Its states are those that the debugger
+//! shows (`avm_stepper`), from before the first instruction to the fault or the end. They are written one after another, and
+//! none is kept.
 #![tactic(auto)]
 
 mod accounts;
@@ -10,10 +15,20 @@ mod applications;
 mod block;
 pub mod by_account;
 mod call;
+mod changes;
+mod disassembly;
 mod ledger;
+mod machine;
+mod refusal;
 mod show;
 mod states;
+mod trace;
+mod trace_replies;
+mod trace_states;
+mod weight;
 pub mod writing;
 
+pub use refusal::TraceRefusal;
 pub use show::show_reply;
 pub use states::put_value;
+pub use trace_replies::trace_reply;

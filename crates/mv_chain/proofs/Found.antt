@@ -1,7 +1,7 @@
 -- Which version a read finds, by going along the versions from one that is not above its timestamp.
 use Rattle.std.proofs.Common.{◌≡◌, ℕ, suc, ◌-◌, ◌<◌, ◌≤◌, ◌≢◌, max, insert, Bool, true, false, if◌then◌else◌, nat_le, List, [], ◌∷◌, length, drop, get_or, refl, sym, ap, ◌∙◌, subst, arith, le-leb}
 use Rattle.std.specs.List.{AllByRecursion}
-use Rattle.mv_chain.specs.declared.Version.{Version}
+use Rattle.mv_chain.specs.declared.chain.Version.{Version}
 use Rattle.mv_chain.specs.Versions.{count_not_above, IsChain, AreRising, newest_at, oldest_timestamp, marked_at_index, versions_read_at, versions_with, versions_from}
 use Rattle.mv_chain.specs.Laws.{IsNewestAt, EveryReadFindsTheNewest, EveryReadMarksItsVersionAlone, EveryInstallIsFound, EveryPruneKeepsReads}
 use Rattle.mv_chain.proofs.Indexes.{AtMost, within, above, at_most}

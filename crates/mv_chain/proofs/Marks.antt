@@ -1,7 +1,7 @@
 -- The mark of the version with a timestamp, along the versions.
 use Rattle.std.proofs.Common.{◌≡◌, ℕ, suc, ◌-◌, ◌<◌, ◌≤◌, ◌≢◌, ◌==◌, max, insert, Bool, true, false, if◌then◌else◌, nat_le, List, [], ◌∷◌, get_or, refl, sym, ap, ◌∙◌, subst, arith}
 use Rattle.std.specs.List.{AllByRecursion}
-use Rattle.mv_chain.specs.declared.Version.{Version}
+use Rattle.mv_chain.specs.declared.chain.Version.{Version}
 use Rattle.mv_chain.specs.Versions.{count_not_above, IsChain, AreRising, mark_in}
 use Rattle.mv_chain.specs.Laws.{EveryInstallKeepsMarks, EveryMarkIsOfItsVersion, EveryPruneKeepsMarks, EveryReadRaisesOneMark}
 use Rattle.mv_chain.proofs.Indexes.{AtMost, within, above, at_most}

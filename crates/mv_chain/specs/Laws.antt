@@ -2,7 +2,7 @@
 -- that.
 use Rattle.std.specs.Prelude.{◌≡◌, ◌≢◌, ℕ, ◌<◌, ◌≤◌, ◌==◌, if◌then◌else◌, max, List, drop, Contains}
 use Rattle.std.specs.List.{AllByRecursion}
-use Rattle.mv_chain.specs.declared.Version.{Version}
+use Rattle.mv_chain.specs.declared.chain.Version.{Version}
 use Rattle.mv_chain.specs.Versions.{IsChain, oldest_timestamp, newest_at, mark_in, versions_read_at, versions_with, versions_from}
 
 -- the version with the greatest timestamp not above t

@@ -12,7 +12,7 @@ use Rattle.mv_history.specs.History.{commit_count}
 use Rattle.mv_history.specs.World.{after_abandon, after_begin, attempt_at, fresh_attempt, live_count, low_after_prune}
 use Rattle.mv_history.proofs.Attempts.{found_attempt}
 use Rattle.mv_history.proofs.Lists.{Compared, less, not_less, compared, Equals, equal, unequal, equals}
-use Rattle.mv_calls.specs.CallHistory.{CallAttempt}
+use Rattle.mv_parts.specs.CallHistory.{CallAttempt}
 use Rattle.mv_shards.specs.declared.read_fault.ReadFault.{ReadFault}
 use Rattle.mv_shards.specs.declared.read_fault.ReadFault.TheVariants.{Pruned}
 use Rattle.mv_shards.specs.Indexes.{shard_of}

@@ -8,9 +8,9 @@ use Rattle.avm_items.specs.declared.item.Item.{Item}
 use Rattle.avm_run.specs.Results.{CallRecord, IsFinishedCall}
 use Rattle.mv_history.specs.History.{entries_with}
 use Rattle.mv_history.specs.World.{after_commit, attempt_at}
-use Rattle.mv_agreement.specs.Stores.{after_entry}
-use Rattle.mv_calls.specs.CallHistory.{CallAttempt, CallEntry, same_item}
-use Rattle.mv_calls.specs.Laws.{entry_of}
+use Rattle.mv_chain.specs.Stores.{after_entry}
+use Rattle.mv_parts.specs.CallHistory.{CallAttempt, CallEntry, same_item}
+use Rattle.mv_parts.specs.CallLaws.{entry_of}
 use Rattle.mv_shards.specs.Helds.{ShardSlots}
 use Rattle.mv_shards.specs.Writing.{versions_for}
 use Rattle.mv_parts.specs.declared.commit_fault.CommitFault.{CommitFault as PartsFault}

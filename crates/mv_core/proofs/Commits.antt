@@ -16,8 +16,8 @@ use Rattle.avm_call.specs.declared.outcome.Outcome.{Outcome}
 use Rattle.avm_run.specs.Results.{CallRecord, IsFinishedCall}
 use Rattle.avm_laws.specs.LedgerLooks.{IsOfLedger}
 use Rattle.avm_laws.proofs.Pruned.{value_itself}
-use Rattle.mv_chain.specs.declared.Late.{Late as LateVersion}
-use Rattle.mv_chain.specs.declared.Version.{Version}
+use Rattle.mv_chain.specs.declared.chain.Late.{Late as LateVersion}
+use Rattle.mv_chain.specs.declared.chain.Version.{Version}
 use Rattle.mv_chain.specs.Versions.{mark_in, newest_at}
 use Rattle.mv_history.specs.Facts.{IsCheckedCommit}
 use Rattle.mv_history.specs.History as history
@@ -28,14 +28,14 @@ use Rattle.mv_history.proofs.Attempts.{all_without, found_attempt}
 use Rattle.mv_history.proofs.Lists.{Compared, less, not_less, compared, Equals, equal, unequal, equals}
 use Rattle.mv_history.proofs.SameWorlds.{version_below-monotone}
 use Rattle.mv_history.proofs.Versions.{all_with, next_below}
-use Rattle.mv_agreement.specs.Stores.{IsStore, after_entry, marks_of}
-use Rattle.mv_agreement.proofs.Agreements.{every_write_follows_the_version_below_lem, no_version_is_at_a_fresh_timestamp_lem}
-use Rattle.mv_agreement.proofs.Stores.{every_commit_leaves_a_store_lem}
-use Rattle.mv_calls.specs.CallHistory.{CallAttempt, CallEntry, CallWorld, meaning_of, same_item}
-use Rattle.mv_calls.specs.CallNumbers.{call_of}
-use Rattle.mv_calls.specs.Laws.{entry_of}
-use Rattle.mv_calls.proofs.Histories.{finished_calls_are_entries}
-use Rattle.mv_calls.proofs.SerialCalls.{items_have_an_equality}
+use Rattle.mv_chain.specs.Stores.{IsStore, after_entry, marks_of}
+use Rattle.mv_chain.proofs.Agreements.{every_write_follows_the_version_below_lem, no_version_is_at_a_fresh_timestamp_lem}
+use Rattle.mv_chain.proofs.Stores.{every_commit_leaves_a_store_lem}
+use Rattle.mv_parts.specs.CallHistory.{CallAttempt, CallEntry, CallWorld, meaning_of, same_item}
+use Rattle.mv_parts.specs.CallNumbers.{call_of}
+use Rattle.mv_parts.specs.CallLaws.{entry_of}
+use Rattle.mv_parts.proofs.Histories.{finished_calls_are_entries}
+use Rattle.mv_parts.proofs.SerialCalls.{items_have_an_equality}
 use Rattle.mv_shards.specs.Indexes.{shard_of}
 use Rattle.mv_shards.specs.Helds.{ShardSlots}
 use Rattle.mv_shards.specs.Shards.{Shard, versions_held}

@@ -8,7 +8,7 @@ use Rattle.avm_items.specs.declared.call_data.CallData.{CallData}
 use Rattle.avm_items.specs.LedgerItems.{at}
 use Rattle.mv_history.specs.World.{attempt_at}
 use Rattle.mv_history.proofs.SameWorlds.{same_world-itself, same_world-trans}
-use Rattle.mv_calls.specs.CallHistory.{same_item}
+use Rattle.mv_parts.specs.CallHistory.{same_item}
 use Rattle.mv_core.specs.declared.running.Event.{Event}
 use Rattle.mv_core.specs.RunningLaws.{IsSameRunning}
 use Rattle.mv_core.specs.Running.{RunInput, Running, first_running, running_after, running_from, worker_at}

@@ -11,7 +11,7 @@ use Rattle.avm_items.specs.declared.item_value.ItemValue.{ItemValue}
 use Rattle.avm_items.specs.LedgerItems.{at}
 use Rattle.avm_call.specs.declared.outcome.Outcome.{Outcome}
 use Rattle.avm_laws.specs.LedgerLooks.{IsOfLedger}
-use Rattle.mv_chain.specs.declared.Version.{Version}
+use Rattle.mv_chain.specs.declared.chain.Version.{Version}
 use Rattle.mv_chain.specs.Laws.{HasMarksFrom}
 use Rattle.mv_chain.specs.Versions.{IsChain, mark_in, newest_at, oldest_timestamp, versions_from, versions_read_at}
 use Rattle.mv_chain.proofs.Marks.{every_prune_keeps_marks_lem, every_read_raises_one_mark_lem}
@@ -24,10 +24,10 @@ use Rattle.mv_history.proofs.Events.{schedule_after_abandon, schedule_after_begi
 use Rattle.mv_history.proofs.Lists.{Compared, less, not_less, compared, all_map, all_push}
 use Rattle.mv_history.proofs.SameWorlds.{version_below-monotone}
 use Rattle.mv_history.proofs.Worlds.{greatest_mark-push}
-use Rattle.mv_agreement.specs.Stores.{IsStore, KeepsMarksFrom, marks_of}
-use Rattle.mv_agreement.proofs.Stores.{every_prune_leaves_a_store_lem, every_read_leaves_a_store_lem}
-use Rattle.mv_calls.specs.CallHistory.{CallAttempt, CallWorld, meaning_of, same_item}
-use Rattle.mv_calls.proofs.SerialCalls.{items_have_an_equality}
+use Rattle.mv_chain.specs.Stores.{IsStore, KeepsMarksFrom, marks_of}
+use Rattle.mv_chain.proofs.Stores.{every_prune_leaves_a_store_lem, every_read_leaves_a_store_lem}
+use Rattle.mv_parts.specs.CallHistory.{CallAttempt, CallWorld, meaning_of, same_item}
+use Rattle.mv_parts.proofs.SerialCalls.{items_have_an_equality}
 use Rattle.mv_shards.specs.Indexes.{shard_count, shard_of}
 use Rattle.mv_shards.specs.Chains.{with_versions}
 use Rattle.mv_shards.specs.Shards.{Shard, versions_held}

@@ -11,9 +11,9 @@ use Rattle.avm_items.specs.LedgerItems.{at}
 use Rattle.mv_chain.specs.Versions.{IsChain, mark_in, versions_from, versions_read_at}
 use Rattle.mv_history.specs.World.{greatest_mark}
 use Rattle.mv_history.proofs.Lists.{Equals, equal, unequal, equals}
-use Rattle.mv_agreement.specs.Stores.{after_item_read}
-use Rattle.mv_calls.specs.CallHistory.{same_item}
-use Rattle.mv_calls.proofs.SerialCalls.{items_have_an_equality}
+use Rattle.mv_chain.specs.Stores.{after_item_read}
+use Rattle.mv_parts.specs.CallHistory.{same_item}
+use Rattle.mv_parts.proofs.SerialCalls.{items_have_an_equality}
 use Rattle.mv_shards.specs.Chains.{VersionLists, versions_or, with_versions}
 use Rattle.mv_shards.specs.Indexes.{shard_count, shard_of}
 use Rattle.mv_shards.specs.Shards.{Shard, versions_held}

@@ -1,6 +1,6 @@
 -- The greatest mark in the list of the marks of versions is the version's.
 use Rattle.std.proofs.Common.{◌≡◌, ℕ, ◌≤◌, ◌&&◌, ◌==◌, max, Bool, true, false, if◌then◌else◌, List, [], ◌∷◌, ◌++◌, refl, sym, ap, ◌∙◌, arith}
-use Rattle.mv_chain.specs.declared.Version.{Version}
+use Rattle.mv_chain.specs.declared.chain.Version.{Version}
 use Rattle.mv_chain.specs.Versions.{IsChain, AreRising, mark_in}
 use Rattle.mv_history.specs.World.{Mark, greatest_mark}
 use Rattle.mv_history.proofs.Lists.{Equals, equal, unequal, equals}

@@ -6,14 +6,14 @@ use Rattle.avm_ledger.specs.Ledgers.{Ledger}
 use Rattle.avm_items.specs.declared.item.Item.{Item}
 use Rattle.avm_items.specs.declared.item_value.ItemValue.{ItemValue}
 use Rattle.avm_items.specs.LedgerItems.{at}
-use Rattle.mv_chain.specs.declared.Version.{Version}
+use Rattle.mv_chain.specs.declared.chain.Version.{Version}
 use Rattle.mv_chain.specs.Versions.{IsChain, mark_in, newest_at, oldest_timestamp, versions_read_at}
 use Rattle.mv_chain.proofs.Marks.{every_read_raises_one_mark_lem}
 use Rattle.mv_history.specs.History.{IsRising, entries_with, version_below}
 use Rattle.mv_history.proofs.SameWorlds.{version_below-grows}
-use Rattle.mv_agreement.specs.Stores.{HoldEntries, after_entry, after_item_read}
-use Rattle.mv_calls.specs.CallHistory.{CallEntry, same_item}
-use Rattle.mv_calls.proofs.SerialCalls.{items_have_an_equality}
+use Rattle.mv_chain.specs.Stores.{HoldEntries, after_entry, after_item_read}
+use Rattle.mv_parts.specs.CallHistory.{CallEntry, same_item}
+use Rattle.mv_parts.proofs.SerialCalls.{items_have_an_equality}
 use Rattle.mv_parts.specs.Commits.{version_followed}
 use Rattle.mv_parts.proofs.Readers.{commit_mark, mark_after}
 use Rattle.mv_core.specs.Calls.{AreMarksBelow}

@@ -9,10 +9,10 @@ use Rattle.avm_items.specs.LedgerItems.{at}
 use Rattle.avm_call.specs.declared.outcome.Outcome.{Outcome}
 use Rattle.mv_history.specs.World.{first_world}
 use Rattle.mv_history.proofs.Events.{schedule_first}
-use Rattle.mv_agreement.specs.Agreement.{HoldsVersions}
-use Rattle.mv_agreement.specs.Stores.{marks_of}
-use Rattle.mv_agreement.proofs.Agreements.{every_first_version_agrees_lem}
-use Rattle.mv_calls.specs.CallHistory.{CallAttempt, same_item}
+use Rattle.mv_chain.specs.Agreement.{HoldsVersions}
+use Rattle.mv_chain.specs.Stores.{marks_of}
+use Rattle.mv_chain.proofs.Agreements.{every_first_version_agrees_lem}
+use Rattle.mv_parts.specs.CallHistory.{CallAttempt, same_item}
 use Rattle.mv_shards.specs.Writing.{versions_for}
 use Rattle.mv_parts.specs.Opening.{first_slots}
 use Rattle.mv_parts.proofs.Opens.{first_over, no_marks, versions_first}

@@ -23,11 +23,11 @@ use Rattle.mv_history.specs.World.{live_count, Begin, Read, Commit, Abandon, Pru
 use Rattle.mv_history.proofs.Attempts.{attempt_at-last, attempt_at-other_read, attempt_at-push, attempt_at-with_read, attempt_at-without, found_attempt}
 use Rattle.mv_history.proofs.Lists.{all_map}
 use Rattle.mv_history.proofs.Worlds.{consistent}
-use Rattle.mv_calls.specs.CallHistory.{CallAttempt, CallWorld, meaning_of, same_item}
-use Rattle.mv_calls.specs.CallNumbers.{call_of}
-use Rattle.mv_calls.specs.SerialCalls.{CallsLeadTo, EveryInterleavingOfCallsIsSerial}
-use Rattle.mv_calls.proofs.Histories.{finished_calls_are_entries}
-use Rattle.mv_calls.proofs.SerialCalls.{calls_lead_on, items_have_an_equality}
+use Rattle.mv_parts.specs.CallHistory.{CallAttempt, CallWorld, meaning_of, same_item}
+use Rattle.mv_parts.specs.CallNumbers.{call_of}
+use Rattle.mv_parts.specs.SerialCalls.{CallsLeadTo, EveryInterleavingOfCallsIsSerial}
+use Rattle.mv_parts.proofs.Histories.{finished_calls_are_entries}
+use Rattle.mv_parts.proofs.SerialCalls.{calls_lead_on, items_have_an_equality}
 use Rattle.mv_core.specs.declared.running.Event.{Event}
 use Rattle.mv_core.specs.declared.running.Event.TheVariants as event
 use Rattle.mv_core.specs.Running.{RunInput, Running, answer_of, by_worker, commit_by, entry_by, first_running, may_begin, index_among, read_by, running_after, running_from, version_before, with_worker, worker_at, writes_in_time}

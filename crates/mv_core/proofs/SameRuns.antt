@@ -14,10 +14,10 @@ use Rattle.mv_history.specs.World.{Abandon, Begin, Commit, Mark, Prune, Read, af
 use Rattle.mv_history.proofs.Attempts.{found_attempt}
 use Rattle.mv_history.proofs.SameWorlds.{after_same_event, version_below-monotone}
 use Rattle.mv_history.proofs.Worlds.{consistent}
-use Rattle.mv_calls.specs.CallHistory.{CallAttempt, meaning_of, same_item}
-use Rattle.mv_calls.specs.CallNumbers.{call_of}
-use Rattle.mv_calls.specs.SerialCalls.{CallsLeadTo}
-use Rattle.mv_calls.proofs.SerialCalls.{items_have_an_equality}
+use Rattle.mv_parts.specs.CallHistory.{CallAttempt, meaning_of, same_item}
+use Rattle.mv_parts.specs.CallNumbers.{call_of}
+use Rattle.mv_parts.specs.SerialCalls.{CallsLeadTo}
+use Rattle.mv_parts.proofs.SerialCalls.{items_have_an_equality}
 use Rattle.avm_items.specs.declared.item.Item.{Item}
 use Rattle.mv_core.specs.declared.running.Event.{Event}
 use Rattle.mv_core.specs.declared.running.Event.TheVariants as event

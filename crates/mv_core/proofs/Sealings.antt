@@ -7,7 +7,7 @@ use Rattle.avm_ledger.specs.declared.header.Header.{Header}
 use Rattle.avm_ledger.specs.Ledgers.{Ledger}
 use Rattle.avm_items.specs.declared.call_data.CallData.{CallData}
 use Rattle.avm_block.specs.Blocks.{Block}
-use Rattle.mv_calls.specs.CallHistory.{CallAttempt}
+use Rattle.mv_parts.specs.CallHistory.{CallAttempt}
 use Rattle.mv_shards.specs.Helds.{ShardSlots}
 use Rattle.mv_parts.specs.declared.seal_fault.SealFault.{SealFault}
 use Rattle.mv_parts.specs.declared.seal_fault.SealFault.TheVariants.{StillLive}

@@ -17,9 +17,9 @@ use Rattle.mv_history.specs.History.{commit_count, version_below}
 use Rattle.mv_history.specs.SameWorlds.{HaveSameMarks, IsSameWorld}
 use Rattle.mv_history.specs.World.{after_abandon, after_begin, after_commit, after_prune, after_read, fresh_attempt, greatest_mark, live_count}
 use Rattle.mv_history.proofs.SameWorlds.{same_world-itself, same_world-sym}
-use Rattle.mv_calls.specs.CallHistory.{CallAttempt, CallEntry, CallWorld, same_item}
-use Rattle.mv_calls.specs.CallNumbers.{call_of}
-use Rattle.mv_calls.specs.Laws.{entry_of}
+use Rattle.mv_parts.specs.CallHistory.{CallAttempt, CallEntry, CallWorld, same_item}
+use Rattle.mv_parts.specs.CallNumbers.{call_of}
+use Rattle.mv_parts.specs.CallLaws.{entry_of}
 use Rattle.mv_core.specs.declared.running.Event.{Event}
 use Rattle.mv_core.specs.declared.running.Event.TheVariants as event
 use Rattle.mv_core.specs.RunningLaws.{IsSameRunning}

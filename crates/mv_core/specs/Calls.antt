@@ -6,11 +6,11 @@ use Rattle.avm_items.specs.declared.call_data.CallData.{CallData}
 use Rattle.avm_items.specs.declared.item.Item.{Item}
 use Rattle.avm_items.specs.declared.item_value.ItemValue.{ItemValue}
 use Rattle.avm_items.specs.LedgerItems.{at}
-use Rattle.mv_chain.specs.declared.Version.{Version}
+use Rattle.mv_chain.specs.declared.chain.Version.{Version}
 use Rattle.mv_chain.specs.Versions.{mark_in}
 use Rattle.mv_history.specs.History.{version_below}
 use Rattle.mv_history.specs.World.{first_world}
-use Rattle.mv_calls.specs.CallHistory.{CallEntry, same_item}
+use Rattle.mv_parts.specs.CallHistory.{CallEntry, same_item}
 use Rattle.mv_shards.specs.Helds.{ShardSlots}
 use Rattle.mv_shards.specs.Writing.{versions_for}
 use Rattle.mv_parts.specs.Journals.{Journal, versions_indexed}

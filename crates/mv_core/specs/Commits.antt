@@ -9,9 +9,9 @@ use Rattle.avm_run.specs.Results.{CallRecord}
 use Rattle.mv_history.specs.History.{version_below}
 use Rattle.mv_history.specs.SameWorlds.{IsSameWorld}
 use Rattle.mv_history.specs.World.{after_commit, attempt_at, greatest_mark}
-use Rattle.mv_agreement.specs.Stores.{after_entry}
-use Rattle.mv_calls.specs.CallHistory.{CallAttempt, same_item}
-use Rattle.mv_calls.specs.Laws.{entry_of}
+use Rattle.mv_chain.specs.Stores.{after_entry}
+use Rattle.mv_parts.specs.CallHistory.{CallAttempt, same_item}
+use Rattle.mv_parts.specs.CallLaws.{entry_of}
 use Rattle.mv_shards.specs.Helds.{IsHeld, ShardSlots}
 use Rattle.mv_shards.specs.Writing.{versions_for}
 use Rattle.mv_parts.specs.declared.commit_fault.CommitFault.{CommitFault as PartsFault}

@@ -11,8 +11,8 @@ use Rattle.std.specs.Prelude.{List}
 use Rattle.mv_history.specs.History.{commit_count}
 use Rattle.mv_history.specs.Schedule.{IsConsistentWorld}
 use Rattle.mv_history.specs.World.{after_abandon, after_begin, fresh_attempt, greatest_mark, live_count, low_after_prune}
-use Rattle.mv_agreement.specs.Stores.{marks_of}
-use Rattle.mv_calls.specs.CallHistory.{CallAttempt, CallWorld, meaning_of, same_item}
+use Rattle.mv_chain.specs.Stores.{marks_of}
+use Rattle.mv_parts.specs.CallHistory.{CallAttempt, CallWorld, meaning_of, same_item}
 use Rattle.mv_shards.specs.Indexes.{shard_of}
 use Rattle.mv_shards.specs.Shards.{Shard}
 use Rattle.mv_shards.specs.Shards as shard

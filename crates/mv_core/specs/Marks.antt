@@ -1,6 +1,6 @@
 -- The marks of versions as a list, as worlds have them.
 use Rattle.std.specs.Prelude.{List, [], ◌∷◌, ◌++◌}
-use Rattle.mv_chain.specs.declared.Version.{Version}
+use Rattle.mv_chain.specs.declared.chain.Version.{Version}
 use Rattle.mv_history.specs.World.{Mark}
 
 -- the marks of an item's versions

@@ -12,8 +12,8 @@ use Rattle.avm_items.specs.Asks.{Answer, answer_from}
 use Rattle.avm_call.specs.Calls.{CallResult, call_result}
 use Rattle.mv_history.specs.History.{commit_count, version_below}
 use Rattle.mv_history.specs.World.{after_begin, after_read, after_commit, after_abandon, after_prune, first_world, fresh_attempt, greatest_mark, live_count}
-use Rattle.mv_calls.specs.CallHistory.{CallAttempt, CallEntry, CallWorld, same_item}
-use Rattle.mv_calls.specs.CallNumbers.{call_of}
+use Rattle.mv_parts.specs.CallHistory.{CallAttempt, CallEntry, CallWorld, same_item}
+use Rattle.mv_parts.specs.CallNumbers.{call_of}
 use Rattle.mv_core.specs.declared.running.Event.{Event}
 use Rattle.mv_core.specs.declared.running.Event.TheVariants as event
 

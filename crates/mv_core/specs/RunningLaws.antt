@@ -11,9 +11,9 @@ use Rattle.avm_call.specs.AskedFor.{AreAskedFor}
 use Rattle.avm_call.specs.Calls.{call_result}
 use Rattle.mv_history.specs.SameWorlds.{IsSameWorld}
 use Rattle.mv_history.specs.World.{IsInTime, attempt_at, greatest_mark}
-use Rattle.mv_calls.specs.CallHistory.{CallAttempt, CallEntry, same_item}
-use Rattle.mv_calls.specs.CallNumbers.{call_of}
-use Rattle.mv_calls.specs.SerialCalls.{AreSerialCalls, CallsLeadTo}
+use Rattle.mv_parts.specs.CallHistory.{CallAttempt, CallEntry, same_item}
+use Rattle.mv_parts.specs.CallNumbers.{call_of}
+use Rattle.mv_parts.specs.SerialCalls.{AreSerialCalls, CallsLeadTo}
 use Rattle.mv_core.specs.declared.running.Event.{Event}
 use Rattle.mv_core.specs.Running.{RunInput, Running, first_running, running_after, running_from, worker_at, writes_in_time}
 

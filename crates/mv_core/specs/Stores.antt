@@ -13,9 +13,9 @@ use Rattle.mv_chain.specs.Versions.{versions_from}
 use Rattle.mv_history.specs.History.{version_below}
 use Rattle.mv_history.specs.SameWorlds.{HaveSameMarks, IsSameWorld}
 use Rattle.mv_history.specs.World.{Mark, KeepsNeededMarks, after_prune, after_read, attempt_at}
-use Rattle.mv_agreement.specs.Stores.{IsStore, after_item_read}
-use Rattle.mv_calls.specs.CallHistory.{CallAttempt, CallWorld, meaning_of, same_item}
-use Rattle.mv_calls.specs.SerialCalls.{AreOfCalls}
+use Rattle.mv_chain.specs.Stores.{IsStore, after_item_read}
+use Rattle.mv_parts.specs.CallHistory.{CallAttempt, CallWorld, meaning_of, same_item}
+use Rattle.mv_parts.specs.SerialCalls.{AreOfCalls}
 use Rattle.mv_shards.specs.Shards.{Shard}
 use Rattle.mv_shards.specs.Helds.{IsHeldPruned, IsHeldRead, ShardSlots}
 use Rattle.mv_shards.specs.Writing.{versions_for}

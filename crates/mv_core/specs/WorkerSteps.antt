@@ -10,9 +10,9 @@ use Rattle.avm_run.specs.RunState.{Progress}
 use Rattle.mv_history.specs.History.{commit_count, version_below}
 use Rattle.mv_history.specs.SameWorlds.{IsSameWorld}
 use Rattle.mv_history.specs.World.{after_abandon, after_begin, after_commit, after_read, fresh_attempt, live_count}
-use Rattle.mv_calls.specs.CallHistory.{CallAttempt, same_item}
-use Rattle.mv_calls.specs.CallNumbers.{call_of}
-use Rattle.mv_calls.specs.Laws.{entry_of}
+use Rattle.mv_parts.specs.CallHistory.{CallAttempt, same_item}
+use Rattle.mv_parts.specs.CallNumbers.{call_of}
+use Rattle.mv_parts.specs.CallLaws.{entry_of}
 use Rattle.mv_core.specs.declared.running.Event.{Event}
 use Rattle.mv_core.specs.declared.running.Event.TheVariants as event
 use Rattle.mv_core.specs.Running.{index_among}

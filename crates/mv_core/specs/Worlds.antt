@@ -8,8 +8,8 @@ use Rattle.avm_call.specs.Calls.{call_result}
 use Rattle.avm_run.specs.Results.{CallRecord, IsFinishedCall}
 use Rattle.avm_run.specs.RunState.{Progress}
 use Rattle.mv_history.specs.World.{attempt_at}
-use Rattle.mv_calls.specs.CallHistory.{CallAttempt}
-use Rattle.mv_calls.specs.CallNumbers.{call_of}
+use Rattle.mv_parts.specs.CallHistory.{CallAttempt}
+use Rattle.mv_parts.specs.CallNumbers.{call_of}
 use Rattle.mv_core.specs.declared.running.Event.{Event}
 use Rattle.mv_core.specs.RunningLaws.{IsSameRunning}
 use Rattle.mv_core.specs.Running.{RunInput, Running, first_running, running_after, running_from}

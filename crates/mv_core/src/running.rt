@@ -3,7 +3,7 @@
 //! speaks (specs/Laws.antt). The functions here are laws and do no work.
 ghost use Rattle.mv_core.specs.RunningLaws.{EveryReadIsUsed, EveryRunIsSerial, EveryRunLeadsOn, EverySameRunGoesOn, EveryWorkerIsLive, TestsAreInTime};
 
-use mv_calls::every_interleaving_of_calls_is_serial;
+use mv_parts::every_interleaving_of_calls_is_serial;
 
 /// A step of one of eight workers, numbered from 0. A step that does not apply where it comes changes nothing.
 #[derive(Clone, Copy, Debug, PartialEq, Eq)]

@@ -8,10 +8,10 @@ ghost use Rattle.avm_laws.specs.LedgerLooks.{IsOfLedger};
 ghost use Rattle.mv_history.specs.History.{entries_below};
 ghost use Rattle.mv_history.specs.Schedule.{IsConsistentWorld};
 ghost use Rattle.mv_history.specs.World.{after_abandon, after_begin};
-ghost use Rattle.mv_agreement.specs.Stores.{HoldEntries};
-ghost use Rattle.mv_calls.specs.CallHistory.{meaning_of, same_item};
-ghost use Rattle.mv_calls.specs.CallNumbers.{call_of};
-ghost use Rattle.mv_calls.specs.SerialCalls.{AreSerialCalls, ledger_of};
+ghost use Rattle.mv_chain.specs.Stores.{HoldEntries};
+ghost use Rattle.mv_parts.specs.CallHistory.{meaning_of, same_item};
+ghost use Rattle.mv_parts.specs.CallNumbers.{call_of};
+ghost use Rattle.mv_parts.specs.SerialCalls.{AreSerialCalls, ledger_of};
 ghost use Rattle.mv_shards.specs.Writing.{versions_for};
 ghost use Rattle.mv_parts.specs.Journals.{IsBeginRefusal, begin_fault};
 ghost use Rattle.mv_core.specs.declared.faults.ReadFault.TheVariants.{Unknown};
@@ -34,8 +34,9 @@ use avm_call::Call;
 use avm_items::{Item, ItemValue};
 use avm_ledger::{Header, Ledger};
 use avm_run::Finished;
-use mv_calls::every_consistent_world_of_calls_is_serial;
-use mv_parts::{BeginError, Entry, Journal, OpenError, open_parts};
+use mv_parts::{
+    BeginError, Entry, Journal, OpenError, every_consistent_world_of_calls_is_serial, open_parts,
+};
 use mv_shards::{Attempt, Held};
 use std::alloc::Global;
 use std::marker::Model;

@@ -2,10 +2,10 @@
 use Rattle.std.proofs.Common.{◌≡◌, ◌≢◌, ℕ, zero, suc, ◌-◌, ◌<◌, ◌==◌, ◌||◌, Bool, true, false, if◌then◌else◌, List, [], ◌∷◌, drop, length, get_or, Contains, Option, None, Some, refl, ap, ◌∙◌, subst, arith}
 use Rattle.std.specs.List.{insert}
 use Rattle.avm_items.specs.declared.item_value.ItemValue.{ItemValue}
-use Rattle.mv_chain.specs.declared.Version.{Version}
+use Rattle.mv_chain.specs.declared.chain.Version.{Version}
 use Rattle.mv_chain.specs.Versions.{AreRising, IsChain, count_not_above, mark_in, marked_at_index, versions_from, versions_read_at}
 use Rattle.mv_history.proofs.Lists.{Equals, equal, unequal, equals}
-use Rattle.mv_agreement.specs.Stores.{marked_where, written_where}
+use Rattle.mv_chain.specs.Stores.{marked_where, written_where}
 use Rattle.mv_shards.specs.Writing.{has_timestamp}
 
 -- ---- a read and a write

@@ -8,7 +8,7 @@ use Rattle.avm_items.specs.declared.item.Item.{Item}
 use Rattle.avm_items.specs.declared.item_value.ItemValue.{ItemValue}
 use Rattle.avm_items.specs.LedgerItems.{at}
 use Rattle.avm_call.specs.declared.outcome.Outcome.{Outcome}
-use Rattle.mv_chain.specs.declared.Version.{Version}
+use Rattle.mv_chain.specs.declared.chain.Version.{Version}
 use Rattle.mv_chain.specs.Versions.{mark_in, oldest_timestamp, versions_read_at}
 use Rattle.mv_chain.proofs.Marks.{every_install_keeps_marks_lem, every_read_raises_one_mark_lem}
 use Rattle.mv_history.specs.History.{IsRising, entries_with, version_below}
@@ -20,12 +20,12 @@ use Rattle.mv_history.proofs.Journals.{versions_spared}
 use Rattle.mv_history.proofs.Lists.{all_found, all_map}
 use Rattle.mv_history.proofs.Newest.{every_commit_is_found_lem}
 use Rattle.mv_history.proofs.Versions.{next_below}
-use Rattle.mv_agreement.specs.Agreement.{HoldsVersions}
-use Rattle.mv_agreement.specs.Stores.{HoldEntries, after_entry, marked_where, written_where}
-use Rattle.mv_agreement.proofs.Agreements.{every_read_keeps_agreement_lem, no_version_is_at_a_fresh_timestamp_lem}
-use Rattle.mv_agreement.proofs.Stores.{reads_found}
-use Rattle.mv_calls.specs.CallHistory.{CallEntry, same_item}
-use Rattle.mv_calls.proofs.SerialCalls.{items_have_an_equality}
+use Rattle.mv_chain.specs.Agreement.{HoldsVersions}
+use Rattle.mv_chain.specs.Stores.{HoldEntries, after_entry, marked_where, written_where}
+use Rattle.mv_chain.proofs.Agreements.{every_read_keeps_agreement_lem, no_version_is_at_a_fresh_timestamp_lem}
+use Rattle.mv_chain.proofs.Stores.{reads_found}
+use Rattle.mv_parts.specs.CallHistory.{CallEntry, same_item}
+use Rattle.mv_parts.proofs.SerialCalls.{items_have_an_equality}
 use Rattle.mv_parts.specs.Commits.{version_followed}
 use Rattle.mv_parts.specs.Journals.{AreMarkedByEntries, greatest_among, greatest_reader, has_read, version_read}
 

@@ -8,8 +8,8 @@ use Rattle.avm_call.specs.CallRules.{call_fault}
 use Rattle.avm_call.specs.Replay.{ledger_after, outcome_on}
 use Rattle.avm_block.specs.declared.entry.Entry as block
 use Rattle.avm_block.specs.Blocks.{Block, Replays}
-use Rattle.mv_calls.specs.CallHistory.{CallEntry}
-use Rattle.mv_calls.specs.CallNumbers.{call_of}
+use Rattle.mv_parts.specs.CallHistory.{CallEntry}
+use Rattle.mv_parts.specs.CallNumbers.{call_of}
 
 -- ---- how the block is made
 

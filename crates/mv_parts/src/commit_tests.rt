@@ -3,7 +3,7 @@
 ghost use Rattle.std.specs.Prelude.{◌≡◌, ◌↔◌, ◌-◌, ◌<◌, IsTrue, Some};
 ghost use Rattle.std.specs.Option.{option_copied};
 ghost use Rattle.mv_chain.specs.Versions.{newest_at};
-ghost use Rattle.mv_calls.specs.CallNumbers.{call_of};
+ghost use Rattle.mv_parts.specs.CallNumbers.{call_of};
 ghost use Rattle.mv_shards.specs.Helds.{AreHeld, IsHeld};
 ghost use Rattle.mv_shards.specs.Writing.{AreLow, versions_for};
 ghost use Rattle.mv_parts.specs.Commits.{IsOwnCall, late_write, lateness_in_both, later as later_of, moved_item, no_version};

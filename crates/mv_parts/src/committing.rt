@@ -2,7 +2,7 @@
 
 ghost use Rattle.std.specs.Prelude.{◌≡◌, ◌-◌, ◌<◌, OnErr, OnOk, vec_capacity, vec_len};
 ghost use Rattle.mv_history.specs.History.{IsRising, entries_with};
-ghost use Rattle.mv_calls.specs.Laws.{entry_of as entry_at};
+ghost use Rattle.mv_parts.specs.CallLaws.{entry_of as entry_at};
 ghost use Rattle.mv_shards.specs.Writing.{AreWritten, CanTake};
 ghost use Rattle.mv_parts.specs.Commits.{entries_not_above};
 

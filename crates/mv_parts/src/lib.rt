@@ -4,7 +4,8 @@
 //! are told, each by its own lock, this crate joins.
 //!
 //! What is seen of a journal, and what it keeps, is in specs/Journals.antt; to which block it is sealed, in
-//! specs/Sealing.antt; when a shard agrees with a journal, in specs/Agreeing.antt.
+//! specs/Sealing.antt; when a shard agrees with a journal, in specs/Agreeing.antt. The order theorem for calls on a ledger, on which it
+//! rests, is in specs/SerialCalls.antt.
 #![tactic(auto)]
 
 mod base;
@@ -23,6 +24,7 @@ mod past;
 mod same_ledger;
 mod seal_fault;
 mod sealing;
+mod serial_calls;
 
 pub use base::SharedBase;
 pub use begin_fault::{BeginError, BeginFault};
@@ -34,3 +36,7 @@ pub use open_fault::{OpenError, OpenFault};
 pub use opening::{open_on, open_parts};
 pub use seal_fault::{RefusedSeal, SealError, SealFault};
 pub use sealing::Sealed;
+pub use serial_calls::{
+    LedgerLookups, calls_leave_lookups, every_consistent_world_of_calls_is_serial,
+    every_interleaving_of_calls_is_serial, histories_are_replays, order_theorem,
+};

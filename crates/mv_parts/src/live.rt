@@ -6,7 +6,7 @@ ghost use Rattle.std.specs.BTreeMap.{insert_entry, is_at};
 ghost use Rattle.std.specs.Ordering.{nat_cmp};
 ghost use Rattle.std.specs.List.Sorted.{IsStrictlySortedBy};
 
-use sorted_entries::{put, take, value_of};
+use avm_states::sorted_entries::{put, take, value_of};
 use std::alloc::{AllocError, Global};
 use std::marker::Model;
 

@@ -5,13 +5,13 @@ use Rattle.std.specs.Ordering.{is_eq}
 use Rattle.std.specs.Map.{lookup}
 use Rattle.std.specs.BTreeMap.{is_at}
 use Rattle.avm_ledger.specs.Ledgers.{Ledger}
-use Rattle.sorted_entries.proofs.Maps.{same_map, sorted-inserted}
+use Rattle.avm_states.proofs.Maps.{same_map, sorted-inserted}
 use Rattle.avm_items.specs.declared.item.Item.{Item}
 use Rattle.avm_items.specs.declared.item_value.ItemValue.{ItemValue}
 use Rattle.avm_items.specs.Items.{item_cmp, value_in}
 use Rattle.avm_items.specs.LedgerItems.{at}
 use Rattle.avm_items.proofs.Puts.{item_same, item_total}
-use Rattle.mv_chain.specs.declared.Version.{Version}
+use Rattle.mv_chain.specs.declared.chain.Version.{Version}
 use Rattle.mv_chain.specs.Versions.{newest_at, oldest_timestamp, versions_read_at}
 use Rattle.mv_shards.specs.Attempts.{CallAttempt}
 use Rattle.mv_shards.specs.Chains.{versions_in, versions_or, with_versions}

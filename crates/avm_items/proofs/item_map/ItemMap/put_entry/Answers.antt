@@ -1,7 +1,7 @@
 use Rattle.std.proofs.Common.{subst}
 use Rattle.std.proofs.lemmas.Result.{IfOk-weaker}
 use Rattle.avm_states.specs.Entries.{with_entry}
-use Rattle.sorted_entries.specs.Places.{StandsAt}
+use Rattle.avm_states.specs.Places.{StandsAt}
 use Rattle.avm_items.specs.Items.{item_cmp}
 use Rattle.avm_items.proofs.InPlace.{changed_state, set_in_order}
 use Rattle.avm_items.proofs.item_map.ItemMap.put_entry.Goals as goal

@@ -1,6 +1,6 @@
 use Rattle.std.proofs.Common.{subst}
 use Rattle.avm_states.specs.Entries.{without_entry}
-use Rattle.sorted_entries.specs.Places.{StandsAt}
+use Rattle.avm_states.specs.Places.{StandsAt}
 use Rattle.avm_items.specs.Items.{item_cmp}
 use Rattle.avm_items.proofs.InPlace.{changed_state, set_in_order}
 use Rattle.avm_items.proofs.item_map.ItemMap.remove_entry.Goals as goal

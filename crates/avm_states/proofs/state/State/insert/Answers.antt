@@ -3,7 +3,7 @@ use Rattle.avm_states.specs.Entries.{IsInKeyOrder}
 use Rattle.avm_states.specs.Schemas.{IsCounted, uncounted}
 use Rattle.avm_states.proofs.KeyOrder.{byte_total}
 use Rattle.avm_states.proofs.Counts.{counted_after_put, few}
-use Rattle.sorted_entries.proofs.Maps.{sorted-inserted}
+use Rattle.avm_states.proofs.Maps.{sorted-inserted}
 use Rattle.avm_states.proofs.state.State.insert.Goals as goal
 
 -- The entries after the put are counted by the sum, and are as many as a length may be.

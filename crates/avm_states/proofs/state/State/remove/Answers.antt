@@ -2,7 +2,7 @@ use Rattle.std.proofs.Common.{arith, subst, sym, ap, ◌∙◌}
 use Rattle.avm_states.specs.Entries.{IsInKeyOrder}
 use Rattle.avm_states.specs.Schemas.{uncounted}
 use Rattle.avm_states.proofs.KeyOrder.{byte_total}
-use Rattle.sorted_entries.proofs.Maps.{sorted-removed}
+use Rattle.avm_states.proofs.Maps.{sorted-removed}
 use Rattle.avm_states.proofs.Counts.{counted_after_delete}
 use Rattle.avm_states.proofs.state.State.remove.Goals as goal
 

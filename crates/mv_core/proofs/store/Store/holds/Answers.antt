@@ -1,4 +1,4 @@
-use Rattle.mv_agreement.specs.Stores.{marks_of}
+use Rattle.mv_chain.specs.Stores.{marks_of}
 use Rattle.mv_shards.specs.Writing.{versions_for}
 use Rattle.mv_core.proofs.Events.{consistent_world}
 use Rattle.mv_core.proofs.store.Store.holds.Goals as goal

@@ -1,8 +1,0 @@
-use Rattle.std.proofs.Common.{◌≡◌, drop}
-use Rattle.json_fields.specs.Members.{is_among}
-use Rattle.json_fields.specs.Shown.{names_shown}
-use Rattle.json_fields.proofs.members.is_among.Given as goal
-
--- the name is among those that are left where it is among all
-abbrev pub invariant-loop-other : goal.invariant-loop-other
-invariant-loop-other l = is_among (names_shown (drop l.other-index l.names)) l.name ≡ is_among (names_shown l.names) l.name

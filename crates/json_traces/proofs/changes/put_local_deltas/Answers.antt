@@ -1,7 +1,0 @@
-use Rattle.std.proofs.Common.{ap, map, refl}
-use Rattle.json_views.proofs.AccountRuns.{begins}
-use Rattle.json_traces.specs.Changes.{account_change, delta_name, shown_change}
-use Rattle.json_traces.proofs.changes.put_local_deltas.Goals as goal
-
-pub loop-change-init : goal.loop-change-init
-loop-change-init c = begins delta_name shown_change refl c.in_ok-begin_array.ensures

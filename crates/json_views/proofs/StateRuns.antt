@@ -1,0 +1,214 @@
+-- The states of a call's program, written one after another.
+use Rattle.std.proofs.Common.{◌≡◌, ◌∙◌, ℕ, zero, suc, ◌+◌, ◌-◌, ◌<◌, ◌≤◌, Bool, true, false, not, List, [], ◌∷◌, ◌++◌, Option, Some, None, Result, Ok, Err, refl, sym, ap, subst, inl, inr, append_assoc, append-nil, arith}
+use Rattle.std.specs.Prelude.{option_map}
+use Rattle.std.proofs.lemmas.Bool.{cases_lt}
+use Rattle.json.specs.Token.{Token, begin_array, end_array}
+use Rattle.json.specs.Tree.{json_tokens}
+use Rattle.teal_value.specs.declared.failure.Failure.TheVariants as failure
+use Rattle.teal_code.specs.declared.instr.Instr.{Instr}
+use Rattle.teal_check.specs.WellFormed.{WellFormed}
+use Rattle.avm_ledger.specs.declared.header.Header.{Header}
+use Rattle.avm_ledger.specs.Ledgers.{Ledger}
+use Rattle.avm_items.specs.declared.call_data.CallData.{CallData}
+use Rattle.avm_call.specs.Views.{NextStep, Runs, Faults, AtEnd, View, view_after}
+use Rattle.avm_stepper.specs.declared.faults.StepFault.{StepFault}
+use Rattle.avm_stepper.specs.declared.faults.StepFault.TheVariants as fault
+use Rattle.avm_stepper.specs.Debugging.{Debugged, debug_view, steps_shown}
+use Rattle.avm_stepper.specs.DebugSteps.{StepsTo}
+use Rattle.avm_stepper.specs.Shown.{MachineState, machine_of}
+use Rattle.avm_commands.specs.DebugCommands.{CanGo, HasNext, next_after}
+use Rattle.avm_commands.specs.DebugRuns.{HasMade}
+use Rattle.avm_commands.proofs.StepsMade.{ended_there, made_more}
+use Rattle.json_views.specs.Documents.{array_of}
+use Rattle.json_views.specs.Writing.{Adds}
+use Rattle.json_views.specs.declared.refusal.TraceRefusal.TheVariants as refusal
+use Rattle.json_views.specs.MachineStates.{shown_state}
+use Rattle.json_views.specs.ValueTokens.{state_weight, states_weight}
+use Rattle.json_views.specs.StateRuns.{AddsStates, IsAtStart, IsHeavy, IsStatesFailure, WritesState, is_instruction}
+use Rattle.json_views.specs.Traces.{HasStates, first_states, most_text, state_in}
+use Rattle.json_views.proofs.TokenRuns.{closed, run, run_more}
+use Rattle.json_views.proofs.Weights.{weights-append}
+
+-- ---- over one call
+
+module _ (l : Ledger) (call : CallData) (header : Header) where
+  view_of_next : (n : ℕ) (o : Option View) (i : Instr) → option_map (λ (v : View). v.next) o ≡ Some (Runs i) → o ≡ None → ⊥
+  view_of_next n (Some v) i e none = absurd cc
+  view_of_next n None i e none = absurd cc
+
+  -- a state more
+  one_more : (n : ℕ) (v : View) → view_after l call header n ≡ Some v → first_states l call header (n + 1) ≡ first_states l call header n ++ machine_of v ∷ []
+  one_more n v there =
+      let next : n + 1 ≡ suc n = omega arith in
+      ap (first_states l call header) next ∙ ap (λ o. first_states l call header n ++ state_in o) there
+
+  next_in : (n : ℕ) (v : View) (i : Instr) → view_after l call header n ≡ Some v → v.next ≡ Runs i → HasNext l call header n
+  next_in n v i there is = (i, ap (option_map (λ (w : View). w.next)) there ∙ ap (λ x. Some x) is)
+
+  runs_on : (n : ℕ) (v : View) → view_after l call header n ≡ Some v → (next : NextStep) → v.next ≡ next → is_instruction next ≡ true → HasNext l call header n
+  runs_on n v there (Runs i) is true' = next_in n v i there is
+  runs_on n v there (Faults f) is true' = absurd cc
+  runs_on n v there AtEnd is true' = absurd cc
+
+  told : (x y : NextStep) → Some x ≡ Some y → x ≡ y
+  told x y e = cc
+
+  stops : (n : ℕ) (v : View) → view_after l call header n ≡ Some v → is_instruction v.next ≡ false → HasNext l call header n → ⊥
+  stops n v there false' next =
+      let is : v.next ≡ Runs next.0 = told v.next (Runs next.0) (sym (ap (option_map (λ (w : View). w.next)) there) ∙ next.1) in
+      let both : false ≡ true = sym false' ∙ ap is_instruction is in absurd cc
+
+  -- ---- how much the states take
+
+  has_view : (n : ℕ) → HasNext l call header n → (o : Option View) → view_after l call header n ≡ o → (v : View) × (view_after l call header n ≡ Some v)
+  has_view n next (Some v) is = (v, is)
+  has_view n next None is = absurd (view_of_next n (view_after l call header n) next.0 next.1 is)
+
+  pub states_count : (n : ℕ) → CanGo l call header n → n ≤ states_weight (first_states l call header n)
+  states_count zero can = omega arith
+  states_count (suc n) can =
+      let (v, there) = has_view n (can n (omega arith)) (view_after l call header n) refl in
+      let is : states_weight (first_states l call header (suc n)) ≡ states_weight (first_states l call header n ++ machine_of v ∷ []) = ap (λ o. states_weight (first_states l call header n ++ state_in o)) there in
+      omega (arith, is, states_count n (λ m lt. can m (omega (arith, lt))), weights-append (first_states l call header n) (machine_of v ∷ []))
+
+  step_more : (n : ℕ) → states_weight (first_states l call header n) ≤ states_weight (first_states l call header (suc n))
+  step_more n = omega (arith, weights-append (first_states l call header n) (state_in (view_after l call header n)))
+
+  pub states_grow : (n m : ℕ) → n ≤ m → states_weight (first_states l call header n) ≤ states_weight (first_states l call header m)
+  states_grow n zero le = let same : n ≡ zero = omega arith in rw same (omega arith)
+  states_grow n (suc m) le = elim (cases_lt m n) [
+    | inl below ↦ let same : n ≡ suc m = omega (arith, below, le) in rw same (omega arith)
+    | inr above ↦ omega (arith, states_grow n m above, step_more m)
+  ]
+
+  -- more states than a text may have bytes
+  pub heavy_after : (n : ℕ) → CanGo l call header n → most_text < n → IsHeavy l call header
+  heavy_after zero can lt = absurd (omega (arith, lt))
+  heavy_after (suc n) can lt = (n, (λ m below. can m (omega (arith, below))), omega (arith, lt, states_count (suc n) can))
+
+  -- ---- the run
+
+  module _ (p : WellFormed) where
+    -- so many states were written, and the stepper stands in the next one
+    pub record StatesRun (now : Option Debugged) (begun out : List Token) (n total : ℕ) : Type 0 where
+      pub made : HasMade l call header n now
+      pub written : out ≡ begun ++ run (shown_state p) (first_states l call header n)
+      pub light : total ≤ states_weight (first_states l call header n)
+
+    -- the next one was written too
+    pub record WrittenState (begun out : List Token) (n total : ℕ) (goes_on : Bool) : Type 0 where
+      pub view : View
+      pub there : view_after l call header n ≡ Some view
+      pub written : out ≡ begun ++ run (shown_state p) (first_states l call header (n + 1))
+      pub light : total ≤ states_weight (first_states l call header (n + 1))
+      pub told : goes_on ≡ is_instruction view.next
+
+    pub state_written : (now : Option Debugged) (begun old new : List Token) (n total weight more : ℕ) (goes_on : Bool) → StatesRun now begun old n total → WritesState p now old new weight goes_on → more ≤ total + weight
+        → WrittenState begun new n more goes_on
+    state_written now begun old new n total weight more goes_on s w sum =
+        let made = s.made in
+        let (v, view, wrote, light, told) = subst (λ m. WritesState p m old new weight goes_on) made.is w in
+        let there : view_after l call header n ≡ Some v = subst (λ m. view_after l call header m ≡ Some v) made.counted view in
+        let states = one_more n v there in
+        record {
+          view = v;
+          there = there;
+          written = wrote ∙ ap (λ ts. ts ++ json_tokens (shown_state p (machine_of v))) s.written
+              ∙ append_assoc begun (run (shown_state p) (first_states l call header n)) (json_tokens (shown_state p (machine_of v)))
+              ∙ ap (λ ts. begun ++ ts) (sym (run_more (shown_state p) (first_states l call header n) (machine_of v)) ∙ ap (run (shown_state p)) (sym states));
+          light = omega (arith, sum, light, s.light, ap states_weight states, weights-append (first_states l call header n) (machine_of v ∷ []));
+          told = told;
+        }
+
+    pub goes_on : (now after : Option Debugged) (begun old out : List Token) (n total more : ℕ) → StatesRun now begun old n total → WrittenState begun out n more true → StepsTo now after (Ok tt)
+        → StatesRun after begun out (n + 1) more
+    goes_on now after begun old out n total more s w steps = record { made = made_more l call header n now after s.made steps; written = w.written; light = w.light }
+
+    pub never_ended : (now after : Option Debugged) (begun old out : List Token) (n total more : ℕ) (f : StepFault) → StatesRun now begun old n total → WrittenState begun out n more true → StepsTo now after (Err (failure.Fault f)) → ⊥
+    never_ended now after begun old out n total more fault.Ended s w steps = ended_there l call header n now after s.made steps (runs_on n w.view w.there w.view.next refl (sym w.told))
+    never_ended now after begun old out n total more fault.Spent s w steps = subst (λ m. StepsTo m after (Err (failure.Fault fault.Spent))) s.made.is steps
+
+    pub heavy_now : (now : Option Debugged) (begun old out : List Token) (n total more : ℕ) (goes_on : Bool) → StatesRun now begun old n total → WrittenState begun out n more goes_on → most_text < more → IsHeavy l call header
+    heavy_now now begun old out n total more goes_on s w lt =
+        let next : n + 1 ≡ suc n = omega arith in
+        (n, s.made.can_go, subst (λ m. most_text < states_weight (first_states l call header m)) next (omega (arith, lt, w.light)))
+
+    pub all_states : (now : Option Debugged) (start begun old out new : List Token) (n total more : ℕ) → StatesRun now begun old n total → WrittenState begun out n more false → begun ≡ start ++ begin_array ∷ []
+        → new ≡ out ++ end_array ∷ []
+        → (count : ℕ) × HasStates l call header count × HasMade l call header (count - 1) now × (new ≡ start ++ json_tokens (array_of (shown_state p) (first_states l call header count)))
+    all_states now start begun old out new n total more s w begins ends =
+        let last : (n + 1) - 1 ≡ n = omega arith in
+        let states = first_states l call header (n + 1) in (
+          n + 1,
+          record {
+            some = omega arith;
+            go_on = subst (CanGo l call header) (sym last) s.made.can_go;
+            ends = λ next. stops n w.view w.there (sym w.told) (subst (HasNext l call header) last next);
+          },
+          subst (λ m. HasMade l call header m now) (sym last) s.made,
+          ends ∙ ap (λ ts. ts ++ end_array ∷ []) (w.written ∙ ap (λ ts. ts ++ run (shown_state p) states) begins)
+              ∙ append_assoc (start ++ begin_array ∷ []) (run (shown_state p) states) (end_array ∷ [])
+              ∙ append_assoc start (begin_array ∷ []) (run (shown_state p) states ++ end_array ∷ [])
+              ∙ ap (λ ts. start ++ begin_array ∷ ts) (closed (shown_state p) states),
+        )
+
+-- ---- from a stepper at the start
+
+abbrev pub StatesOn : WellFormed → Option Debugged → Option Debugged → List Token → List Token → ℕ → ℕ → Type 0
+StatesOn p None now start out n total = ⊥
+StatesOn p (Some d) now start out n total = StatesRun d.ledger d.call d.header p now (start ++ begin_array ∷ []) out n total
+
+pub first_on : (p : WellFormed) (d : Option Debugged) (start out : List Token) → IsAtStart d → Adds start out (begin_array ∷ []) → StatesOn p d d start out 0 0
+first_on p None start out at adds = absurd at
+first_on p (Some d) start out at adds = record {
+  made = record { steps = 0; fault = None; is = ap (λ e. Some e) at; counted = refl; can_go = λ n lt. absurd (omega (arith, lt)); over = tt };
+  written = adds.is ∙ sym (append-nil (start ++ begin_array ∷ []));
+  light = omega arith;
+}
+
+abbrev pub WrittenOn : WellFormed → Option Debugged → List Token → List Token → ℕ → ℕ → Bool → Type 0
+WrittenOn p None start out n total goes_on = ⊥
+WrittenOn p (Some d) start out n total goes_on = WrittenState d.ledger d.call d.header p (start ++ begin_array ∷ []) out n total goes_on
+
+pub written_on : (p : WellFormed) (d now : Option Debugged) (start old new : List Token) (n total weight more : ℕ) (goes_on : Bool) → StatesOn p d now start old n total → WritesState p now old new weight goes_on → more ≤ total + weight
+    → WrittenOn p d start new n more goes_on
+written_on p None now start old new n total weight more goes_on s w sum = absurd s
+written_on p (Some d) now start old new n total weight more goes_on s w sum = state_written d.ledger d.call d.header p now (start ++ begin_array ∷ []) old new n total weight more goes_on s w sum
+
+pub next_on : (p : WellFormed) (d now after : Option Debugged) (start old out : List Token) (n total more : ℕ) → StatesOn p d now start old n total → WrittenOn p d start out n more true → StepsTo now after (Ok tt) → StatesOn p d after start out (n + 1) more
+next_on p None now after start old out n total more s w steps = absurd s
+next_on p (Some d) now after start old out n total more s w steps = goes_on d.ledger d.call d.header p now after (start ++ begin_array ∷ []) old out n total more s w steps
+
+pub never_on : (p : WellFormed) (d now after : Option Debugged) (start old out : List Token) (n total more : ℕ) (f : StepFault) → StatesOn p d now start old n total → WrittenOn p d start out n more true → StepsTo now after (Err (failure.Fault f)) → ⊥
+never_on p None now after start old out n total more f s w steps = s
+never_on p (Some d) now after start old out n total more f s w steps = never_ended d.ledger d.call d.header p now after (start ++ begin_array ∷ []) old out n total more f s w steps
+
+abbrev pub HeavyOn : Option Debugged → Type 0
+HeavyOn None = ⊥
+HeavyOn (Some d) = IsHeavy d.ledger d.call d.header
+
+pub heavy_on : (p : WellFormed) (d now : Option Debugged) (start old out : List Token) (n total more : ℕ) (goes_on : Bool) → StatesOn p d now start old n total → WrittenOn p d start out n more goes_on → most_text < more → HeavyOn d
+heavy_on p None now start old out n total more goes_on s w lt = s
+heavy_on p (Some d) now start old out n total more goes_on s w lt = heavy_now d.ledger d.call d.header p now (start ++ begin_array ∷ []) old out n total more goes_on s w lt
+
+pub heavy_end : (p : WellFormed) (d now : Option Debugged) (start old : List Token) (n total : ℕ) → StatesOn p d now start old n total → most_text < n → HeavyOn d
+heavy_end p None now start old n total s lt = s
+heavy_end p (Some d) now start old n total s lt = heavy_after d.ledger d.call d.header n s.made.can_go lt
+
+pub all_on : (p : WellFormed) (d now : Option Debugged) (start old out new : List Token) (n total more : ℕ) → StatesOn p d now start old n total → WrittenOn p d start out n more false → new ≡ out ++ end_array ∷ [] → AddsStates p d now start new
+all_on p None now start old out new n total more s w ends = absurd s
+all_on p (Some d) now start old out new n total more s w ends = all_states d.ledger d.call d.header p now start (start ++ begin_array ∷ []) old out new n total more s w refl ends
+
+pub too_long : (d : Option Debugged) → HeavyOn d → IsStatesFailure d (failure.Fault refusal.TooLong)
+too_long None heavy = absurd heavy
+too_long (Some d) heavy = heavy
+
+-- ---- whether it goes on
+
+pub stops_if : (b : Bool) → not b ≡ true → b ≡ false
+stops_if true e = absurd cc
+stops_if false e = refl
+
+pub goes_if : (b : Bool) → not b ≡ false → b ≡ true
+goes_if true e = refl
+goes_if false e = absurd cc

@@ -1,0 +1,12 @@
+use Rattle.std.proofs.Common.{Err, refl}
+use Rattle.std.proofs.lemmas.Result.{IfOk-weaker}
+use Rattle.json_views.proofs.TraceTexts.{found_shown}
+use Rattle.json_views.proofs.trace_replies.found_reply.Goals as goal
+
+pub returns-in-Ok : goal.returns-in-Ok
+returns-in-Ok g c = found_shown (c.args.ledger.now, c.args.block.now) c.args.entry _ _ c.in-Ok.ensures.found refl
+
+pub returns-in-Err-Fault : goal.returns-in-Err-Fault
+returns-in-Err-Fault g c =
+    IfOk-weaker c.refused_reply.result _ _
+    (λ reply is. (Err c.in-Err-Fault.refusal, rw c.in-Err-Fault.field-0-is at c.in-Err-Fault.ensures.refused, is)) c.refused_reply.ensures

@@ -1,3 +1,0 @@
-pub mod Agreement
-pub mod Laws
-pub mod Stores

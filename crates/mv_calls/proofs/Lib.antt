@@ -1,3 +1,0 @@
-pub mod LookupsAfter
-pub mod Histories
-pub mod SerialCalls

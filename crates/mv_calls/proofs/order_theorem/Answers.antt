@@ -1,5 +1,0 @@
-use Rattle.mv_calls.proofs.SerialCalls.{items_have_an_equality}
-use Rattle.mv_calls.proofs.order_theorem.Goals as goal
-
-pub returns-clause-equality : goal.returns-clause-equality
-returns-clause-equality c = items_have_an_equality

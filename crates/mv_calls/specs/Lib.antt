@@ -1,5 +1,0 @@
-pub mod CallNumbers
-pub mod CallHistory
-pub mod EntryWrites
-pub mod Laws
-pub mod SerialCalls
