@@ -1,9 +1,11 @@
--- Lists of one length with a number behind each: the lists are compared first, and then the numbers.
-use Rattle.std.proofs.Common.{ℕ, ◌≡◌, ◌==◌, ◌&&◌, ◌∙◌, Bool, true, false, List, [], ◌∷◌, ◌++◌, length, refl, ap, arith}
+-- Lists that are compared: with a number behind each, where they have one length, and lists that are the same.
+use Rattle.std.proofs.Common.{ℕ, ◌≡◌, ◌==◌, ◌&&◌, ◌∙◌, Bool, true, false, List, [], ◌∷◌, ◌++◌, length, refl, ap, sym, arith}
 use Rattle.std.specs.declared.cmp.Ordering.TheVariants.{Less, Equal, Greater}
 use Rattle.std.specs.declared.cmp.Ordering.{Ordering}
-use Rattle.std.specs.Cmp.Lexicographic.{slice_cmp, pointwise}
+use Rattle.std.specs.Cmp.{unsigned_ties}
+use Rattle.std.specs.Cmp.Lexicographic.{slice_cmp, pointwise, lists_ties}
 use Rattle.std.specs.Ordering.{nat_cmp, ordering_then}
+use Rattle.avm_states.proofs.Maps.{is_Equal}
 
 then_end : (o : Ordering) → ordering_then o Equal ≡ o
 then_end Less = refl
@@ -38,3 +40,7 @@ pointwise_end (x ∷ xs) (y ∷ ys) a b e =
     ap (λ t. (x == y) && t) (pointwise_end xs ys a b (omega (arith, e))) ∙ and_and (x == y) (pointwise ◌==◌ xs ys) (a == b)
 pointwise_end [] (y ∷ ys) a b e = absurd (omega (arith, e))
 pointwise_end (x ∷ xs) [] a b e = absurd (omega (arith, e))
+
+-- lists that are the same tie
+pub same_is_equal : (xs ys : List ℕ) → pointwise ◌==◌ xs ys ≡ true → slice_cmp nat_cmp xs ys ≡ Equal
+same_is_equal xs ys same = is_Equal (slice_cmp nat_cmp xs ys) (sym (lists_ties nat_cmp unsigned_ties xs ys) ∙ same)

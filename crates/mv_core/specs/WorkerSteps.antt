@@ -23,8 +23,6 @@ use Rattle.mv_core.specs.Commits.{late_write}
 use Rattle.mv_core.specs.SeenStores.{Store}
 use Rattle.mv_core.specs.Worlds.{input_of, reads_or_none, attempt_by, attempt_of, IsLiveWith}
 
--- ---- by parts
-
 -- a run that is not spent
 abbrev pub IsGoing : Option Progress → Type 0
 IsGoing run = IsSome run

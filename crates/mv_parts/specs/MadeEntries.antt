@@ -11,8 +11,6 @@ use Rattle.avm_block.specs.Blocks.{Block, Replays}
 use Rattle.mv_parts.specs.CallHistory.{CallEntry}
 use Rattle.mv_parts.specs.CallNumbers.{call_of}
 
--- ---- how the block is made
-
 -- A committed call on the ledger before it: it is one of the calls, ends as its entry says, and changes what its entry
 -- writes.
 pub record IsMadeOn (l : Ledger) (header : Header) (calls : List CallData) (e : CallEntry) : Type 0 where

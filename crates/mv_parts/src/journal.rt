@@ -164,7 +164,6 @@ impl Journal {
         ensures back { IfErr result (λ refused. (refused.attempt ≡ attempt) × (refused.finished ≡ finished)) }
         ensures unchanged { OnErr result ((self.new ≡ self.old) × (held.new ≡ held.old)) }
     {
-        self.add_chains(held, attempt.reads(), finished.writes());
         if let Some(fault) = self.commit_fault(held, &attempt, &finished) {
             return Err(RefusedCommit {
                 error: Failure::Fault(fault),
@@ -173,18 +172,6 @@ impl Journal {
             });
         }
         self.write(held, attempt, finished)
-    }
-
-    /// Gives what a commit reads and writes chains of their own, in the journal's versions and in the shards that are held,
-    /// so that neither its tests nor its writes search for an item that is not there. Nothing that is seen changes.
-    fn add_chains(&mut self, held: &mut Held, reads: &ItemMap, writes: &ItemMap)
-        requires { AreCovered held.old reads.now writes.now }
-        ensures { (self.new ≡ self.old) × (held.new ≡ held.old) }
-    {
-        self.index.add_chains(reads);
-        self.index.add_chains(writes);
-        held.add_chains(reads);
-        held.add_chains(writes);
     }
 
     /// Why an attempt does not commit, other than that memory ran out.

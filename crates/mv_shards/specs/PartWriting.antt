@@ -86,7 +86,7 @@ pub record AreGrown (old new : Parts) : Type 0 where
   pub frames : (i : ℕ) → frame_at new i ≡ frame_at old i
   pub maps : (i : ℕ) → IsGrown (first_at old i) (chains_at old i) (chains_at new i)
 
--- every chain keeps its number
+-- every chain of every part keeps its number
 abbrev pub AreSpotsKept : Parts → Parts → Type 0
 AreSpotsKept old new = (i : ℕ) → AreNumbersKept (chains_at old i) (chains_at new i)
 

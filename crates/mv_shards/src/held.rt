@@ -16,7 +16,7 @@ use crate::attempt::Attempt;
 use crate::index::{SHARD_COUNT, shard_of};
 use crate::part::{Part, has_value, has_version, late, prune, read, version_count};
 use crate::read_fault::ReadError;
-use crate::room::{Parts, add_chains_for};
+use crate::room::Parts;
 use crate::shard::Shard;
 use crate::writing::write_parts;
 use avm_items::{Item, ItemMap, ItemValue};
@@ -109,15 +109,6 @@ impl Held {
             Some(part) => read(part, attempt, item),
             None => unreachable!(),
         }
-    }
-
-    /// Gives each of these items a chain in its shard, if it has none. What is seen of the shards stays, also where memory
-    /// is refused. What is asked of an item after that mostly finds it at once.
-    pub fn add_chains(&mut self, items: &ItemMap)
-        requires { AreHeld self.old items.now }
-        ensures { self.new ≡ self.old }
-    {
-        let _added = add_chains_for(&mut self.parts, items);
     }
 
     /// Whether a write of an item at a timestamp is late: the version that it would follow was read above it. The

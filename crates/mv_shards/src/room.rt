@@ -66,17 +66,6 @@ fn add_room_for(parts: &mut Parts, item: &Item) -> Result<Spot, AllocError>
     Ok(spot)
 }
 
-/// Gives each item a chain in its shard, if it has none.
-pub(crate) fn add_chains_for(parts: &mut Parts, items: &ItemMap) -> Result<(), AllocError>
-    requires { AllByRecursion (λ e. IsHeldIn parts.old e.0) items.now }
-    ensures { AreGrown parts.old parts.new }
-{
-    for (item, _value) in items.as_slice() {
-        add_chain_for(parts, item)?;
-    }
-    Ok(())
-}
-
 /// Gives each item that was read a chain in its shard, if it has none, and says where they stand.
 fn place_reads(alloc: Global, parts: &mut Parts, reads: &ItemMap) -> Result<Vec<Spot>, AllocError>
     requires { AllByRecursion (λ e. IsHeldIn parts.old e.0) reads.now }
