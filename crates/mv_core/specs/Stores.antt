@@ -1,4 +1,4 @@
--- The store: what it keeps, and what its calls do.
+-- The store: how it is seen, what it keeps, and what its calls do.
 use Rattle.std.specs.Prelude.{◌≡◌, ℕ, suc, List, [], ◌∷◌, ◌++◌, length, get_or, set, Option, None, Some}
 use Rattle.std.specs.Map.{keys_of}
 use Rattle.avm_ledger.specs.declared.header.Header.{Header}

@@ -1,8 +1,8 @@
 //! The store: calls on a ledger that run side by side, each in an attempt that begins, reads, and is committed or
 //! abandoned, by multiversion timestamp ordering (Bernstein, Hadzilacos, Goodman, "Concurrency Control and Recovery in
-//! Database Systems", section 5.3). It is a journal with all its shards and the live attempts. What is seen of it is in
-//! `specs/SeenStores.antt`, what it keeps and what its calls do in `specs/Stores.antt`, and what a list of steps of eight
-//! workers comes to in `specs/Running.antt`.
+//! Database Systems", section 5.3). It is a journal with all its shards and the live attempts. What is seen of it is a
+//! record in `specs/SeenStores.antt`; how that comes from what it keeps, and what its calls do, is in `specs/Stores.antt`, and
+//! what a list of steps of eight workers comes to in `specs/Running.antt`.
 //!
 //! What each event makes of a store is a law; those functions do no work.
 #![tactic(auto)]
