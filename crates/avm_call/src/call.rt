@@ -148,11 +148,7 @@ impl Call {
     }
 
     /// An application after an update.
-    pub fn updated(
-        &self,
-        alloc: Global,
-        row: &Application,
-    ) -> Result<SharedApplication, AllocError>
+    pub fn updated(&self, alloc: Global, row: &Application) -> Result<SharedApplication, AllocError>
         requires { updates self.now.completion ≡ true }
         ensures { IfOk result (λ row_after. row_after ≡ updated self.now row.now) }
     {

@@ -71,7 +71,8 @@ impl ItemValue {
             (ItemValue::Absent, ItemValue::Absent) => true,
             (ItemValue::NextApp(id), ItemValue::NextApp(other)) => id == other,
             (ItemValue::App(row), ItemValue::App(other)) => is_same_application(
-                row.get(), other.get(),
+                row.get(),
+                other.get(),
             ),
             (ItemValue::Counts(counts), ItemValue::Counts(other)) => is_same_counts(
                 *counts, *other,

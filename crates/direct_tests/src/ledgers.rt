@@ -54,7 +54,9 @@ fn is_first(row: &Application) -> bool {
 fn has_first(ledger: &Ledger) -> bool {
     match (ledger.application(1), ledger.global_state(1)) {
         (Some(row), Some(state)) => {
-            is_first(row.get()) && state.len() == 0 && ledger.local_state(&ZERO_ADDRESS, 1).is_none()
+            is_first(row.get())
+                && state.len() == 0
+                && ledger.local_state(&ZERO_ADDRESS, 1).is_none()
         }
         _ => false,
     }
