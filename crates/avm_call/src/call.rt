@@ -155,10 +155,11 @@ impl Call {
         let _fields = &self.fields;
         match &self.programs {
             Some(programs) => {
+                let clear = programs.clear.clone()?;
                 let row = Application {
                     creator: row.creator,
                     approval: programs.approval.clone()?,
-                    clear: programs.clear.clone()?,
+                    clear,
                     global_schema: row.global_schema,
                     local_schema: row.local_schema,
                 };
