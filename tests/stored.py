@@ -1,4 +1,4 @@
-"""The rows of crates/rows and crates/store_runs, and the cases of tests/json_cases, whose answers were worked out outside the
+"""The rows of crates/rows, and the cases of tests/json_cases, whose answers were worked out outside the
 programs, and how the tests of this folder run programs."""
 
 import os
@@ -30,11 +30,17 @@ def built(name):
     return path
 
 
+def rows(file):
+    """The rows of crates/rows in its stdin, or with their answers in its stdout, but for those of stores; and those."""
+    others, stores = read(f"rows/{file}").split("\nstores\n")
+    return others + "\n", stores
+
+
 def commands():
     """The rows of commands without a failing stream, whose whole input is stored: the words, the input, the answer, the status."""
     found, given, plain = [], b"", True
-    answers = iter(read("rows/stdout").split("\n"))
-    for line in read("rows/stdin").split("\n"):
+    answers = iter(rows("stdout")[0].split("\n"))
+    for line in rows("stdin")[0].split("\n"):
         head, _, rest = line.partition(" ")
         if head == "|":
             given += rest.encode() + b"\n"
@@ -64,9 +70,9 @@ def commands():
 
 def rows_below(heading):
     """The rows below a heading that answer in a line of their own, and what they print, but for those whose bytes are cut short."""
-    rows, printed, inside = [], [], False
-    answers = iter(read("rows/stdout").split("\n"))
-    for line in read("rows/stdin").split("\n"):
+    found, printed, inside = [], [], False
+    answers = iter(rows("stdout")[0].split("\n"))
+    for line in rows("stdin")[0].split("\n"):
         if line.startswith("# "):
             inside = line[2:] == heading
         if line.split(" ")[0] in ANSWERED:
@@ -74,11 +80,11 @@ def rows_below(heading):
                 pass
             answer = next(answers) if inside else "= Truncated"
             if answer != "= Truncated":
-                rows.append(line)
+                found.append(line)
                 printed += [line, answer]
-    if not rows:
+    if not found:
         sys.exit(f"crates/rows/stdin has no rows below: {heading}")
-    return rows, printed
+    return found, printed
 
 
 def sections(text):
@@ -91,19 +97,19 @@ def sections(text):
     return found
 
 
-def store_runs():
-    """The scenarios of crates/store_runs to which memory is refused: the name, the rows and the lines that they print. The programs
-    of the first heading come before each."""
-    asked, printed = sections(read("store_runs/stdin")), sections(read("store_runs/stdout"))
+def store_rows():
+    """The scenarios of rows of stores to which memory is refused: the name, the rows and the lines that they print. The row that
+    begins them, and the programs of the first heading, come before each."""
+    asked, printed = sections(rows("stdin")[1]), sections(rows("stdout")[1])
     found = []
     for heading in asked:
         name = heading.split(":")[0]
         if name in SCENARIOS:
-            text = "\n".join(asked["programs"] + asked[heading]) + "\n"
-            lines = [line.encode() for line in printed["programs"] + printed[heading]]
+            text = "\n".join(["stores"] + asked["programs"] + asked[heading]) + "\n"
+            lines = [line.encode() for line in ["stores"] + printed["programs"] + printed[heading]]
             found.append((name, text.encode(), lines))
     if len(found) != len(SCENARIOS):
-        sys.exit(f"crates/store_runs/stdin has not each of the headings {', '.join(SCENARIOS)}")
+        sys.exit(f"crates/rows/stdin has not each of the headings {', '.join(SCENARIOS)}")
     return found
 
 

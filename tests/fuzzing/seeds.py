@@ -97,7 +97,7 @@ def collected():
             blocks.append(read)
         inputs.append("\0".join(words).encode()[:200] + b"\n" + given)
     # The programs of rows are named in front of their bytes.
-    answers = stored.read("rows/stdout").split("\n")
+    answers = stored.rows("stdout")[0].split("\n")
     for line, answer in zip(answers, answers[1:]):
         if line.startswith("program ") and answer.startswith("= "):
             programs += lines(answer[2:])

@@ -8,17 +8,26 @@
 //! - `case NAME` prints the name of what follows;
 //! - the rows of `ledgers`, which make calls on a ledger and read and write bytes;
 //! - the rows of `blocks`, which make blocks of calls, and step through calls;
-//! - the rows of `texts`, which spell bytes as texts and read them.
+//! - the rows of `texts`, which spell bytes as texts and read them;
+//! - `stores` begins the rows of `script`, events of stores and journals, which all that follow are.
 //! Others, as `# TEXT`, say nothing.
 #![tactic(auto)]
 
 mod blocks;
+mod item_texts;
+mod journals;
 mod ledgers;
+mod script;
+mod sealed;
+mod store_answers;
+mod store_rows;
+mod stores;
 mod streams;
 mod texts;
 
 use crate::blocks::Blocks;
 use crate::ledgers::Bench;
+use crate::store_rows::carry_out_all;
 use crate::streams::{Input, Output};
 use avm_node::answer;
 use avm_objects::filled_set;
@@ -74,18 +83,41 @@ fn all_rows<O: Op>(rt: &HostRuntime, ops: &FullOps<O>) -> Result<(), Fail> {
         bench: Bench::new(alloc),
         blocks: Blocks::new(alloc),
     };
+    let mut of_stores = Vec::new(alloc);
+    let mut is_of_stores = false;
     for line in rt.lines(alloc) {
         let line = line?;
-        let (head, rest) = line.as_str().split_once(' ').unwrap_or((line.as_str(), ""));
-        if head == "$" {
-            println!(rt; "{line}")?;
-            let text = answered(alloc, ops, rest, &mut said.row)?;
-            println!(rt; "{text}")?;
-        } else if head == "case" {
-            println!(rt; "{line}")?;
-        } else if let Some(text) = reply(alloc, ops, &mut said, head, rest)? {
-            println!(rt; "{line}\n= {text}")?;
+        if is_of_stores {
+            of_stores.push(line)?;
+        } else if line.as_str() == "stores" {
+            is_of_stores = true;
+        } else {
+            carry_out(rt, ops, &mut said, line.as_str())?;
         }
+    }
+    if is_of_stores {
+        carry_out_all(rt, ops, of_stores)?;
+    }
+    Ok(())
+}
+
+/// Carries out a row, and prints it with its answer where it has one.
+fn carry_out<O: Op>(
+    rt: &HostRuntime,
+    ops: &FullOps<O>,
+    said: &mut Said,
+    line: &str,
+) -> Result<(), Fail> {
+    let alloc = rt.alloc();
+    let (head, rest) = line.split_once(' ').unwrap_or((line, ""));
+    if head == "$" {
+        println!(rt; "{line}")?;
+        let text = answered(alloc, ops, rest, &mut said.row)?;
+        println!(rt; "{text}")?;
+    } else if head == "case" {
+        println!(rt; "{line}")?;
+    } else if let Some(text) = reply(alloc, ops, said, head, rest)? {
+        println!(rt; "{line}\n= {text}")?;
     }
     Ok(())
 }

@@ -1,9 +1,9 @@
 //! Events of a store, and looks at it.
 
-use crate::said::Said;
+use crate::item_texts::{digits_of, entries_text, item_text, late_text, value_text};
 use crate::script::Step;
 use crate::sealed::{block_text, replay_text};
-use crate::texts::{digits_of, entries_text, item_text, late_text, value_text};
+use crate::store_answers::Said;
 use avm_call::Call;
 use avm_debug::{Debugger, PastError, Source, state_of};
 use avm_items::Item;

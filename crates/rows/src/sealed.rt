@@ -1,7 +1,7 @@
 //! Looks at a sealed block.
 
-use crate::said::Said;
-use crate::texts::digits_of;
+use crate::item_texts::digits_of;
+use crate::store_answers::Said;
 use avm_block::encode;
 use avm_ledger::Ledger;
 use avm_ops::Op;

@@ -1,4 +1,4 @@
-//! How rows read.
+//! How rows of stores read.
 //!
 //! - `# TEXT` is a heading. `| TEXT` adds a line to a source, which `program NAME` assembles; it tells the bytes.
 //! - `ledger PIECES` puts a ledger in place, which it tells whole, and `call WORDS` adds a call by the words of `sample_calls`.
@@ -44,9 +44,8 @@ struct Said {
     calls: Vec<Call>,
 }
 
-/// All rows of standard input.
-pub fn rows(rt: &HostRuntime) -> Result<Vec<Row>, Fail> {
-    let alloc = rt.alloc();
+/// The rows that these lines are.
+pub fn rows(alloc: Global, lines: Vec<String>) -> Result<Vec<Row>, Fail> {
     let mut said = Said {
         source: Vec::new(alloc),
         programs: Programs::new(alloc),
@@ -54,8 +53,7 @@ pub fn rows(rt: &HostRuntime) -> Result<Vec<Row>, Fail> {
         calls: Vec::new(alloc),
     };
     let mut rows = Vec::new(alloc);
-    for line in rt.lines(alloc) {
-        let line = line?;
+    for line in lines {
         if let Some(step) = step_of(alloc, &mut said, line.as_str())? {
             rows.push(Row { line, step })?;
         }

@@ -4,11 +4,11 @@ ghost use Rattle.std.specs.Prelude.{◌≡◌, [], IfOk};
 ghost use Rattle.avm_items.specs.declared.item_value.ItemValue.TheVariants.{Absent};
 ghost use Rattle.avm_items.specs.Items.{with_item};
 
-use crate::said::Said;
+use crate::item_texts::{digits_of, entries_text, item_text, late_text, value_text};
 use crate::script::name;
 use crate::sealed::{block_text, replay_text};
+use crate::store_answers::Said;
 use crate::stores::{Stored, other_ledger};
-use crate::texts::{digits_of, entries_text, item_text, late_text, value_text};
 use avm_call::Call;
 use avm_items::{Item, ItemMap, ItemValue};
 use avm_ledger::Header;

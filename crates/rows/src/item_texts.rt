@@ -1,6 +1,6 @@
 //! Items, values and ledgers as words.
 
-use crate::said::Said;
+use crate::store_answers::Said;
 use avm_items::{Item, ItemValue};
 use avm_ledger::Ledger;
 use mv_parts::Entry;

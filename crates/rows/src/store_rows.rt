@@ -1,5 +1,5 @@
-//! Carries out the rows of standard input, which are calls, events of a store or of a journal, and looks at them, and prints
-//! each row and, behind `=`, what came of it. The answers, which are worked out outside the program, are the crate's file stdout.
+//! Carries out rows of stores, which are calls, events of a store or of a journal, and looks at them, and prints each row and,
+//! behind `=`, what came of it.
 //!
 //! All rows are read before the first is carried out. Where memory ends in a row, `memory` is printed, then whether all that is
 //! seen of the store is `as before`, and the row is tried once more. So a run to which one growth is refused prints the lines of
@@ -7,42 +7,26 @@
 //! nothing is compared.
 //!
 //! `script` says how rows read, `stores` and `journals` what they do.
-#![tactic(auto)]
-
-mod journals;
-mod said;
-mod script;
-mod sealed;
-mod stores;
-mod texts;
 
 use crate::journals::Journals;
-use crate::said::{say, say_memory};
 use crate::script::{Row, Step, rows};
+use crate::store_answers::{say, say_memory};
 use crate::stores::Stores;
-use avm_objects::filled_set;
-use avm_ops::{Op, Ops};
+use avm_ops::Op;
 use avm_run::FullOps;
 use std::test::Fail;
 
-fn main(rt: HostRuntime) -> Result<(), Fail> {
-    let ops = filled_set!(rt.alloc(), Err("memory is refused".into()));
-    with_full(&rt, ops)
-}
-
-/// Carries all rows out, with a set that has to be a full one.
-fn with_full<O: Op>(rt: &HostRuntime, ops: Ops<O>) -> Result<(), Fail> {
-    match FullOps::of(ops) {
-        Ok(ops) => carry_out_all(rt, &ops),
-        Err(_lacking) => Err("an opcode has no object".into()),
-    }
-}
-
-fn carry_out_all<O: Op>(rt: &HostRuntime, ops: &FullOps<O>) -> Result<(), Fail> {
+/// Carries all of these rows out.
+pub fn carry_out_all<O: Op>(
+    rt: &HostRuntime,
+    ops: &FullOps<O>,
+    lines: Vec<String>,
+) -> Result<(), Fail> {
     let alloc = rt.alloc();
-    let rows = rows(rt)?;
+    let rows = rows(alloc, lines)?;
     let mut stores = Stores::new(alloc)?;
     let mut journals = Journals::new(alloc);
+    println!(rt; "stores")?;
     for row in rows.as_slice() {
         println!(rt; "{}", row.line)?;
         carry_out(rt, ops, &mut stores, &mut journals, row)?;
