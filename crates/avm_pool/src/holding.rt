@@ -89,26 +89,31 @@ fn commit(journal: &mut Journal, held: &mut Held, attempt: Attempt, finished: Fi
     }
 }
 
+/// The locks of all shards, and which of them are wanted, by index.
+#[derive(Drop)]
+pub(crate) struct Wanted<'a> {
+    pub locks: &'a [ShardLock],
+    pub wanted: &'a [bool],
+}
+
 /// Locks the shards that are wanted, by rising index, and does the work while all of them are held. No lock is let go
 /// before it is done; then each shard goes back behind its own.
 pub(crate) fn work_with<R: Wait>(
     rt: &R,
-    locks: &[ShardLock],
-    wanted: &[bool],
+    shards: &Wanted,
     journal: &mut Journal,
     held: &mut Held,
     mut work: Work,
 ) -> Worked
     ensures { Works work journal.old journal.new result }
 {
-    work_from(rt, locks, wanted, 0, journal, held, &mut work)
+    work_from(rt, shards, 0, journal, held, &mut work)
 }
 
 /// Locks those from an index on too, and does the work.
 fn work_from<R: Wait>(
     rt: &R,
-    locks: &[ShardLock],
-    wanted: &[bool],
+    shards: &Wanted,
     from: usize,
     journal: &mut Journal,
     held: &mut Held,
@@ -116,10 +121,10 @@ fn work_from<R: Wait>(
 ) -> Worked
     ensures { Works work.old journal.old journal.new result }
 {
-    let Some(index) = next_wanted(wanted, from) else {
+    let Some(index) = next_wanted(shards.wanted, from) else {
         return work.taken().done(journal, held);
     };
-    let Some(lock) = locks.get(index) else {
+    let Some(lock) = shards.locks.get(index) else {
         return work.taken().not_done();
     };
     let mut guard = lock_soon(rt, lock);
@@ -130,7 +135,7 @@ fn work_from<R: Wait>(
         *guard = Some(shard);
         return work.taken().not_done();
     }
-    let worked = work_from(rt, locks, wanted, index + 1, journal, held, work);
+    let worked = work_from(rt, shards, index + 1, journal, held, work);
     *guard = held.take();
     worked
 }

@@ -11,6 +11,7 @@ mod ends;
 mod finishing;
 mod gate;
 mod holding;
+mod job;
 mod left;
 mod pool_fault;
 mod proposal;

@@ -4,12 +4,11 @@ ghost use Rattle.std.specs.Prelude.{◌≡◌, []};
 ghost use Rattle.avm_pool.specs.Resting.{IsAlone, IsStill};
 
 use crate::gate::{Gate, GateEvent};
-use crate::holding::{Work, Worked, work_with};
-use crate::running::Shared;
+use crate::holding::{Wanted, Work, Worked, work_with};
+use crate::running::{Executor, Shared, Trial};
 use crate::worker::shards_of;
-use avm_call::Call;
 use avm_ops::Op;
-use avm_run::{Finished, FullOps, Spare};
+use avm_run::{Finished, FullOps};
 use mv_parts::{BeginFault, Journal};
 use mv_shards::{Attempt, Held};
 use std::sync::Wait;
@@ -25,11 +24,11 @@ pub(crate) fn run_rest<G: Gate, R: Wait, O: Op>(
     requires idle { journal.old.world.live ≡ [] }
     ensures { IsStill journal.old journal.new }
 {
-    let mut spare = None;
+    let mut executor = Executor { ops, spare: None };
     let mut number = 0u32;
-    for call in shared.calls {
+    for _call in shared.calls {
         number = number.saturating_add(1);
-        if !run_once(rt, shared, journal, ops, &mut spare, call, number) {
+        if !run_once(rt, shared, journal, &mut executor, number) {
             return false;
         }
     }
@@ -41,9 +40,7 @@ fn run_once<G: Gate, R: Wait, O: Op>(
     rt: &R,
     shared: &Shared<G>,
     journal: &mut Journal,
-    ops: &FullOps<O>,
-    spare: &mut Option<Spare>,
-    call: &Call,
+    executor: &mut Executor<O>,
     number: u32,
 ) -> bool
     requires idle { journal.old.world.live ≡ [] }
@@ -51,7 +48,7 @@ fn run_once<G: Gate, R: Wait, O: Op>(
 {
     match journal.begin(number) {
         Ok(attempt) => {
-            run_attempt(rt, shared, journal, ops, spare, call, attempt);
+            run_attempt(rt, shared, journal, executor, attempt);
             true
         }
         Err(Failure::Fault(BeginFault::ClockEnd)) => false,
@@ -64,18 +61,17 @@ fn run_attempt<G: Gate, R: Wait, O: Op>(
     rt: &R,
     shared: &Shared<G>,
     journal: &mut Journal,
-    ops: &FullOps<O>,
-    spare: &mut Option<Spare>,
-    call: &Call,
-    mut attempt: Attempt,
+    executor: &mut Executor<O>,
+    attempt: Attempt,
 )
     requires alone { IsAlone journal.old attempt }
     ensures { IsStill journal.old journal.new }
 {
-    shared.gate.pause(attempt.number(), 0, GateEvent::Begun);
-    match shared.run(rt, ops, spare, call, &mut attempt, 0) {
-        Ok(finished) => commit(rt, shared, journal, attempt, finished),
-        Err(_end) => abandon(journal, attempt),
+    let mut trial = Trial { attempt, tries: 0 };
+    shared.tell(&trial, GateEvent::Begun);
+    match shared.run(rt, executor, &mut trial) {
+        Ok(finished) => commit(rt, shared, journal, trial.attempt, finished),
+        Err(_end) => abandon(journal, trial.attempt),
     }
 }
 
@@ -93,14 +89,12 @@ fn commit<G: Gate, R: Wait>(
     let number = attempt.number();
     shared.gate.pause(number, 0, GateEvent::BeforeCommit);
     let wanted = shards_of(&attempt, &finished);
-    match work_with(
-        rt,
-        shared.shards,
-        &wanted,
-        journal,
-        &mut Held::new(),
-        Work::Commit(attempt, finished),
-    ) {
+    let locks = Wanted {
+        locks: shared.shards,
+        wanted: &wanted,
+    };
+    let work = Work::Commit(attempt, finished);
+    match work_with(rt, &locks, journal, &mut Held::new(), work) {
         Worked::Done => shared.gate.pause(number, 0, GateEvent::Committed),
         Worked::Again(attempt) => abandon(journal, attempt),
         Worked::Memory(attempt) => abandon(journal, attempt),

@@ -17,6 +17,20 @@ use std::alloc::Global;
 use std::sync::Wait;
 use teal_value::Failure;
 
+/// An attempt, and how many its call has had with it; 0 where one thread runs what the workers left.
+#[derive(Drop)]
+pub(crate) struct Trial {
+    pub attempt: Attempt,
+    pub tries: u32,
+}
+
+/// What a thread executes calls with: its objects, and the box that the last run left.
+#[derive(Drop)]
+pub(crate) struct Executor<'a, O: Op> {
+    pub ops: &'a FullOps<O>,
+    pub spare: Option<Spare>,
+}
+
 /// What all attempts share.
 #[derive(Drop)]
 pub(crate) struct Shared<'a, G> {
@@ -37,24 +51,23 @@ impl<'a, G: Gate> Shared<'a, G> {
         self.calls.get(number as usize - 1)
     }
 
-    /// Runs the call of an attempt to its end, in the spare box, which it leaves for the next run. `tries` counts the
-    /// attempts of the call, this one too. It fails with `Again` where an item could not be read at the attempt's
+    /// Runs the call of an attempt to its end. It fails with `Again` where an item could not be read at the attempt's
     /// timestamp, and with `Left` where memory was refused.
     pub fn run<R: Wait, O: Op>(
         &self,
         rt: &R,
-        ops: &FullOps<O>,
-        spare: &mut Option<Spare>,
-        call: &Call,
-        attempt: &mut Attempt,
-        tries: u32,
+        executor: &mut Executor<O>,
+        trial: &mut Trial,
     ) -> Result<Finished, AttemptEnd>
-        ensures { IsSameAttempt attempt.old attempt.new }
+        ensures { IsSameAttempt trial.old.attempt trial.new.attempt }
     {
-        match CallRun::start(self.alloc, call, self.header, spare.take()) {
+        let Some(call) = self.call(trial.attempt.number()) else {
+            return Err(AttemptEnd::Left);
+        };
+        match CallRun::start(self.alloc, call, self.header, executor.spare.take()) {
             Ok(mut run) => {
-                let end = self.run_on(rt, ops, &mut run, attempt, tries);
-                *spare = run.into_spare();
+                let end = self.run_on(rt, executor.ops, &mut run, trial);
+                executor.spare = run.into_spare();
                 end
             }
             Err(_) => Err(AttemptEnd::Left),
@@ -67,15 +80,14 @@ impl<'a, G: Gate> Shared<'a, G> {
         rt: &R,
         ops: &FullOps<O>,
         run: &mut CallRun,
-        attempt: &mut Attempt,
-        tries: u32,
+        trial: &mut Trial,
     ) -> Result<Finished, AttemptEnd>
-        ensures { IsSameAttempt attempt.old attempt.new }
+        ensures { IsSameAttempt trial.old.attempt trial.new.attempt }
     {
         for _ in rt.forever() {
             match run.advance(self.alloc, ops) {
                 Ok(Advance::Done(finished)) => return Ok(finished),
-                Ok(Advance::Need(item)) => match self.read(rt, attempt, item.copied(), tries) {
+                Ok(Advance::Need(item)) => match self.read(rt, trial, item.copied()) {
                     Ok(value) => {
                         if run.supply(item, value).is_err() {
                             return Err(AttemptEnd::Left);
@@ -90,20 +102,13 @@ impl<'a, G: Gate> Shared<'a, G> {
     }
 
     /// Reads an item under the lock of its shard.
-    fn read<R: Wait>(
-        &self,
-        rt: &R,
-        attempt: &mut Attempt,
-        item: Item,
-        tries: u32,
-    ) -> Result<ItemValue, AttemptEnd>
-        ensures { IsSameAttempt attempt.old attempt.new }
+    fn read<R: Wait>(&self, rt: &R, trial: &mut Trial, item: Item) -> Result<ItemValue, AttemptEnd>
+        ensures { IsSameAttempt trial.old.attempt trial.new.attempt }
     {
-        let number = attempt.number();
         let index = shard_of(&item);
-        let read = self.read_shard(rt, attempt, item, index, tries);
+        let read = self.read_shard(rt, trial, item, index);
         if read.is_ok() {
-            self.gate.pause(number, tries, GateEvent::Read);
+            self.tell(trial, GateEvent::Read);
         }
         read
     }
@@ -111,12 +116,11 @@ impl<'a, G: Gate> Shared<'a, G> {
     fn read_shard<R: Wait>(
         &self,
         rt: &R,
-        attempt: &mut Attempt,
+        trial: &mut Trial,
         item: Item,
         index: u8,
-        tries: u32,
     ) -> Result<ItemValue, AttemptEnd>
-        ensures { IsSameAttempt attempt.old attempt.new }
+        ensures { IsSameAttempt trial.old.attempt trial.new.attempt }
     {
         let Some(lock) = self.shards.get(usize::from(index)) else {
             return Err(AttemptEnd::Again);
@@ -126,13 +130,17 @@ impl<'a, G: Gate> Shared<'a, G> {
         let Some(shard) = shard else {
             return Err(AttemptEnd::Again);
         };
-        let read = shard.read(attempt, item);
-        self.gate
-            .pause(attempt.number(), tries, GateEvent::Inside(index));
+        let read = shard.read(&mut trial.attempt, item);
+        self.tell(trial, GateEvent::Inside(index));
         match read {
             Ok(value) => Ok(value),
             Err(Failure::Memory) => Err(AttemptEnd::Left),
             Err(Failure::Fault(_pruned)) => Err(AttemptEnd::Again),
         }
+    }
+
+    /// Tells the gate what an attempt has come to.
+    pub fn tell(&self, trial: &Trial, event: GateEvent) {
+        self.gate.pause(trial.attempt.number(), trial.tries, event);
     }
 }

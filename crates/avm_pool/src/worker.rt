@@ -6,12 +6,11 @@ ghost use Rattle.avm_pool.specs.NumberPasses.{IsWith, view};
 use crate::call_numbers::{NumberPass, Numbers};
 use crate::ends::{AttemptEnd, ThreadEnd};
 use crate::gate::{Gate, GateEvent};
-use crate::holding::{Work, Worked, work_with};
-use crate::running::Shared;
+use crate::holding::{Wanted, Work, Worked, work_with};
+use crate::running::{Executor, Shared, Trial};
 use crate::waiting::{lock_soon, stand_back};
-use avm_call::Call;
 use avm_ops::{Op, Ops};
-use avm_run::{Finished, FullOps, Spare};
+use avm_run::{Finished, FullOps};
 use mv_parts::{BeginFault, Journal};
 use mv_shards::{Attempt, Held, SHARD_COUNT, shard_of};
 use std::sync::{Mutex, Wait};
@@ -48,12 +47,7 @@ pub(crate) fn enlist<'a, O: Op>(
 
 impl<'a, O: Op> Worker<'a, O> {
     /// Draws numbers until there is none, and runs their calls.
-    pub fn work<G: Gate, R: Wait>(
-        self,
-        rt: &R,
-        journal: &Mutex<Journal>,
-        shared: &Shared<G>,
-    ) -> ThreadEnd {
+    pub fn work<G: Gate, R: Wait>(self, rt: &R, site: &Site<G>) -> ThreadEnd {
         let Worker {
             numbers,
             mut pass,
@@ -63,17 +57,20 @@ impl<'a, O: Op> Worker<'a, O> {
         let Ok(ops) = FullOps::of(ops) else {
             return ThreadEnd::Over;
         };
-        let mut spare = None;
+        let mut executor = Executor {
+            ops: &ops,
+            spare: None,
+        };
         let mut commits = 0u32;
         for _ in rt.forever() {
             let Some(number) = numbers.draw(rt, &mut pass) else {
                 return ThreadEnd::Over;
             };
-            match run_call(rt, journal, shared, &ops, &mut spare, number) {
+            match site.run_call(rt, &mut executor, number) {
                 AttemptEnd::Committed => {
                     commits = commits.wrapping_add(1);
                     if commits % COMMITS_A_PRUNE == 0 {
-                        prune(rt, journal, shared);
+                        site.prune(rt);
                     }
                 }
                 AttemptEnd::Left | AttemptEnd::Again => {}
@@ -84,112 +81,94 @@ impl<'a, O: Op> Worker<'a, O> {
     }
 }
 
-/// Runs a call, in as many attempts as it takes: it does not end with `Again`.
-fn run_call<G: Gate, R: Wait, O: Op>(
-    rt: &R,
-    journal: &Mutex<Journal>,
-    shared: &Shared<G>,
-    ops: &FullOps<O>,
-    spare: &mut Option<Spare>,
-    number: u32,
-) -> AttemptEnd {
-    let Some(call) = shared.call(number) else {
-        return AttemptEnd::Left;
-    };
-    let mut tries = 1u32;
-    for _ in rt.forever() {
-        match run_attempt(rt, journal, shared, ops, spare, call, number, tries) {
-            AttemptEnd::Again => {
-                stand_back(tries);
-                tries = tries.saturating_add(1);
+/// Where workers run calls: the journal behind its lock, and what all attempts share.
+#[derive(Drop)]
+pub(crate) struct Site<'a, G> {
+    pub journal: &'a Mutex<Journal>,
+    pub shared: &'a Shared<'a, G>,
+}
+
+impl<'a, G: Gate> Site<'a, G> {
+    /// Runs a call, in as many attempts as it takes: it does not end with `Again`.
+    fn run_call<R: Wait, O: Op>(
+        &self,
+        rt: &R,
+        executor: &mut Executor<O>,
+        number: u32,
+    ) -> AttemptEnd {
+        let mut tries = 1u32;
+        for _ in rt.forever() {
+            match self.run_attempt(rt, executor, number, tries) {
+                AttemptEnd::Again => {
+                    stand_back(tries);
+                    tries = tries.saturating_add(1);
+                }
+                end => return end,
             }
-            end => return end,
+        }
+        unreachable!()
+    }
+
+    /// One attempt of a call. Each `let` that locks the journal lets it go at its end, so no lock is held at the gate.
+    fn run_attempt<R: Wait, O: Op>(
+        &self,
+        rt: &R,
+        executor: &mut Executor<O>,
+        number: u32,
+        tries: u32,
+    ) -> AttemptEnd {
+        let begun = lock_soon(rt, self.journal).begin(number);
+        let attempt = match begun {
+            Ok(attempt) => attempt,
+            Err(Failure::Fault(BeginFault::ClockEnd)) => return AttemptEnd::ClockEnd,
+            Err(_) => return AttemptEnd::Left,
+        };
+        let mut trial = Trial { attempt, tries };
+        self.shared.tell(&trial, GateEvent::Begun);
+        match self.shared.run(rt, executor, &mut trial) {
+            Ok(finished) => self.commit(rt, trial, finished),
+            Err(end) => self.abandon(rt, trial.attempt, end),
         }
     }
-    unreachable!()
-}
 
-/// One attempt of a call. Each `let` that locks the journal lets it go at its end, so no lock is held at the gate.
-fn run_attempt<G: Gate, R: Wait, O: Op>(
-    rt: &R,
-    journal: &Mutex<Journal>,
-    shared: &Shared<G>,
-    ops: &FullOps<O>,
-    spare: &mut Option<Spare>,
-    call: &Call,
-    number: u32,
-    tries: u32,
-) -> AttemptEnd {
-    let begun = lock_soon(rt, journal).begin(number);
-    let mut attempt = match begun {
-        Ok(attempt) => attempt,
-        Err(Failure::Fault(BeginFault::ClockEnd)) => return AttemptEnd::ClockEnd,
-        Err(_) => return AttemptEnd::Left,
-    };
-    shared.gate.pause(number, tries, GateEvent::Begun);
-    match shared.run(rt, ops, spare, call, &mut attempt, tries) {
-        Ok(finished) => commit(rt, journal, shared, attempt, finished, tries),
-        Err(end) => abandon(rt, journal, attempt, end),
-    }
-}
-
-/// Commits an attempt whose call has ended, or abandons it.
-fn commit<G: Gate, R: Wait>(
-    rt: &R,
-    journal: &Mutex<Journal>,
-    shared: &Shared<G>,
-    attempt: Attempt,
-    finished: Finished,
-    tries: u32,
-) -> AttemptEnd {
-    let number = attempt.number();
-    shared.gate.pause(number, tries, GateEvent::BeforeCommit);
-    let wanted = shards_of(&attempt, &finished);
-    let worked = under_locks(
-        rt,
-        journal,
-        shared,
-        &wanted,
-        Work::Commit(attempt, finished),
-    );
-    match worked {
-        Worked::Done => {
-            shared.gate.pause(number, tries, GateEvent::Committed);
-            AttemptEnd::Committed
+    /// Commits an attempt whose call has ended, or abandons it.
+    fn commit<R: Wait>(&self, rt: &R, trial: Trial, finished: Finished) -> AttemptEnd {
+        self.shared.tell(&trial, GateEvent::BeforeCommit);
+        let Trial { attempt, tries } = trial;
+        let number = attempt.number();
+        let wanted = shards_of(&attempt, &finished);
+        match self.under_locks(rt, &wanted, Work::Commit(attempt, finished)) {
+            Worked::Done => {
+                self.shared.gate.pause(number, tries, GateEvent::Committed);
+                AttemptEnd::Committed
+            }
+            Worked::Again(attempt) => self.abandon(rt, attempt, AttemptEnd::Again),
+            Worked::Memory(attempt) => self.abandon(rt, attempt, AttemptEnd::Left),
         }
-        Worked::Again(attempt) => abandon(rt, journal, attempt, AttemptEnd::Again),
-        Worked::Memory(attempt) => abandon(rt, journal, attempt, AttemptEnd::Left),
     }
-}
 
-/// Takes the journal's lock, and then those of the shards that are wanted.
-fn under_locks<G: Gate, R: Wait>(
-    rt: &R,
-    journal: &Mutex<Journal>,
-    shared: &Shared<G>,
-    wanted: &[bool],
-    work: Work,
-) -> Worked {
-    let mut held = Held::new();
-    let mut guard = lock_soon(rt, journal);
-    work_with(rt, shared.shards, wanted, &mut guard, &mut held, work)
-}
+    /// Takes the journal's lock, and then those of the shards that are wanted.
+    fn under_locks<R: Wait>(&self, rt: &R, wanted: &[bool], work: Work) -> Worked {
+        let mut held = Held::new();
+        let mut guard = lock_soon(rt, self.journal);
+        let locks = Wanted {
+            locks: self.shared.shards,
+            wanted,
+        };
+        work_with(rt, &locks, &mut guard, &mut held, work)
+    }
 
-/// Ends an attempt without a commit.
-fn abandon<R: Wait>(
-    rt: &R,
-    journal: &Mutex<Journal>,
-    attempt: Attempt,
-    end: AttemptEnd,
-) -> AttemptEnd {
-    let _abandoned = lock_soon(rt, journal).abandon(attempt);
-    end
-}
+    /// Ends an attempt without a commit.
+    fn abandon<R: Wait>(&self, rt: &R, attempt: Attempt, end: AttemptEnd) -> AttemptEnd {
+        let _abandoned = lock_soon(rt, self.journal).abandon(attempt);
+        end
+    }
 
-/// Drops the versions that no attempt can ask for any more.
-fn prune<G: Gate, R: Wait>(rt: &R, journal: &Mutex<Journal>, shared: &Shared<G>) {
-    let all = [true; SHARD_COUNT];
-    under_locks(rt, journal, shared, &all, Work::Prune);
+    /// Drops the versions that no attempt can ask for any more.
+    fn prune<R: Wait>(&self, rt: &R) {
+        let all = [true; SHARD_COUNT];
+        self.under_locks(rt, &all, Work::Prune);
+    }
 }
 
 /// Which shards have an item that was read or is written, by index.
