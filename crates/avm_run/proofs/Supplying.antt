@@ -1,5 +1,5 @@
 -- One more item supplied: what was known stays, and one question less is left.
-use Rattle.std.proofs.Common.{◌≡◌, ◌+◌, ◌-◌, ◌<◌, [], length, sym, ap, subst, ◌∙◌, arith}
+use Rattle.std.proofs.Common.{◌≡◌, ◌+◌, ◌-◌, ◌<◌, length, sym, ap, subst, ◌∙◌, arith}
 use Rattle.std.specs.Prelude.{IsTrue, None, Some, Err}
 use Rattle.avm_ledger.specs.declared.header.Header.{Header}
 use Rattle.avm_states.proofs.Maps.{lookup-inserted_other}

@@ -1,6 +1,5 @@
-use Rattle.std.proofs.Common.{◌≡◌, ◌-◌, Some, refl, sym, ap, ◌∙◌, subst, arith}
+use Rattle.std.proofs.Common.{◌≡◌, ◌-◌, Some, refl, sym, ap, ◌∙◌, subst}
 use Rattle.teal_code.specs.Limits.{most_program_bytes}
-use Rattle.teal_check.specs.WellFormed.{WellFormed}
 use Rattle.avm_items.specs.Environments.{Environment}
 use Rattle.avm_run.specs.declared.running.Running.{Running}
 use Rattle.avm_run.specs.Executions.{Executes, ExecutesAtMost}
