@@ -82,26 +82,16 @@ fn local_cmp(who: &Address, id: u64, other_who: &Address, other: u64) -> Orderin
     account_cmp(who, other_who).then(id.cmp(&other))
 }
 
-/// The order of accounts. Where both are the same, which a look-up ends with, that is found sooner than an order.
+/// The order of accounts. Where both are the same, as a look-up ends, that is found sooner than an order; where they differ,
+/// the first byte mostly shows it.
 #[tactic(auto, using(crate::proofs::Orders::same_is_equal))]
 fn account_cmp(who: &Address, other: &Address) -> Ordering
     ensures { result ≡ slice_cmp nat_cmp who.now.0 other.now.0 }
 {
-    if who.0 == other.0 {
+    if who.0[0] == other.0[0] && who.0 == other.0 {
         return Ordering::Equal;
     }
     who.cmp(other)
-}
-
-/// The order of keys, by the same way.
-#[tactic(auto, using(crate::proofs::Orders::same_is_equal))]
-fn key_cmp(key: &StateKey, other: &StateKey) -> Ordering
-    ensures { result ≡ slice_cmp nat_cmp key.now other.now }
-{
-    if key == other {
-        return Ordering::Equal;
-    }
-    key.cmp(other)
 }
 
 impl PartialEq for Item {
@@ -155,7 +145,7 @@ impl Ord for Item {
                 other,
             ),
             (Item::Key(id, key), Item::Key(other, other_key)) => match id.cmp(other) {
-                Ordering::Equal => key_cmp(key, other_key),
+                Ordering::Equal => key.cmp(other_key),
                 order => order,
             },
             (Item::Local(who, id), Item::Local(other_who, other)) => local_cmp(
