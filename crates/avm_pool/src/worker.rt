@@ -16,8 +16,9 @@ use mv_shards::{Attempt, Held, SHARD_COUNT, shard_of};
 use std::sync::{Mutex, Wait};
 use teal_value::Failure;
 
-/// How many commits a worker makes between two prunes.
-const COMMITS_A_PRUNE: u32 = 64;
+/// How many commits a worker makes before its first prune. Before each further one it makes twice as many as before the last,
+/// since a prune visits each item that the block has touched: so all prunes together visit as many as its commits touch.
+const FIRST_PRUNE: u32 = 64;
 
 /// A set of objects, and a pass of the queue.
 #[derive(Drop)]
@@ -62,14 +63,16 @@ impl<'a, O: Op> Worker<'a, O> {
             spare: None,
         };
         let mut commits = 0u32;
+        let mut next_prune = FIRST_PRUNE;
         for _ in rt.forever() {
             let Some(number) = numbers.draw(rt, &mut pass) else {
                 return ThreadEnd::Over;
             };
             match site.run_call(rt, &mut executor, number) {
                 AttemptEnd::Committed => {
-                    commits = commits.wrapping_add(1);
-                    if commits % COMMITS_A_PRUNE == 0 {
+                    commits = commits.saturating_add(1);
+                    if commits == next_prune {
+                        next_prune = next_prune.saturating_mul(2);
                         site.prune(rt);
                     }
                 }
