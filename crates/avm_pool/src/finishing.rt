@@ -2,32 +2,34 @@
 //! it meanwhile; where no thread can be made, one comes after the other.
 
 ghost use Rattle.std.specs.Prelude.{◌≡◌, ◌↔◌, IfNone, IfOk, IfSome, IsTrue};
-ghost use Rattle.std.specs.Arc.{arc_value};
 ghost use Rattle.avm_block.specs.BlockSpelling.{block_bytes};
 ghost use Rattle.mv_parts.specs.Sealing.{IsJournalOf, IsSealed};
 ghost use Rattle.avm_pool.specs.Proposals.{IsProposal};
 
 use crate::holding::ShardLock;
-use crate::job::Job;
 use crate::left::left_of;
 use crate::proposal::Proposal;
 use avm_block::{Block, encode};
+use avm_call::Call;
+use avm_ledger::{Header, Ledger};
 use mv_parts::{Journal, Sealed};
 use std::alloc::{AllocError, Global};
 use std::thread::{Threads, join};
 
-/// The proposal of a journal, if it is of the job's ledger, header and calls. The shards are not needed any more.
+/// The proposal of a journal, if it is of this ledger, header and calls. The shards are not needed any more.
 pub(crate) fn proposal_of<R: Threads + Sync>(
     rt: &R,
     alloc: Global,
     journal: Journal,
     shards: Vec<ShardLock>,
-    job: &Job,
+    base: &Ledger,
+    header: &Header,
+    calls: &[Call],
 ) -> Result<Option<Proposal>, AllocError>
-    ensures proposal { IfOk result (λ made. IfSome made (IsProposal job.now.base.now job.now.header.now (arc_value job.now.calls.now).items)) }
-    ensures none { IfOk result (λ made. IfNone made (IsJournalOf journal job.now.base.now job.now.header.now (arc_value job.now.calls.now).items → ⊥)) }
+    ensures proposal { IfOk result (λ made. IfSome made (IsProposal base.now header.now calls.now)) }
+    ensures none { IfOk result (λ made. IfNone made (IsJournalOf journal base.now header.now calls.now → ⊥)) }
 {
-    let (is_own, sealed) = block_of(rt, alloc, &journal, shards, job);
+    let (is_own, sealed) = block_of(rt, alloc, &journal, shards, base, header, calls);
     if !is_own {
         return Ok(None);
     }
@@ -43,24 +45,26 @@ pub(crate) fn proposal_of<R: Threads + Sync>(
     }))
 }
 
-/// Whether a journal is of the job's ledger, header and calls, and the block that it makes.
+/// Whether a journal is of this ledger, header and calls, and the block that it makes.
 fn block_of<R: Threads + Sync>(
     rt: &R,
     alloc: Global,
     journal: &Journal,
     shards: Vec<ShardLock>,
-    job: &Job,
+    base: &Ledger,
+    header: &Header,
+    calls: &[Call],
 ) -> (bool, Result<Sealed, AllocError>)
-    ensures own { IsTrue result.0 ↔ IsJournalOf journal.now job.now.base.now job.now.header.now (arc_value job.now.calls.now).items }
+    ensures own { IsTrue result.0 ↔ IsJournalOf journal.now base.now header.now calls.now }
     ensures sealed { IfOk result.1 (λ sealed. IsSealed journal.now sealed.block sealed.numbers.items) }
 {
     join(
         rt,
         move || -> bool
-            ensures { IsTrue result ↔ IsJournalOf journal.entry.now job.entry.now.base.now job.entry.now.header.now (arc_value job.entry.now.calls.now).items }
+            ensures { IsTrue result ↔ IsJournalOf journal.entry.now base.entry.now header.entry.now calls.entry.now }
         {
             free_shards(shards);
-            journal.is_of(job.base.ledger(), job.header, job.calls)
+            journal.is_of(base, header, calls)
         },
         || -> Result<Sealed, AllocError>
             ensures { IfOk result (λ sealed. IsSealed journal.entry.now sealed.block sealed.numbers.items) }

@@ -11,7 +11,6 @@ mod ends;
 mod finishing;
 mod gate;
 mod holding;
-mod job;
 mod left;
 mod pool_fault;
 mod proposal;

@@ -13,13 +13,11 @@ use crate::ends::ThreadEnd;
 use crate::finishing::proposal_of;
 use crate::gate::Gate;
 use crate::holding::ShardLock;
-use crate::job::{Job, Sets};
 use crate::pool_fault::{PoolError, PoolFault};
 use crate::proposal::Proposal;
 use crate::refusals::pool_fault;
 use crate::rest::run_rest;
 use crate::running::Shared;
-use crate::worker::Site;
 use crate::workers::{enlist_all, put_all, run_workers};
 use avm_call::Call;
 use avm_ledger::{Header, Ledger};
@@ -56,11 +54,7 @@ pub fn propose<G: Gate, R: Threads + Wait + Sync, O: Op>(
         Some(fault) => Err(Failure::Fault(fault)),
         None => {
             let own = FullOps::from_full(own_ops);
-            let sets = Sets {
-                workers: worker_ops,
-                own,
-            };
-            proposed_over(rt, alloc, base, header, calls, sets, gate)
+            proposed_over(rt, alloc, base, header, calls, worker_ops, &own, gate)
         }
     }
 }
@@ -84,11 +78,7 @@ pub fn propose_on<G: Gate, R: Threads + Wait + Sync, O: Op>(
         Some(fault) => Err(Failure::Fault(fault)),
         None => {
             let own = FullOps::from_full(own_ops);
-            let sets = Sets {
-                workers: worker_ops,
-                own,
-            };
-            proposed(rt, alloc, base, header, calls, sets, gate)
+            proposed(rt, alloc, base, header, calls, worker_ops, &own, gate)
         }
     }
 }
@@ -100,7 +90,8 @@ fn proposed_over<G: Gate, R: Threads + Wait + Sync, O: Op>(
     base: &Ledger,
     header: &Header,
     calls: Vec<Call>,
-    sets: Sets<O>,
+    worker_ops: Vec<Ops<O>>,
+    own_ops: &FullOps<O>,
     gate: &G,
 ) -> Result<Proposal, PoolError>
     requires opens { open_fault header.now calls.items ≡ None }
@@ -108,7 +99,7 @@ fn proposed_over<G: Gate, R: Threads + Wait + Sync, O: Op>(
     ensures want { IfErr result IsWant }
 {
     let base = SharedBase::of(alloc, base.clone()?)?;
-    proposed(rt, alloc, &base, header, calls, sets, gate)
+    proposed(rt, alloc, &base, header, calls, worker_ops, own_ops, gate)
 }
 
 /// What comes out where no test fails.
@@ -118,112 +109,105 @@ fn proposed<G: Gate, R: Threads + Wait + Sync, O: Op>(
     base: &SharedBase,
     header: &Header,
     calls: Vec<Call>,
-    sets: Sets<O>,
+    worker_ops: Vec<Ops<O>>,
+    own_ops: &FullOps<O>,
     gate: &G,
 ) -> Result<Proposal, PoolError>
     requires opens { open_fault header.now calls.items ≡ None }
     ensures proposal { IfOk result (IsProposal base.now header.now calls.items) }
     ensures want { IfErr result IsWant }
 {
-    let calls = Arc::new(alloc, calls)?;
-    let job = Job {
-        base,
-        header,
-        calls: &calls,
-    };
-    made(rt, alloc, &job, sets, gate)
-}
-
-/// What the workers make, and the calling thread of what they leave.
-fn made<G: Gate, R: Threads + Wait + Sync, O: Op>(
-    rt: &R,
-    alloc: Global,
-    job: &Job,
-    sets: Sets<O>,
-    gate: &G,
-) -> Result<Proposal, PoolError>
-    requires opens { open_fault job.now.header.now (arc_value job.now.calls.now).items ≡ None }
-    ensures proposal { IfOk result (IsProposal job.now.base.now job.now.header.now (arc_value job.now.calls.now).items) }
-    ensures want { IfErr result IsWant }
-{
-    let Sets { workers, own } = sets;
-    let count = job.calls.len() as u32;
+    let count = calls.len() as u32;
     let (numbers, mut pass) = Numbers::new(alloc)?;
     put_all(rt, &numbers, &mut pass, count);
-    let workers = enlist_all(alloc, &numbers, &mut pass, workers)?;
-    let (journal, shards) = opened(alloc, job)?;
+    let workers = enlist_all(alloc, &numbers, &mut pass, worker_ops)?;
+    let calls = Arc::new(alloc, calls)?;
+    let (journal, shards) = opened(alloc, base, header, &calls)?;
     let journal = Mutex::new(journal);
-    let shared = shared_of(alloc, job, &shards, gate);
-    let site = Site {
-        journal: &journal,
-        shared: &shared,
+    let shared = Shared {
+        alloc,
+        shards: shards.as_slice(),
+        calls: calls.as_slice(),
+        header,
+        gate,
     };
-    match run_workers(rt, &site, workers)? {
+    match run_workers(rt, &journal, &shared, workers)? {
         ThreadEnd::Over => {}
         ThreadEnd::NotStarted => return Err(Failure::Fault(PoolFault::Spawn)),
         ThreadEnd::ClockEnd => return Err(Failure::Fault(PoolFault::ClockEnd)),
     }
     let mut journal = journal.into_inner();
     if journal.is_over() {
-        if !run_rest(rt, &shared, &mut journal, &own) {
+        if !run_rest(rt, &shared, &mut journal, own_ops) {
             return Err(Failure::Fault(PoolFault::ClockEnd));
         }
-        if let Some(proposal) = proposal_of(rt, alloc, journal, shards, job)? {
+        if let Some(proposal) = proposal_of(
+            rt,
+            alloc,
+            journal,
+            shards,
+            base.ledger(),
+            header,
+            &calls,
+        )? {
             return Ok(proposal);
         }
     }
-    made_anew(rt, alloc, job, &own, gate)
+    proposed_anew(rt, alloc, base, header, &calls, own_ops, gate)
 }
 
 /// What one thread makes of all calls. It is for a journal that is not the one that was opened, which nothing rules out that
 /// is known of a value behind a lock.
-fn made_anew<G: Gate, R: Threads + Wait + Sync, O: Op>(
+fn proposed_anew<G: Gate, R: Threads + Wait + Sync, O: Op>(
     rt: &R,
     alloc: Global,
-    job: &Job,
+    base: &SharedBase,
+    header: &Header,
+    calls: &Arc<Vec<Call>>,
     own_ops: &FullOps<O>,
     gate: &G,
 ) -> Result<Proposal, PoolError>
-    requires opens { open_fault job.now.header.now (arc_value job.now.calls.now).items ≡ None }
-    ensures proposal { IfOk result (IsProposal job.now.base.now job.now.header.now (arc_value job.now.calls.now).items) }
+    requires opens { open_fault header.now (arc_value calls.now).items ≡ None }
+    ensures proposal { IfOk result (IsProposal base.now header.now (arc_value calls.now).items) }
     ensures want { IfErr result IsWant }
 {
-    let (journal, shards) = opened(alloc, job)?;
-    let shared = shared_of(alloc, job, &shards, gate);
+    let (journal, shards) = opened(alloc, base, header, calls)?;
+    let shared = Shared {
+        alloc,
+        shards: shards.as_slice(),
+        calls: calls.as_slice(),
+        header,
+        gate,
+    };
     let mut journal = journal;
     if !run_rest(rt, &shared, &mut journal, own_ops) {
         return Err(Failure::Fault(PoolFault::ClockEnd));
     }
-    match proposal_of(rt, alloc, journal, shards, job)? {
+    match proposal_of(
+        rt,
+        alloc,
+        journal,
+        shards,
+        base.ledger(),
+        header,
+        calls.as_slice(),
+    )? {
         Some(proposal) => Ok(proposal),
         None => unreachable!(),
     }
 }
 
-/// What all attempts share, over these shards.
-fn shared_of<'a, G: Gate>(
-    alloc: Global,
-    job: &Job<'a>,
-    shards: &'a [ShardLock],
-    gate: &'a G,
-) -> Shared<'a, G> {
-    Shared {
-        alloc,
-        shards,
-        calls: job.calls.as_slice(),
-        header: job.header,
-        gate,
-    }
-}
-
 /// A journal of which no call has begun, and its shards behind locks of their own.
-fn opened(alloc: Global, job: &Job) -> Result<(Journal, Vec<ShardLock>), AllocError>
-    requires opens { open_fault job.now.header.now (arc_value job.now.calls.now).items ≡ None }
-    ensures { IfOk result (λ opened. IsJournalOf opened.0 job.now.base.now job.now.header.now (arc_value job.now.calls.now).items) }
+fn opened(
+    alloc: Global,
+    base: &SharedBase,
+    header: &Header,
+    calls: &Arc<Vec<Call>>,
+) -> Result<(Journal, Vec<ShardLock>), AllocError>
+    requires opens { open_fault header.now (arc_value calls.now).items ≡ None }
+    ensures { IfOk result (λ opened. IsJournalOf opened.0 base.now header.now (arc_value calls.now).items) }
 {
-    let base = job.base.try_clone()?;
-    let calls = Arc::try_clone(job.calls)?;
-    match open_on(alloc, base, *job.header, calls) {
+    match open_on(alloc, base.try_clone()?, *header, Arc::try_clone(calls)?) {
         Ok((journal, held)) => {
             let shards = locked(alloc, held)?;
             Ok((journal, shards))

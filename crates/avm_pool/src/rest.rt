@@ -25,8 +25,10 @@ pub(crate) fn run_rest<G: Gate, R: Wait, O: Op>(
     ensures { IsStill journal.old journal.new }
 {
     let mut executor = Executor { ops, spare: None };
-    for below in 0..shared.calls.len() as u32 {
-        if !run_once(rt, shared, journal, &mut executor, below + 1) {
+    let mut number = 0u32;
+    for _call in shared.calls {
+        number = number.saturating_add(1);
+        if !run_once(rt, shared, journal, &mut executor, number) {
             return false;
         }
     }

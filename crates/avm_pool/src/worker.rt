@@ -48,7 +48,12 @@ pub(crate) fn enlist<'a, O: Op>(
 
 impl<'a, O: Op> Worker<'a, O> {
     /// Draws numbers until there is none, and runs their calls.
-    pub fn work<G: Gate, R: Wait>(self, rt: &R, site: &Site<G>) -> ThreadEnd {
+    pub fn work<G: Gate, R: Wait>(
+        self,
+        rt: &R,
+        journal: &Mutex<Journal>,
+        shared: &Shared<G>,
+    ) -> ThreadEnd {
         let Worker {
             numbers,
             mut pass,
@@ -58,6 +63,7 @@ impl<'a, O: Op> Worker<'a, O> {
         let Ok(ops) = FullOps::of(ops) else {
             return ThreadEnd::Over;
         };
+        let site = Site { journal, shared };
         let mut executor = Executor {
             ops: &ops,
             spare: None,
@@ -86,12 +92,12 @@ impl<'a, O: Op> Worker<'a, O> {
 
 /// Where workers run calls: the journal behind its lock, and what all attempts share.
 #[derive(Drop)]
-pub(crate) struct Site<'a, G> {
-    pub journal: &'a Mutex<Journal>,
-    pub shared: &'a Shared<'a, G>,
+struct Site<'a, 'b, 'c, G> {
+    journal: &'a Mutex<Journal>,
+    shared: &'b Shared<'c, G>,
 }
 
-impl<'a, G: Gate> Site<'a, G> {
+impl<'a, 'b, 'c, G: Gate> Site<'a, 'b, 'c, G> {
     /// Runs a call, in as many attempts as it takes: it does not end with `Again`.
     fn run_call<R: Wait, O: Op>(
         &self,

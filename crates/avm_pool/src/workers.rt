@@ -8,10 +8,12 @@ ghost use Rattle.avm_block.specs.Blocks.{most_calls};
 use crate::call_numbers::{NumberPass, Numbers};
 use crate::ends::ThreadEnd;
 use crate::gate::Gate;
-use crate::worker::{Site, Worker, enlist};
+use crate::running::Shared;
+use crate::worker::{Worker, enlist};
 use avm_ops::{Op, Ops};
+use mv_parts::Journal;
 use std::alloc::{AllocError, Global};
-use std::sync::Wait;
+use std::sync::{Mutex, Wait};
 use std::thread;
 use std::thread::Threads;
 
@@ -48,14 +50,15 @@ pub(crate) fn enlist_all<'a, O: Op>(
 /// Runs the workers in threads of their own, and joins those that were started.
 pub(crate) fn run_workers<O: Op, G: Gate, R: Threads + Wait + Sync>(
     rt: &R,
-    site: &Site<G>,
+    journal: &Mutex<Journal>,
+    shared: &Shared<G>,
     workers: Vec<Worker<O>>,
 ) -> Result<ThreadEnd, AllocError> {
-    let mut handles = Vec::with_capacity(site.shared.alloc, workers.len())?;
+    let mut handles = Vec::with_capacity(shared.alloc, workers.len())?;
     Ok(thread::scope(thread::scope_env(), rt, move |scope| {
         let mut end = ThreadEnd::Over;
         for worker in workers {
-            match scope.spawn(move || worker.work(rt, site)) {
+            match scope.spawn(move || worker.work(rt, journal, shared)) {
                 Ok(handle) => {
                     if let Err(refused) = handles.push(handle) {
                         refused.value.join(rt);
