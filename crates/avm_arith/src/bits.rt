@@ -142,6 +142,7 @@ impl Op for Bits {
     }
 
     #[tactic(auto, unfolding(avm_ops::specs::Effect::effect))]
+    #[inline(always)]
     fn exec(&self, alloc: Global, _instr: &Instr, cpu: &mut Cpu, _env: &mut Env) -> Executed {
         match self {
             Bits::Getbit => {

@@ -78,6 +78,7 @@ impl Op for Comparison {
     }
 
     #[tactic(auto, unfolding(avm_ops::specs::Effect::effect))]
+    #[inline(always)]
     fn exec(&self, _alloc: Global, _instr: &Instr, cpu: &mut Cpu, _env: &mut Env) -> Executed {
         let (a, b) = cpu.two_uints()?;
         let holds = self.holds(a, b);
@@ -145,6 +146,7 @@ impl Op for Equality {
     }
 
     #[tactic(auto, unfolding(avm_ops::specs::Effect::effect))]
+    #[inline(always)]
     fn exec(&self, _alloc: Global, _instr: &Instr, cpu: &mut Cpu, _env: &mut Env) -> Executed {
         let (a, b) = cpu.two_values()?;
         let same = are_equal(a, b)?;

@@ -141,6 +141,7 @@ impl Op for OfBytes {
     }
 
     #[tactic(auto, unfolding(avm_ops::specs::Effect::effect))]
+    #[inline(always)]
     fn exec(&self, alloc: Global, instr: &Instr, cpu: &mut Cpu, _env: &mut Env) -> Executed {
         let bytes = cpu.one_bytes()?;
         let value = self.value(alloc, &instr.immediates, bytes)?;

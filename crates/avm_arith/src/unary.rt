@@ -64,6 +64,7 @@ impl Op for Unary {
     }
 
     #[tactic(auto, unfolding(avm_ops::specs::Effect::effect))]
+    #[inline(always)]
     fn exec(&self, alloc: Global, _instr: &Instr, cpu: &mut Cpu, _env: &mut Env) -> Executed {
         let a = cpu.one_uint()?;
         let value = self.value(alloc, a)?;

@@ -5,16 +5,17 @@ ghost use Rattle.std.specs.Option.{option_copied};
 ghost use Rattle.teal_value.specs.declared.fault.Fault.TheVariants.{StackFull};
 ghost use Rattle.teal_value.specs.declared.value.Value.TheVariants.{Uint, Bytes};
 ghost use Rattle.teal_value.specs.Answer.{Leaves};
-ghost use Rattle.avm_cpu.specs.Copies.{with_copies, with_copy, with_loaded};
+ghost use Rattle.avm_cpu.specs.Copies.{pushed, with_copies, with_copy, with_loaded};
 ghost use Rattle.avm_cpu.specs.Machine.{machine_at, with_stack, most_values};
 ghost use Rattle.avm_cpu.specs.Operands.{one_uint, one_bytes, one_value, two_uints, two_bytes, two_values, uint_and_bytes, bytes_and_uint, bytes_and_value, value_and_uint, bytes_and_two_uints, value_and_two_uints, two_values_and_uint, two_uints_and_bytes, uint_bytes_and_value, value_below};
 
 use crate::constants::ByteConstants;
+use crate::push::Push;
 use crate::values::{below_last, put, put_uint, put_zeros, swap_last, take_out, zeros};
 use arrayvec::ArrayVec;
 use std::alloc::{AllocError, Global};
 use std::marker::Model;
-use teal_value::{ByteString, Failure, Fault, Value, write_over};
+use teal_value::{ByteString, Fault, Value, write_over};
 
 /// The most values that stand on the stack (AVM specification, "The Stack").
 const MAX_VALUES: usize = 1000;
@@ -165,8 +166,8 @@ impl Cpu {
     pub fn two_uints(&self) -> Result<(u64, u64), Fault>
         ensures { result ≡ two_uints self.now.stack }
     {
-        match (self.value_at(0), self.value_at(1)) {
-            (Some(Value::Uint(b)), Some(Value::Uint(a))) => Ok((*a, *b)),
+        match (self.value_at(1), self.value_at(0)) {
+            (Some(Value::Uint(a)), Some(Value::Uint(b))) => Ok((*a, *b)),
             (Some(_), Some(_)) => Err(Fault::WrongType),
             _ => Err(Fault::Underflow),
         }
@@ -176,8 +177,8 @@ impl Cpu {
     pub fn two_bytes(&self) -> Result<(&[u8], &[u8]), Fault>
         ensures { MatchResult result (λ p. two_bytes self.now.stack ≡ Ok (p.0.now, p.1.now)) (λ f. two_bytes self.now.stack ≡ Err f) }
     {
-        match (self.value_at(0), self.value_at(1)) {
-            (Some(Value::Bytes(b)), Some(Value::Bytes(a))) => Ok((a.as_slice(), b.as_slice())),
+        match (self.value_at(1), self.value_at(0)) {
+            (Some(Value::Bytes(a)), Some(Value::Bytes(b))) => Ok((a.as_slice(), b.as_slice())),
             (Some(_), Some(_)) => Err(Fault::WrongType),
             _ => Err(Fault::Underflow),
         }
@@ -188,8 +189,8 @@ impl Cpu {
     pub fn two_values(&self) -> Result<(&Value, &Value), Fault>
         ensures { MatchResult result (λ p. two_values self.now.stack ≡ Ok (p.0.now, p.1.now)) (λ f. two_values self.now.stack ≡ Err f) }
     {
-        match (self.value_at(0), self.value_at(1)) {
-            (Some(b), Some(a)) => Ok((a, b)),
+        match (self.value_at(1), self.value_at(0)) {
+            (Some(a), Some(b)) => Ok((a, b)),
             _ => Err(Fault::Underflow),
         }
     }
@@ -198,8 +199,8 @@ impl Cpu {
     pub fn uint_and_bytes(&self) -> Result<(u64, &[u8]), Fault>
         ensures { MatchResult result (λ p. uint_and_bytes self.now.stack ≡ Ok (p.0, p.1.now)) (λ f. uint_and_bytes self.now.stack ≡ Err f) }
     {
-        match (self.value_at(0), self.value_at(1)) {
-            (Some(Value::Bytes(b)), Some(Value::Uint(a))) => Ok((*a, b.as_slice())),
+        match (self.value_at(1), self.value_at(0)) {
+            (Some(Value::Uint(a)), Some(Value::Bytes(b))) => Ok((*a, b.as_slice())),
             (Some(_), Some(_)) => Err(Fault::WrongType),
             _ => Err(Fault::Underflow),
         }
@@ -209,8 +210,8 @@ impl Cpu {
     pub fn bytes_and_uint(&self) -> Result<(&[u8], u64), Fault>
         ensures { MatchResult result (λ p. bytes_and_uint self.now.stack ≡ Ok (p.0.now, p.1)) (λ f. bytes_and_uint self.now.stack ≡ Err f) }
     {
-        match (self.value_at(0), self.value_at(1)) {
-            (Some(Value::Uint(b)), Some(Value::Bytes(a))) => Ok((a.as_slice(), *b)),
+        match (self.value_at(1), self.value_at(0)) {
+            (Some(Value::Bytes(a)), Some(Value::Uint(b))) => Ok((a.as_slice(), *b)),
             (Some(_), Some(_)) => Err(Fault::WrongType),
             _ => Err(Fault::Underflow),
         }
@@ -220,8 +221,8 @@ impl Cpu {
     pub fn bytes_and_value(&self) -> Result<(&[u8], &Value), Fault>
         ensures { MatchResult result (λ p. bytes_and_value self.now.stack ≡ Ok (p.0.now, p.1.now)) (λ f. bytes_and_value self.now.stack ≡ Err f) }
     {
-        match (self.value_at(0), self.value_at(1)) {
-            (Some(b), Some(Value::Bytes(a))) => Ok((a.as_slice(), b)),
+        match (self.value_at(1), self.value_at(0)) {
+            (Some(Value::Bytes(a)), Some(b)) => Ok((a.as_slice(), b)),
             (Some(_), Some(_)) => Err(Fault::WrongType),
             _ => Err(Fault::Underflow),
         }
@@ -231,8 +232,8 @@ impl Cpu {
     pub fn value_and_uint(&self) -> Result<(&Value, u64), Fault>
         ensures { MatchResult result (λ p. value_and_uint self.now.stack ≡ Ok (p.0.now, p.1)) (λ f. value_and_uint self.now.stack ≡ Err f) }
     {
-        match (self.value_at(0), self.value_at(1)) {
-            (Some(Value::Uint(b)), Some(a)) => Ok((a, *b)),
+        match (self.value_at(1), self.value_at(0)) {
+            (Some(a), Some(Value::Uint(b))) => Ok((a, *b)),
             (Some(_), Some(_)) => Err(Fault::WrongType),
             _ => Err(Fault::Underflow),
         }
@@ -242,8 +243,8 @@ impl Cpu {
     pub fn bytes_and_two_uints(&self) -> Result<(&[u8], u64, u64), Fault>
         ensures { MatchResult result (λ p. bytes_and_two_uints self.now.stack ≡ Ok (p.0.now, p.1, p.2)) (λ f. bytes_and_two_uints self.now.stack ≡ Err f) }
     {
-        match (self.value_at(0), self.value_at(1), self.value_at(2)) {
-            (Some(Value::Uint(c)), Some(Value::Uint(b)), Some(Value::Bytes(a))) => Ok((
+        match (self.value_at(2), self.value_at(1), self.value_at(0)) {
+            (Some(Value::Bytes(a)), Some(Value::Uint(b)), Some(Value::Uint(c))) => Ok((
                 a.as_slice(),
                 *b,
                 *c,
@@ -257,8 +258,8 @@ impl Cpu {
     pub fn value_and_two_uints(&self) -> Result<(&Value, u64, u64), Fault>
         ensures { MatchResult result (λ p. value_and_two_uints self.now.stack ≡ Ok (p.0.now, p.1, p.2)) (λ f. value_and_two_uints self.now.stack ≡ Err f) }
     {
-        match (self.value_at(0), self.value_at(1), self.value_at(2)) {
-            (Some(Value::Uint(c)), Some(Value::Uint(b)), Some(a)) => Ok((a, *b, *c)),
+        match (self.value_at(2), self.value_at(1), self.value_at(0)) {
+            (Some(a), Some(Value::Uint(b)), Some(Value::Uint(c))) => Ok((a, *b, *c)),
             (Some(_), Some(_), Some(_)) => Err(Fault::WrongType),
             _ => Err(Fault::Underflow),
         }
@@ -268,8 +269,8 @@ impl Cpu {
     pub fn two_values_and_uint(&self) -> Result<(&Value, &Value, u64), Fault>
         ensures { MatchResult result (λ p. two_values_and_uint self.now.stack ≡ Ok (p.0.now, p.1.now, p.2)) (λ f. two_values_and_uint self.now.stack ≡ Err f) }
     {
-        match (self.value_at(0), self.value_at(1), self.value_at(2)) {
-            (Some(Value::Uint(c)), Some(b), Some(a)) => Ok((a, b, *c)),
+        match (self.value_at(2), self.value_at(1), self.value_at(0)) {
+            (Some(a), Some(b), Some(Value::Uint(c))) => Ok((a, b, *c)),
             (Some(_), Some(_), Some(_)) => Err(Fault::WrongType),
             _ => Err(Fault::Underflow),
         }
@@ -279,8 +280,8 @@ impl Cpu {
     pub fn two_uints_and_bytes(&self) -> Result<(u64, u64, &[u8]), Fault>
         ensures { MatchResult result (λ p. two_uints_and_bytes self.now.stack ≡ Ok (p.0, p.1, p.2.now)) (λ f. two_uints_and_bytes self.now.stack ≡ Err f) }
     {
-        match (self.value_at(0), self.value_at(1), self.value_at(2)) {
-            (Some(Value::Bytes(c)), Some(Value::Uint(b)), Some(Value::Uint(a))) => Ok((
+        match (self.value_at(2), self.value_at(1), self.value_at(0)) {
+            (Some(Value::Uint(a)), Some(Value::Uint(b)), Some(Value::Bytes(c))) => Ok((
                 *a,
                 *b,
                 c.as_slice(),
@@ -294,8 +295,8 @@ impl Cpu {
     pub fn uint_bytes_and_value(&self) -> Result<(u64, &[u8], &Value), Fault>
         ensures { MatchResult result (λ p. uint_bytes_and_value self.now.stack ≡ Ok (p.0, p.1.now, p.2.now)) (λ f. uint_bytes_and_value self.now.stack ≡ Err f) }
     {
-        match (self.value_at(0), self.value_at(1), self.value_at(2)) {
-            (Some(c), Some(Value::Bytes(b)), Some(Value::Uint(a))) => Ok((*a, b.as_slice(), c)),
+        match (self.value_at(2), self.value_at(1), self.value_at(0)) {
+            (Some(Value::Uint(a)), Some(Value::Bytes(b)), Some(c)) => Ok((*a, b.as_slice(), c)),
             (Some(_), Some(_), Some(_)) => Err(Fault::WrongType),
             _ => Err(Fault::Underflow),
         }
@@ -419,8 +420,9 @@ impl Cpu {
         Ok(())
     }
 
-    /// Puts two numbers on top, where there is room for both; the second becomes the top.
-    #[inline]
+    /// Puts two numbers on top, where there is room for both; the second becomes the top. It is out of line, so that who
+    /// calls it has nothing to keep between the two.
+    #[inline(never)]
     pub fn push_uints(&mut self, below: u64, top: u64) -> Result<(), Fault>
         ensures { MatchResult result
             (λ _. (length self.old.stack + 2 ≤ most_values) × (self.new ≡ with_stack self.old (Uint top ∷ Uint below ∷ self.old.stack)))
@@ -438,16 +440,16 @@ impl Cpu {
     /// are, are better pushed by [`Cpu::push_uint`].
     #[cold]
     #[inline(never)]
-    pub fn push_copy(&mut self, depth: u8) -> Result<(), Failure<Fault>>
-        ensures copied { Leaves result self.new (with_copy depth self.old) }
-        ensures unchanged { IfErr result (λ _. self.new ≡ self.old) }
+    pub fn push_copy(&mut self, depth: u8) -> Push
+        ensures copied { Leaves (pushed result) self.new (with_copy depth self.old) }
+        ensures unchanged { IfErr (pushed result) (λ _. self.new ≡ self.old) }
     {
         match self.value_below(depth) {
-            Ok(value) => {
-                let copy = value.clone()?;
-                self.push(copy).map_err(Failure::Fault)
-            }
-            Err(fault) => Err(Failure::Fault(fault)),
+            Ok(value) => match value.clone() {
+                Ok(copy) => Push::of(self.push(copy)),
+                Err(AllocError) => Push::Memory,
+            },
+            Err(fault) => Push::Fault(fault),
         }
     }
 
@@ -455,17 +457,16 @@ impl Cpu {
     /// [`Cpu::push_copy`] is.
     #[cold]
     #[inline(never)]
-    pub fn push_copies(&mut self) -> Result<(), Failure<Fault>>
-        ensures copied { Leaves result self.new (with_copies self.old) }
-        ensures unchanged { IfErr result (λ _. self.new ≡ self.old) }
+    pub fn push_copies(&mut self) -> Push
+        ensures copied { Leaves (pushed result) self.new (with_copies self.old) }
+        ensures unchanged { IfErr (pushed result) (λ _. self.new ≡ self.old) }
     {
         match self.two_values() {
-            Ok((below, top)) => {
-                let below_copy = below.clone()?;
-                let top_copy = top.clone()?;
-                self.push_pair(below_copy, top_copy).map_err(Failure::Fault)
-            }
-            Err(fault) => Err(Failure::Fault(fault)),
+            Ok((below, top)) => match (below.clone(), top.clone()) {
+                (Ok(below), Ok(top)) => Push::of(self.push_pair(below, top)),
+                _ => Push::Memory,
+            },
+            Err(fault) => Push::Fault(fault),
         }
     }
 
@@ -516,6 +517,7 @@ impl Cpu {
     }
 
     /// Drops the value below the top.
+    #[inline(never)]
     pub fn drop_second(&mut self)
         requires { 2 ≤ length self.old.stack }
         ensures { IfOk (one_value self.old.stack) (λ a. self.new ≡ with_stack self.old (a ∷ drop 2 self.old.stack)) }
@@ -527,6 +529,18 @@ impl Cpu {
     /// Exchanges the two values on top.
     #[inline]
     pub fn swap(&mut self)
+        requires { 2 ≤ length self.old.stack }
+        ensures { IfOk (two_values self.old.stack) (λ p. self.new ≡ with_stack self.old (p.0 ∷ p.1 ∷ drop 2 self.old.stack)) }
+    {
+        match self.two_uints() {
+            Ok((below, top)) => self.set_uints(2, top, below),
+            Err(_) => self.swap_values(),
+        }
+    }
+
+    #[cold]
+    #[inline(never)]
+    fn swap_values(&mut self)
         requires { 2 ≤ length self.old.stack }
         ensures { IfOk (two_values self.old.stack) (λ p. self.new ≡ with_stack self.old (p.0 ∷ p.1 ∷ drop 2 self.old.stack)) }
     {
@@ -553,12 +567,14 @@ impl Cpu {
     /// [`Cpu::push_copy`] is.
     #[cold]
     #[inline(never)]
-    pub fn load(&mut self, index: u8) -> Result<(), Failure<Fault>>
-        ensures copied { Leaves result self.new (with_loaded index self.old) }
-        ensures unchanged { IfErr result (λ _. self.new ≡ self.old) }
+    pub fn load(&mut self, index: u8) -> Push
+        ensures copied { Leaves (pushed result) self.new (with_loaded index self.old) }
+        ensures unchanged { IfErr (pushed result) (λ _. self.new ≡ self.old) }
     {
-        let copy = self.scratch(index).clone()?;
-        self.push(copy).map_err(Failure::Fault)
+        match self.scratch(index).clone() {
+            Ok(copy) => Push::of(self.push(copy)),
+            Err(AllocError) => Push::Memory,
+        }
     }
 
     /// Moves the value on top to an index of the scratch space.
@@ -601,7 +617,9 @@ impl Cpu {
         ensures { self.new ≡ record self.old { scratch = slice_set self.old.scratch index (Uint number) } }
     {
         let place = usize::from(index);
-        self.used = self.used.max(place + 1);
+        if self.used <= place {
+            self.used = place + 1;
+        }
         put_uint(&mut self.scratch, place, number);
     }
 

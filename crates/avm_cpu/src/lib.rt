@@ -5,7 +5,9 @@
 mod constants;
 mod cpu;
 mod flow;
+mod push;
 mod values;
 
 pub use cpu::{Cpu, MAX_BYTES};
 pub use flow::Flow;
+pub use push::Push;

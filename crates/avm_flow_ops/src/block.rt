@@ -49,6 +49,7 @@ impl Op for Block {
     }
 
     #[tactic(auto, unfolding(avm_ops::specs::Effect::effect))]
+    #[inline(always)]
     fn exec(&self, alloc: Global, instr: &Instr, cpu: &mut Cpu, _env: &mut Env) -> Executed {
         match self {
             Block::Intcblock => cpu.set_uint_constants(uints_of(&instr.immediates))?,

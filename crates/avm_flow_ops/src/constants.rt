@@ -83,6 +83,7 @@ impl Op for Intc {
     }
 
     #[tactic(auto, unfolding(avm_ops::specs::Effect::effect))]
+    #[inline(always)]
     fn exec(&self, _alloc: Global, instr: &Instr, cpu: &mut Cpu, _env: &mut Env) -> Executed {
         let index = self.index(&instr.immediates);
         let number = cpu.uint_constant(index).ok_or(Fault::NoConstant)?;
@@ -140,6 +141,7 @@ impl Op for Bytec {
     }
 
     #[tactic(auto, unfolding(avm_ops::specs::Effect::effect))]
+    #[inline(always)]
     fn exec(&self, alloc: Global, instr: &Instr, cpu: &mut Cpu, _env: &mut Env) -> Executed {
         let index = self.index(&instr.immediates);
         let bytes = cpu.byte_constant(index).ok_or(Fault::NoConstant)?;

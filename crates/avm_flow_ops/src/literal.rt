@@ -50,6 +50,7 @@ impl Op for Literal {
     }
 
     #[tactic(auto, unfolding(avm_ops::specs::Effect::effect))]
+    #[inline(always)]
     fn exec(&self, alloc: Global, instr: &Instr, cpu: &mut Cpu, _env: &mut Env) -> Executed {
         match self {
             Literal::Pushbytes => {

@@ -52,6 +52,7 @@ impl Op for Scratch {
     }
 
     #[tactic(auto, unfolding(avm_ops::specs::Effect::effect))]
+    #[inline(always)]
     fn exec(&self, _alloc: Global, instr: &Instr, cpu: &mut Cpu, _env: &mut Env) -> Executed {
         let index = index_of(&instr.immediates);
         match self {
@@ -60,7 +61,7 @@ impl Op for Scratch {
                     let number = *number;
                     cpu.push_uint(number)?;
                 }
-                Value::Bytes(_) => cpu.load(index)?,
+                Value::Bytes(_) => cpu.load(index).result()?,
             },
             Scratch::Store => {
                 let _value = cpu.one_value()?;

@@ -68,6 +68,7 @@ impl Op for Stack {
     }
 
     #[tactic(auto, unfolding(avm_ops::specs::Effect::effect))]
+    #[inline(always)]
     fn exec(&self, _alloc: Global, instr: &Instr, cpu: &mut Cpu, _env: &mut Env) -> Executed {
         match self {
             Stack::Pop => {
@@ -79,14 +80,14 @@ impl Op for Stack {
                     let number = *number;
                     cpu.push_uint(number)?;
                 }
-                Value::Bytes(_) => cpu.push_copy(0)?,
+                Value::Bytes(_) => cpu.push_copy(0).result()?,
             },
             Stack::Dup2 => match cpu.two_values()? {
                 (Value::Uint(below), Value::Uint(top)) => {
                     let (below, top) = (*below, *top);
                     cpu.push_uints(below, top)?;
                 }
-                _ => cpu.push_copies()?,
+                _ => cpu.push_copies().result()?,
             },
             Stack::Dig => {
                 let depth = index_of(&instr.immediates);
@@ -95,7 +96,7 @@ impl Op for Stack {
                         let number = *number;
                         cpu.push_uint(number)?;
                     }
-                    Value::Bytes(_) => cpu.push_copy(depth)?,
+                    Value::Bytes(_) => cpu.push_copy(depth).result()?,
                 }
             }
             Stack::Swap => {

@@ -55,6 +55,7 @@ impl Op for Stops {
     }
 
     #[tactic(auto, unfolding(avm_ops::specs::Effect::effect))]
+    #[inline(always)]
     fn exec(&self, _alloc: Global, _instr: &Instr, cpu: &mut Cpu, _env: &mut Env) -> Executed {
         match self {
             Stops::Err => Err(Stop::Fault(Fault::Err)),

@@ -1,11 +1,12 @@
 //! Instructions as objects.
 
-ghost use Rattle.std.specs.Prelude.{◌≡◌};
+ghost use Rattle.std.specs.Prelude.{◌≡◌, Err};
 ghost use Rattle.teal_table.specs.declared.opcode.Opcode.{Opcode};
 ghost use Rattle.teal_value.specs.declared.value.Value.TheVariants.{Uint};
 ghost use Rattle.teal_table.specs.Table.{code_of};
 ghost use Rattle.avm_ops.specs.Frame.{flag};
-ghost use Rattle.avm_ops.specs.Objects.{IsReady, Does, IfStopped, context_of, known_effect};
+ghost use Rattle.avm_ops.specs.declared.op.Stop.TheVariants as stop;
+ghost use Rattle.avm_ops.specs.Objects.{Advances, Does, IfHeld, IfStopped, IsAdvance, IsReady, context_of, known_effect};
 
 use avm_cpu::{Cpu, Flow};
 use avm_items::{Env, Item};
@@ -68,6 +69,53 @@ pub fn flag(holds: bool) -> u64
 /// What an instruction comes to: where the program goes on, or why it was not carried out.
 pub type Executed = Result<Flow, Stop>;
 
+/// What an instruction comes to, in two registers. Who runs a program asks for it at each step; an [`Executed`] would be
+/// written to memory, and read there again.
+#[derive(Debug, Drop)]
+pub enum Advance {
+    /// The program goes on to the instruction behind this one.
+    Next,
+    /// It goes on to the target of the branch.
+    Jump,
+    /// It goes on to its end.
+    End,
+    /// It faults. The fault lies in a box, so that one word holds what goes with an answer, whichever it is.
+    Fault(Box<Fault>),
+    /// It asks for an item that is not known.
+    Need(Box<Item>),
+    /// Memory was refused.
+    Memory,
+}
+
+impl Advance {
+    /// What was executed, in two registers.
+    #[inline(always)]
+    pub fn of(alloc: Global, executed: Executed) -> Advance
+        ensures { IsAdvance executed result }
+    {
+        match executed {
+            Ok(Flow::Next) => Advance::Next,
+            Ok(Flow::Jump(_)) => Advance::Jump,
+            Ok(Flow::End) => Advance::End,
+            Err(Stop::Fault(fault)) => faulted(alloc, fault),
+            Err(Stop::Need(item)) => Advance::Need(item),
+            Err(Stop::Memory) => Advance::Memory,
+        }
+    }
+}
+
+/// A fault in its box. It is out of line, since it ends a program.
+#[cold]
+#[inline(never)]
+fn faulted(alloc: Global, fault: Fault) -> Advance
+    ensures { IsAdvance (Err (stop.Fault fault)) result }
+{
+    match Box::new(alloc, fault) {
+        Ok(fault) => Advance::Fault(fault),
+        Err(_refused) => Advance::Memory,
+    }
+}
+
 /// An object that carries out the instructions of one opcode. Whoever runs programs knows instructions by this alone.
 pub trait Op: Send + Drop {
     /// The opcode.
@@ -90,6 +138,17 @@ pub trait Op: Send + Drop {
         ensures writes { env.new ≡ record env.old { writes = env.new.writes } }
         // At a fault, and at an item that isn't known, nothing changes.
         ensures unchanged { IfStopped result ((cpu.new ≡ cpu.old) × (env.new ≡ env.old)) };
+
+    /// Carries out an instruction as [`Op::exec`] does, and answers in two registers.
+    fn advance(&self, alloc: Global, instr: &Instr, cpu: &mut Cpu, env: &mut Env) -> Advance
+        requires opcode { instr.now.opcode ≡ opcode self.now }
+        requires ready { IsReady cpu.old.place (opcode self.now) instr.now.immediates }
+        ensures row { Advances result cpu.new env.new (known_effect cpu.old env.old (opcode self.now) instr.now.immediates) }
+        ensures writes { env.new ≡ record env.old { writes = env.new.writes } }
+        ensures unchanged { IfHeld result ((cpu.new ≡ cpu.old) × (env.new ≡ env.old)) }
+    {
+        Advance::of(alloc, self.exec(alloc, instr, cpu, env))
+    }
 }
 
 /// An object in a box.
@@ -107,5 +166,9 @@ impl Op for BoxedOp {
 
     fn exec(&self, alloc: Global, instr: &Instr, cpu: &mut Cpu, env: &mut Env) -> Executed {
         self.op.exec(alloc, instr, cpu, env)
+    }
+
+    fn advance(&self, alloc: Global, instr: &Instr, cpu: &mut Cpu, env: &mut Env) -> Advance {
+        self.op.advance(alloc, instr, cpu, env)
     }
 }

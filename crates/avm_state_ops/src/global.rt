@@ -77,6 +77,7 @@ impl Op for GlobalOp {
     }
 
     #[tactic(auto, unfolding(avm_ops::specs::Effect::effect))]
+    #[inline(always)]
     fn exec(&self, alloc: Global, instr: &Instr, cpu: &mut Cpu, env: &mut Env) -> Executed {
         let Some(field) = global_field(field_of(&instr.immediates)) else {
             return Err(Stop::Fault(Fault::BadField));

@@ -174,6 +174,7 @@ impl Op for StateRead {
     }
 
     #[tactic(auto, unfolding(avm_ops::specs::Effect::effect))]
+    #[inline(always)]
     fn exec(&self, alloc: Global, _instr: &Instr, cpu: &mut Cpu, env: &mut Env) -> Executed {
         match self {
             StateRead::OptedIn => opted_in(alloc, cpu, env),

@@ -80,6 +80,7 @@ impl Op for Txn {
     }
 
     #[tactic(auto, unfolding(avm_ops::specs::Effect::effect))]
+    #[inline(always)]
     fn exec(&self, alloc: Global, instr: &Instr, cpu: &mut Cpu, env: &mut Env) -> Executed {
         let immediates = &instr.immediates;
         let field = field_of(immediates);

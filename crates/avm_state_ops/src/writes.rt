@@ -262,6 +262,7 @@ impl Op for StateWrite {
     }
 
     #[tactic(auto, unfolding(avm_ops::specs::Effect::effect))]
+    #[inline(always)]
     fn exec(&self, alloc: Global, _instr: &Instr, cpu: &mut Cpu, env: &mut Env) -> Executed {
         match self {
             StateWrite::LocalPut => local_put(alloc, cpu, env),
