@@ -1,6 +1,7 @@
 //! Blocks read from bytes.
 
 ghost use Rattle.std.specs.Prelude.{◌≡◌, if◌then◌else◌, Ok, Err, IfOk};
+ghost use Rattle.std.specs.Arc.{arc_value};
 ghost use Rattle.teal_value.specs.Answer.{Gives};
 ghost use Rattle.avm_call_codec.specs.CallReader.{call_front};
 ghost use Rattle.avm_block.specs.declared.block_fault.BlockFault.TheVariants.{Field};
@@ -23,6 +24,7 @@ use avm_items::CallData;
 use avm_ledger::{Fields, Profile};
 use sha2::{Digest, Sha256};
 use std::alloc::Global;
+use std::sync::Arc;
 use teal_value::Failure;
 
 /// The block that the bytes are. The first fault in reading order counts. Nothing grows by a count or a length that the
@@ -171,10 +173,10 @@ fn call_of(
 }
 
 /// The fields of the call that the bytes begin with, and the bytes behind it.
-fn call_fields_of(alloc: Global, bytes: &[u8]) -> Result<(CallData, Fields<'_>), BlockError>
-    ensures { Gives (λ x. x) result (in_block (call_front bytes.now)) }
+fn call_fields_of(alloc: Global, bytes: &[u8]) -> Result<(Arc<CallData>, Fields<'_>), BlockError>
+    ensures { Gives (λ x. (arc_value x.0, x.1)) result (in_block (call_front bytes.now)) }
 {
-    match CallData::front(alloc, bytes, 0) {
+    match CallData::shared_front(alloc, bytes, 0) {
         Ok((call, end)) => {
             let (_, rest) = bytes.split_at(end);
             Ok((call, Fields::new(rest)))
@@ -195,19 +197,17 @@ fn block_fault_of(fault: CallDataFault) -> BlockFault
 }
 
 /// The call of these fields, where a block of this profile may have it.
-fn accepted(alloc: Global, profile: Profile, fields: CallData) -> Result<Call, BlockError>
-    ensures { Gives (λ call. call) result (if is_accepted profile fields then Ok fields else Err Field) }
+fn accepted(alloc: Global, profile: Profile, fields: Arc<CallData>) -> Result<Call, BlockError>
+    ensures { Gives (λ call. call) result (if is_accepted profile (arc_value fields) then Ok (arc_value fields) else Err Field) }
 {
-    match Call::check(alloc, fields) {
+    match Call::of_shared(alloc, fields) {
         Ok(call) => {
             if !accepts(profile, &call) {
                 return Err(Failure::Fault(BlockFault::Field));
             }
             Ok(call)
         }
-        Err((error, _fields)) => match error {
-            Failure::Fault(_) => Err(Failure::Fault(BlockFault::Field)),
-            Failure::Memory => Err(Failure::Memory),
-        },
+        Err(Failure::Fault(_)) => Err(Failure::Fault(BlockFault::Field)),
+        Err(Failure::Memory) => Err(Failure::Memory),
     }
 }

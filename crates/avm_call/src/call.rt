@@ -71,15 +71,23 @@ impl Call {
         ensures refused { IfErr result (λ e. IsFaultOf (call_fault fields) e.0) }
         ensures back { IfErr result (λ e. e.1 ≡ fields) }
     {
-        if let Some(fault) = field_fault(&fields) {
-            return Err((Failure::Fault(fault), fields));
-        }
-        match brought_programs(alloc, &fields) {
+        match tested_programs(alloc, &fields) {
             Ok(programs) => match Arc::new(alloc, fields) {
                 Ok(fields) => Ok(Call { fields, programs }),
                 Err(refused) => Err((Failure::Memory, refused.value)),
             },
             Err(error) => Err((error, fields)),
+        }
+    }
+
+    /// The fields as a call that shares them, or the first rule that they break.
+    pub fn of_shared(alloc: Global, fields: Arc<CallData>) -> Result<Call, CallError>
+        ensures ok { IfOk result (λ call. (call ≡ arc_value fields) × (call_fault (arc_value fields) ≡ None)) }
+        ensures refused { IfErr result (λ e. IsFaultOf (call_fault (arc_value fields)) e) }
+    {
+        match tested_programs(alloc, &fields) {
+            Ok(programs) => Ok(Call { fields, programs }),
+            Err(error) => Err(error),
         }
     }
 
@@ -175,6 +183,17 @@ fn is_three(program: &StoredProgram) -> bool
     ensures { result ≡ is_three (checked program.now) }
 {
     program.program().version() == Version::Three
+}
+
+/// The programs that the fields bring, or the first rule that the fields break.
+fn tested_programs(alloc: Global, fields: &CallData) -> Result<Option<Programs>, CallError>
+    ensures ok { IfOk result (λ programs. (call_fault fields.now ≡ None) × (programs ≡ program_pair fields.now)) }
+    ensures fault { IfErr result (λ e. IsFaultOf (call_fault fields.now) e) }
+{
+    match field_fault(fields) {
+        Some(fault) => Err(Failure::Fault(fault)),
+        None => brought_programs(alloc, fields),
+    }
 }
 
 /// The programs that the fields bring, or the fault of the first that is none.

@@ -20,12 +20,12 @@ AreBytes bytes = (i : ℕ) → get_or bytes i 0 < 256
 all_below : (bytes : List ℕ) → AreBytes bytes → All (λ b. b < 256) bytes
 all_below bytes below = All-from_get_or (λ b. b < 256) bytes 0 (λ i lt. below i)
 
-pub spelling_of : (bytes : List ℕ) (r : Result CallData (Failure CallDataFault)) → ((i : ℕ) → get_or bytes i 0 < 256) → Gives (λ call. call) r (call_at bytes) → IfOk r (λ call. call_bytes call ≡ bytes)
-spelling_of bytes (Ok call) below e = (call_spells bytes call (all_below bytes below) e).0
-spelling_of bytes (Err d) below e = tt
+pub spelling_of : {X : Type 0} (view : X → CallData) (bytes : List ℕ) (r : Result X (Failure CallDataFault)) → ((i : ℕ) → get_or bytes i 0 < 256) → Gives view r (call_at bytes) → IfOk r (λ call. call_bytes (view call) ≡ bytes)
+spelling_of view bytes (Ok call) below e = (call_spells bytes (view call) (all_below bytes below) e).0
+spelling_of view bytes (Err d) below e = tt
 
-pub only_its_call : (bytes : List ℕ) (r : Result CallData (Failure CallDataFault)) (call : CallData) → Gives (λ x. x) r (call_at bytes) → HasFields call → bytes ≡ call_bytes call → Gives (λ x. x) r (Ok call)
-only_its_call bytes r call given fields e = subst (λ m. Gives (λ x. x) r m) (ap call_at e ∙ call_back_alone call fields) given
+pub only_its_call : {X : Type 0} (view : X → CallData) (bytes : List ℕ) (r : Result X (Failure CallDataFault)) (call : CallData) → Gives view r (call_at bytes) → HasFields call → bytes ≡ call_bytes call → Gives view r (Ok call)
+only_its_call view bytes r call given fields e = subst (λ m. Gives view r m) (ap call_at e ∙ call_back_alone call fields) given
 
 -- ---- a call takes bytes
 

@@ -1,6 +1,7 @@
 //! Calls read from bytes and written as bytes.
 
 ghost use Rattle.std.specs.Prelude.{◌≡◌, ◌++◌, ◌<◌, ◌≤◌, length, Ok, IfOk, OnErr, OnOk};
+ghost use Rattle.std.specs.Arc.{arc_value};
 ghost use Rattle.teal_value.specs.Answer.{Gives};
 ghost use Rattle.avm_items.specs.declared.call_data.CallData.{CallData as CallFields};
 ghost use Rattle.avm_call_codec.specs.CallReader.{call_at, call_from};
@@ -8,14 +9,15 @@ ghost use Rattle.avm_call_codec.specs.CallRoundTrip.{HasFields};
 ghost use Rattle.avm_call_codec.specs.CallSpelling.{call_bytes};
 
 use crate::call_data_fault::{CallDataError, CallDataFault};
-use crate::reading::{call_alone, front_of};
+use crate::reading::{call_alone, front_of, shared_alone, shared_front_of};
 use crate::writing::put_call;
 use avm_items::CallData;
 use avm_ledger::Fields;
 use std::alloc::{AllocError, Global};
+use std::sync::Arc;
 use teal_value::Failure;
 
-/// A value with one spelling in bytes: the calls `read`, `front` and `encode_into` of [`CallData`].
+/// A value with one spelling in bytes: the calls of this trait on [`CallData`].
 pub trait CallCodec: Sized {
     /// The call that the bytes are. The first fault in reading order counts. Nothing grows by a count or a length that the
     /// bytes do not back.
@@ -24,6 +26,16 @@ pub trait CallCodec: Sized {
     /// The call that begins at a place of the bytes, and the place behind it, whatever follows. A place behind the end has
     /// no bytes.
     fn front(alloc: Global, bytes: &[u8], place: usize) -> Result<(Self, usize), CallDataError>;
+
+    /// As `read`, with the call in the memory where it stays: whoever passes it on moves a pointer.
+    fn shared_read(alloc: Global, bytes: &[u8]) -> Result<Arc<Self>, CallDataError>;
+
+    /// As `front`, with the call in the memory where it stays.
+    fn shared_front(
+        alloc: Global,
+        bytes: &[u8],
+        place: usize,
+    ) -> Result<(Arc<Self>, usize), CallDataError>;
 
     /// Appends the call's spelling. Of a count or a length that has no room in its field, the low bytes are written.
     /// Where memory is refused, the bytes hold what they held.
@@ -51,6 +63,30 @@ impl CallCodec for CallData {
         }
         let (_, here) = bytes.split_at(place);
         let (call, rest) = front_of(alloc, Fields::new(here))?;
+        Ok((call, bytes.len() - rest.len()))
+    }
+
+    fn shared_read(alloc: Global, bytes: &[u8]) -> Result<Arc<CallData>, CallDataError>
+        ensures exact { Gives (λ call. arc_value call) result (call_at bytes.now) }
+        ensures spelled { IfOk result (λ call. call_bytes (arc_value call) ≡ bytes.now) }
+        ensures only { (call : CallFields) → HasFields call → bytes.now ≡ call_bytes call → Gives (λ x. arc_value x) result (Ok call) }
+    {
+        shared_alone(alloc, bytes)
+    }
+
+    fn shared_front(
+        alloc: Global,
+        bytes: &[u8],
+        place: usize,
+    ) -> Result<(Arc<CallData>, usize), CallDataError>
+        ensures exact { Gives (λ x. (arc_value x.0, x.1)) result (call_from bytes.now place) }
+        ensures forward { IfOk result (λ x. (place < x.1) × (x.1 ≤ length bytes.now)) }
+    {
+        if place > bytes.len() {
+            return Err(Failure::Fault(CallDataFault::Truncated));
+        }
+        let (_, here) = bytes.split_at(place);
+        let (call, rest) = shared_front_of(alloc, Fields::new(here))?;
         Ok((call, bytes.len() - rest.len()))
     }
 

@@ -1,17 +1,20 @@
 //! The fields of a call, read one after another.
 
+ghost use Rattle.std.specs.Prelude.{◌≡◌};
+ghost use Rattle.std.specs.Arc.{arc_value};
 ghost use Rattle.std.specs.Int.{w64};
 ghost use Rattle.teal_value.specs.Answer.{Gives};
 ghost use Rattle.teal_code.specs.Reader.{many_at};
 ghost use Rattle.avm_ledger.specs.FieldReader.{address_at, counted_at, number_at, string_at};
 ghost use Rattle.avm_call_codec.specs.declared.call_data_fault.CallDataFault.TheVariants.{Truncated};
-ghost use Rattle.avm_call_codec.specs.CallReader.{call_at, call_front, completion_at, lists_at, programs_at, target_at, terms_at};
+ghost use Rattle.avm_call_codec.specs.CallReader.{call_at, call_front, call_of_groups, completion_at, lists_at, programs_at, target_at, terms_at};
 
 use crate::call_data_fault::{CallDataError, CallDataFault};
 use crate::groups::{Lists, Programs, Target, Terms};
 use avm_items::{Addresses, CallData, Completion};
 use avm_ledger::Fields;
 use std::alloc::Global;
+use std::sync::Arc;
 use teal_value::{Address, ByteString, ByteStrings, Failure, Uints};
 
 /// The call that the bytes are.
@@ -19,6 +22,17 @@ pub(crate) fn call_alone(alloc: Global, bytes: &[u8]) -> Result<CallData, CallDa
     ensures { Gives (λ call. call) result (call_at bytes.now) }
 {
     let (call, rest) = front_of(alloc, Fields::new(bytes))?;
+    if !rest.is_empty() {
+        return Err(Failure::Fault(CallDataFault::Rest));
+    }
+    Ok(call)
+}
+
+/// The call that the bytes are, shared.
+pub(crate) fn shared_alone(alloc: Global, bytes: &[u8]) -> Result<Arc<CallData>, CallDataError>
+    ensures { Gives (λ call. arc_value call) result (call_at bytes.now) }
+{
+    let (call, rest) = shared_front_of(alloc, Fields::new(bytes))?;
     if !rest.is_empty() {
         return Err(Failure::Fault(CallDataFault::Rest));
     }
@@ -36,8 +50,31 @@ pub(crate) fn front_of(
     let (target, rest) = target_of(rest)?;
     let (lists, rest) = lists_of(alloc, rest)?;
     let (programs, rest) = programs_of(alloc, rest)?;
+    Ok((call_of_groups(terms, target, lists, programs), rest))
+}
+
+/// The same, with the call in the memory where it stays.
+pub(crate) fn shared_front_of(
+    alloc: Global,
+    fields: Fields<'_>,
+) -> Result<(Arc<CallData>, Fields<'_>), CallDataError>
+    ensures { Gives (λ x. (arc_value x.0, x.1)) result (call_front fields.entry) }
+{
+    let (terms, rest) = terms_of(alloc, fields)?;
+    let (target, rest) = target_of(rest)?;
+    let (lists, rest) = lists_of(alloc, rest)?;
+    let (programs, rest) = programs_of(alloc, rest)?;
+    let call = Arc::new(alloc, call_of_groups(terms, target, lists, programs))?;
+    Ok((call, rest))
+}
+
+// A call of it would move the fields once more.
+#[inline(always)]
+fn call_of_groups(terms: Terms, target: Target, lists: Lists, programs: Programs) -> CallData
+    ensures { result ≡ call_of_groups terms target lists programs }
+{
     let lease = target.lease;
-    let call = CallData {
+    CallData {
         sender: terms.sender,
         fee: terms.fee,
         first_valid: terms.first_valid,
@@ -54,8 +91,7 @@ pub(crate) fn front_of(
         clear: programs.clear,
         global_schema: programs.global_schema,
         local_schema: programs.local_schema,
-    };
-    Ok((call, rest))
+    }
 }
 
 fn terms_of(alloc: Global, fields: Fields<'_>) -> Result<(Terms, Fields<'_>), CallDataError>

@@ -1,6 +1,7 @@
 //! Lines that are calls.
 
 ghost use Rattle.std.specs.Prelude.{◌≡◌};
+ghost use Rattle.std.specs.Arc.{arc_value};
 ghost use Rattle.teal_value.specs.Answer.{Gives};
 ghost use Rattle.avm_call_codec.specs.CallReader.{call_at};
 ghost use Rattle.avm_call.specs.CallRules.{call_fault};
@@ -10,6 +11,7 @@ use avm_call::{Call, CallFault};
 use avm_call_codec::{CallCodec, CallDataFault};
 use avm_items::CallData;
 use std::alloc::Global;
+use std::sync::Arc;
 use teal_value::Failure;
 use thiserror::Error;
 
@@ -43,20 +45,14 @@ pub fn checked_call(alloc: Global, bytes: &[u8]) -> Result<Call, Failure<CallLin
     call_of_fields(alloc, fields)
 }
 
-fn call_fields(alloc: Global, bytes: &[u8]) -> Result<CallData, Failure<CallLineFault>>
-    ensures { Gives (λ fields. fields) result (on_bytes (call_at bytes.now)) }
+fn call_fields(alloc: Global, bytes: &[u8]) -> Result<Arc<CallData>, Failure<CallLineFault>>
+    ensures { Gives (λ fields. arc_value fields) result (on_bytes (call_at bytes.now)) }
 {
-    CallData::read(alloc, bytes).map_err(|failure| failure.map(CallLineFault::Bytes))
+    CallData::shared_read(alloc, bytes).map_err(|failure| failure.map(CallLineFault::Bytes))
 }
 
-fn call_of_fields(alloc: Global, fields: CallData) -> Result<Call, Failure<CallLineFault>>
-    ensures { Gives (λ call. call) result (unless_broken fields (call_fault fields)) }
+fn call_of_fields(alloc: Global, fields: Arc<CallData>) -> Result<Call, Failure<CallLineFault>>
+    ensures { Gives (λ call. call) result (unless_broken (arc_value fields) (call_fault (arc_value fields))) }
 {
-    match Call::check(alloc, fields) {
-        Ok(call) => Ok(call),
-        Err((error, _fields)) => match error {
-            Failure::Fault(fault) => Err(Failure::Fault(CallLineFault::Rule(fault))),
-            Failure::Memory => Err(Failure::Memory),
-        },
-    }
+    Call::of_shared(alloc, fields).map_err(|failure| failure.map(CallLineFault::Rule))
 }
