@@ -7,6 +7,7 @@ pub mod PutBack
 pub mod Passes
 pub mod RulesKept
 pub mod InPlace
-pub mod MapOrders
+pub mod Lookups
+mod MapOrders
 pub mod Appending
 pub mod OneMore

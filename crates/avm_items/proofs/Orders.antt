@@ -4,7 +4,7 @@ use Rattle.std.specs.declared.cmp.Ordering.TheVariants.{Less, Equal, Greater}
 use Rattle.std.specs.declared.cmp.Ordering.{Ordering}
 use Rattle.std.specs.Cmp.{unsigned_ties}
 use Rattle.std.specs.Cmp.Lexicographic.{slice_cmp, pointwise, lists_ties}
-use Rattle.std.specs.Ordering.{nat_cmp, ordering_then}
+use Rattle.std.specs.Ordering.{is_eq, nat_cmp, ordering_then}
 use Rattle.avm_states.proofs.Maps.{is_Equal}
 
 then_end : (o : Ordering) → ordering_then o Equal ≡ o
@@ -44,3 +44,7 @@ pointwise_end (x ∷ xs) [] a b e = absurd (omega (arith, e))
 -- lists that are the same tie
 pub same_is_equal : (xs ys : List ℕ) → pointwise ◌==◌ xs ys ≡ true → slice_cmp nat_cmp xs ys ≡ Equal
 same_is_equal xs ys same = is_Equal (slice_cmp nat_cmp xs ys) (sym (lists_ties nat_cmp unsigned_ties xs ys) ∙ same)
+
+-- lists tie exactly where they are the same
+pub same_or_ordered : (xs ys : List ℕ) → pointwise ◌==◌ xs ys ≡ is_eq (slice_cmp nat_cmp xs ys)
+same_or_ordered xs ys = lists_ties nat_cmp unsigned_ties xs ys

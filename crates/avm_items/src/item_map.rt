@@ -1,9 +1,10 @@
 //! Maps from items to their values.
 
 ghost use Rattle.std.specs.Prelude.{◌≡◌, ◌↔◌, ◌∷◌, [], IfErr, IfNone, IfOk, IfSome, IsTrue, filter, is_some, length, not};
+ghost use Rattle.std.specs.BTreeMap.{is_at};
 ghost use Rattle.std.specs.Option.{option_copied};
 ghost use Rattle.avm_states.specs.Entries.{with_entry, without_entry};
-ghost use Rattle.avm_items.specs.Items.{IsInItemOrder, is_global_of, state_of, value_in, with_item, with_state_changed};
+ghost use Rattle.avm_items.specs.Items.{IsInItemOrder, is_global_of, item_cmp, state_of, value_in, with_item, with_state_changed};
 ghost use Rattle.avm_items.specs.LedgerItems.{pruned, value_before};
 ghost use Rattle.avm_items.specs.SameValues.{is_same_value};
 
@@ -14,6 +15,9 @@ use std::alloc::{AllocError, Global};
 use std::cmp::Ordering;
 use std::marker::Model;
 use teal_value::{StateKey, Value};
+
+/// How many items are looked through one by one: whether two are the same is found sooner than which comes first.
+const FEW: usize = 8;
 
 /// The values of some items, which contracts see as the list of them by rising item.
 ///
@@ -54,7 +58,12 @@ impl ItemMap {
     pub fn get(&self, item: &Item) -> Option<&ItemValue>
         ensures { option_copied result ≡ value_in self.now item.now }
     {
-        value_of(self.values.as_slice(), item)
+        let values = self.values.as_slice();
+        if values.len() <= FEW {
+            value_among_few(values, item)
+        } else {
+            value_of(values, item)
+        }
     }
 
     /// Whether an item has a local state here.
@@ -141,6 +150,28 @@ impl ItemMap {
             self.values[place].1.remove_entry(key);
         }
     }
+}
+
+/// The value of an item, looked for in one entry after another.
+fn value_among_few<'a>(entries: &'a [(Item, ItemValue)], item: &Item) -> Option<&'a ItemValue>
+    ensures { option_copied result ≡ value_in entries.now item.now }
+{
+    for index in 0..entries.len() {
+        let (other, value) = &entries[index];
+        if is_item(item, other) {
+            return Some(value);
+        }
+    }
+    None
+}
+
+/// Whether an item is the other one.
+#[tactic(auto, using(crate::proofs::Orders::same_or_ordered))]
+#[inline]
+fn is_item(item: &Item, other: &Item) -> bool
+    ensures { result ≡ is_at (item_cmp item.now) other.now }
+{
+    item == other
 }
 
 /// Whether two lists have the same items with the same values.
