@@ -67,9 +67,14 @@ fn run_attempt<G: Gate, R: Wait, O: Op>(
     requires alone { IsAlone journal.old attempt }
     ensures { IsStill journal.old journal.new }
 {
-    let mut trial = Trial { attempt, tries: 0 };
-    shared.tell(&trial, GateEvent::Begun);
-    match shared.run(rt, executor, &mut trial) {
+    let mut trial = Trial {
+        shared,
+        rt,
+        attempt,
+        tries: 0,
+    };
+    trial.tell(GateEvent::Begun);
+    match trial.run(executor) {
         Ok(finished) => commit(rt, shared, journal, trial.attempt, finished),
         Err(_end) => abandon(journal, trial.attempt),
     }

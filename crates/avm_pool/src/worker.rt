@@ -132,18 +132,28 @@ impl<'a, 'b, 'c, G: Gate> Site<'a, 'b, 'c, G> {
             Err(Failure::Fault(BeginFault::ClockEnd)) => return AttemptEnd::ClockEnd,
             Err(_) => return AttemptEnd::Left,
         };
-        let mut trial = Trial { attempt, tries };
-        self.shared.tell(&trial, GateEvent::Begun);
-        match self.shared.run(rt, executor, &mut trial) {
-            Ok(finished) => self.commit(rt, trial, finished),
+        let mut trial = Trial {
+            shared: self.shared,
+            rt,
+            attempt,
+            tries,
+        };
+        trial.tell(GateEvent::Begun);
+        match trial.run(executor) {
+            Ok(finished) => self.commit(trial, finished),
             Err(end) => self.abandon(rt, trial.attempt, end),
         }
     }
 
     /// Commits an attempt whose call has ended, or abandons it.
-    fn commit<R: Wait>(&self, rt: &R, trial: Trial, finished: Finished) -> AttemptEnd {
-        self.shared.tell(&trial, GateEvent::BeforeCommit);
-        let Trial { attempt, tries } = trial;
+    fn commit<R: Wait>(&self, trial: Trial<G, R>, finished: Finished) -> AttemptEnd {
+        trial.tell(GateEvent::BeforeCommit);
+        let Trial {
+            shared: _shared,
+            rt,
+            attempt,
+            tries,
+        } = trial;
         let number = attempt.number();
         let wanted = shards_of(&attempt, &finished);
         match self.under_locks(rt, &wanted, Work::Commit(attempt, finished)) {
