@@ -98,8 +98,8 @@ fn commit<G: Gate, R: Wait>(
         locks: shared.shards,
         wanted: &wanted,
     };
-    let work = Work::Commit(attempt, finished);
-    match work_with(rt, &locks, journal, &mut Held::new(), work) {
+    let mut work = Work::Commit(attempt, finished);
+    match work_with(rt, &locks, journal, &mut Held::new(), &mut work) {
         Worked::Done => shared.gate.pause(number, 0, GateEvent::Committed),
         Worked::Again(attempt) => abandon(journal, attempt),
         Worked::Memory(attempt) => abandon(journal, attempt),
