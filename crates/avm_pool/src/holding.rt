@@ -41,11 +41,13 @@ impl Work {
         mem::replace(self, Work::Prune)
     }
 
-    /// Does it with all shards that are held.
-    fn done(self, journal: &mut Journal, held: &mut Held) -> Worked
-        ensures { Works self journal.old journal.new result }
+    /// Does it with all shards that are held. It is out of line, as is [`Work::not_done`], so that whoever locks shards has no
+    /// room for work among the own variables.
+    #[inline(never)]
+    fn done(&mut self, journal: &mut Journal, held: &mut Held) -> Worked
+        ensures { Works self.old journal.old journal.new result }
     {
-        match self {
+        match self.taken() {
             Work::Commit(attempt, finished) => commit(journal, held, attempt, finished),
             Work::Prune => {
                 let clock = journal.clock();
@@ -56,10 +58,12 @@ impl Work {
     }
 
     /// What comes of it where a shard is not there.
-    fn not_done(self) -> Worked
-        ensures { (journal : _) → Works self journal journal result }
+    #[cold]
+    #[inline(never)]
+    fn not_done(&mut self) -> Worked
+        ensures { (journal : _) → Works self.old journal journal result }
     {
-        match self {
+        match self.taken() {
             Work::Commit(attempt, _finished) => Worked::Again(attempt),
             Work::Prune => Worked::Done,
         }
@@ -103,11 +107,11 @@ pub(crate) fn work_with<R: Wait>(
     shards: &Wanted,
     journal: &mut Journal,
     held: &mut Held,
-    mut work: Work,
+    work: &mut Work,
 ) -> Worked
-    ensures { Works work journal.old journal.new result }
+    ensures { Works work.old journal.old journal.new result }
 {
-    work_from(rt, shards, 0, journal, held, &mut work)
+    work_from(rt, shards, 0, journal, held, work)
 }
 
 /// Locks those from an index on too, and does the work.
@@ -122,22 +126,40 @@ fn work_from<R: Wait>(
     ensures { Works work.old journal.old journal.new result }
 {
     let Some(index) = next_wanted(shards.wanted, from) else {
-        return work.taken().done(journal, held);
+        return work.done(journal, held);
     };
     let Some(lock) = shards.locks.get(index) else {
-        return work.taken().not_done();
+        return work.not_done();
     };
     let mut guard = lock_soon(rt, lock);
-    let Some(shard) = guard.take() else {
-        return work.taken().not_done();
-    };
-    if let Err(shard) = held.add(shard) {
-        *guard = Some(shard);
-        return work.taken().not_done();
+    if !hold(held, &mut guard) {
+        return work.not_done();
     }
     let worked = work_from(rt, shards, index + 1, journal, held, work);
-    *guard = held.take();
+    give_back(held, &mut guard);
     worked
+}
+
+/// Holds the shard that is there with the others. It is out of line, so that whoever locks shards has no room for one among the
+/// own variables.
+#[inline(never)]
+fn hold(held: &mut Held, slot: &mut Option<Shard>) -> bool {
+    let Some(shard) = slot.take() else {
+        return false;
+    };
+    match held.add(shard) {
+        Ok(()) => true,
+        Err(shard) => {
+            *slot = Some(shard);
+            false
+        }
+    }
+}
+
+/// Puts the last of the shards that are held back. It is out of line, as [`hold`] is.
+#[inline(never)]
+fn give_back(held: &mut Held, slot: &mut Option<Shard>) {
+    *slot = held.take();
 }
 
 /// The least index of a shard that is wanted, from an index on.

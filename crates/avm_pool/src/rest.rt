@@ -67,9 +67,14 @@ fn run_attempt<G: Gate, R: Wait, O: Op>(
     requires alone { IsAlone journal.old attempt }
     ensures { IsStill journal.old journal.new }
 {
-    let mut trial = Trial { attempt, tries: 0 };
-    shared.tell(&trial, GateEvent::Begun);
-    match shared.run(rt, executor, &mut trial) {
+    let mut trial = Trial {
+        shared,
+        rt,
+        attempt,
+        tries: 0,
+    };
+    trial.tell(GateEvent::Begun);
+    match trial.run(executor) {
         Ok(finished) => commit(rt, shared, journal, trial.attempt, finished),
         Err(_end) => abandon(journal, trial.attempt),
     }
@@ -93,8 +98,8 @@ fn commit<G: Gate, R: Wait>(
         locks: shared.shards,
         wanted: &wanted,
     };
-    let work = Work::Commit(attempt, finished);
-    match work_with(rt, &locks, journal, &mut Held::new(), work) {
+    let mut work = Work::Commit(attempt, finished);
+    match work_with(rt, &locks, journal, &mut Held::new(), &mut work) {
         Worked::Done => shared.gate.pause(number, 0, GateEvent::Committed),
         Worked::Again(attempt) => abandon(journal, attempt),
         Worked::Memory(attempt) => abandon(journal, attempt),

@@ -1,6 +1,6 @@
 //! One attempt of a call, outside the journal's lock.
 
-ghost use Rattle.std.specs.Prelude.{◌≡◌};
+ghost use Rattle.std.specs.Prelude.{◌≡◌, ℕ};
 ghost use Rattle.avm_pool.specs.Running.{IsSameAttempt};
 
 use crate::ends::AttemptEnd;
@@ -11,18 +11,11 @@ use avm_call::Call;
 use avm_items::{Item, ItemValue};
 use avm_ledger::Header;
 use avm_ops::Op;
-use avm_run::{Advance, CallRun, Finished, FullOps, Spare};
+use avm_run::{Finished, FullOps, Reader, Spare, run_reading};
 use mv_shards::{Attempt, shard_of};
 use std::alloc::Global;
 use std::sync::Wait;
 use teal_value::Failure;
-
-/// An attempt, and how many its call has had with it; 0 where one thread runs what the workers left.
-#[derive(Drop)]
-pub(crate) struct Trial {
-    pub attempt: Attempt,
-    pub tries: u32,
-}
 
 /// What a thread executes calls with: its objects, and the box that the last run left.
 #[derive(Drop)]
@@ -42,6 +35,15 @@ pub(crate) struct Shared<'a, G> {
     pub gate: &'a G,
 }
 
+/// An attempt that runs, and how many its call has had with it; 0 where one thread runs what the workers left.
+#[derive(Drop)]
+pub(crate) struct Trial<'a, 'b, G, R> {
+    pub shared: &'a Shared<'b, G>,
+    pub rt: &'a R,
+    pub attempt: Attempt,
+    pub tries: u32,
+}
+
 impl<'a, G: Gate> Shared<'a, G> {
     /// The call of a number, from 1.
     pub fn call(&self, number: u32) -> Option<&'a Call> {
@@ -50,97 +52,66 @@ impl<'a, G: Gate> Shared<'a, G> {
         }
         self.calls.get(number as usize - 1)
     }
+}
 
-    /// Runs the call of an attempt to its end. It fails with `Again` where an item could not be read at the attempt's
+impl<'a, 'b, G: Gate, R: Wait> Trial<'a, 'b, G, R> {
+    /// Runs the call of the attempt to its end. It fails with `Again` where an item could not be read at the attempt's
     /// timestamp, and with `Left` where memory was refused.
-    pub fn run<R: Wait, O: Op>(
-        &self,
-        rt: &R,
-        executor: &mut Executor<O>,
-        trial: &mut Trial,
-    ) -> Result<Finished, AttemptEnd>
-        ensures { IsSameAttempt trial.old.attempt trial.new.attempt }
+    pub fn run<O: Op>(&mut self, executor: &mut Executor<O>) -> Result<Finished, AttemptEnd>
+        ensures { IsSameAttempt self.old.attempt self.new.attempt }
     {
-        let Some(call) = self.call(trial.attempt.number()) else {
+        let shared = self.shared;
+        let Some(call) = shared.call(self.attempt.number()) else {
             return Err(AttemptEnd::Left);
         };
-        match CallRun::start(self.alloc, call, self.header, executor.spare.take()) {
-            Ok(mut run) => {
-                let end = self.run_on(rt, executor.ops, &mut run, trial);
-                executor.spare = run.into_spare();
-                end
-            }
-            Err(_) => Err(AttemptEnd::Left),
+        let ops = executor.ops;
+        match run_reading(
+            shared.alloc,
+            call,
+            shared.header,
+            ops,
+            &mut executor.spare,
+            self,
+        ) {
+            Ok(finished) => Ok(finished),
+            Err(Failure::Memory) => Err(AttemptEnd::Left),
+            Err(Failure::Fault(end)) => Err(end),
         }
     }
 
-    /// Runs on to the end of the call, over what the attempt reads.
-    fn run_on<R: Wait, O: Op>(
-        &self,
-        rt: &R,
-        ops: &FullOps<O>,
-        run: &mut CallRun,
-        trial: &mut Trial,
-    ) -> Result<Finished, AttemptEnd>
-        ensures { IsSameAttempt trial.old.attempt trial.new.attempt }
-    {
-        for _ in rt.forever() {
-            match run.advance(self.alloc, ops) {
-                Ok(Advance::Done(finished)) => return Ok(finished),
-                Ok(Advance::Need(item)) => match self.read(rt, trial, item.copied()) {
-                    Ok(value) => {
-                        if run.supply(item, value).is_err() {
-                            return Err(AttemptEnd::Left);
-                        }
-                    }
-                    Err(end) => return Err(end),
-                },
-                Err(_) => return Err(AttemptEnd::Left),
-            }
-        }
-        unreachable!()
+    /// Tells the gate what the attempt has come to.
+    pub fn tell(&self, event: GateEvent) {
+        self.shared
+            .gate
+            .pause(self.attempt.number(), self.tries, event);
     }
+}
+
+impl<'a, 'b, G: Gate, R: Wait> Reader<AttemptEnd> for Trial<'a, 'b, G, R> {
+    ghost kept = { λ t. (t.attempt.number, t.attempt.timestamp) };
 
     /// Reads an item under the lock of its shard.
-    fn read<R: Wait>(&self, rt: &R, trial: &mut Trial, item: Item) -> Result<ItemValue, AttemptEnd>
-        ensures { IsSameAttempt trial.old.attempt trial.new.attempt }
-    {
-        let index = shard_of(&item);
-        let read = self.read_shard(rt, trial, item, index);
-        if read.is_ok() {
-            self.tell(trial, GateEvent::Read);
-        }
-        read
-    }
-
-    fn read_shard<R: Wait>(
-        &self,
-        rt: &R,
-        trial: &mut Trial,
-        item: Item,
-        index: u8,
-    ) -> Result<ItemValue, AttemptEnd>
-        ensures { IsSameAttempt trial.old.attempt trial.new.attempt }
-    {
-        let Some(lock) = self.shards.get(usize::from(index)) else {
-            return Err(AttemptEnd::Again);
+    fn read(&mut self, item: &Item) -> Result<ItemValue, Failure<AttemptEnd>> {
+        let index = shard_of(item);
+        let Some(lock) = self.shared.shards.get(usize::from(index)) else {
+            return Err(Failure::Fault(AttemptEnd::Again));
         };
-        let mut guard = lock_soon(rt, lock);
+        let mut guard = lock_soon(self.rt, lock);
         let shard = &mut *guard;
         let Some(shard) = shard else {
-            return Err(AttemptEnd::Again);
+            return Err(Failure::Fault(AttemptEnd::Again));
         };
-        let read = shard.read(&mut trial.attempt, item);
-        self.tell(trial, GateEvent::Inside(index));
+        let read = shard.read(&mut self.attempt, item.copied());
+        let gate = self.shared.gate;
+        gate.pause(self.attempt.number(), self.tries, GateEvent::Inside(index));
+        drop(guard);
         match read {
-            Ok(value) => Ok(value),
-            Err(Failure::Memory) => Err(AttemptEnd::Left),
-            Err(Failure::Fault(_pruned)) => Err(AttemptEnd::Again),
+            Ok(value) => {
+                gate.pause(self.attempt.number(), self.tries, GateEvent::Read);
+                Ok(value)
+            }
+            Err(Failure::Memory) => Err(Failure::Memory),
+            Err(Failure::Fault(_pruned)) => Err(Failure::Fault(AttemptEnd::Again)),
         }
-    }
-
-    /// Tells the gate what an attempt has come to.
-    pub fn tell(&self, trial: &Trial, event: GateEvent) {
-        self.gate.pause(trial.attempt.number(), trial.tries, event);
     }
 }

@@ -68,18 +68,19 @@ impl<'a, O: Op> Worker<'a, O> {
             ops: &ops,
             spare: None,
         };
+        let mut held = Held::new();
         let mut commits = 0u32;
         let mut next_prune = FIRST_PRUNE;
         for _ in rt.forever() {
             let Some(number) = numbers.draw(rt, &mut pass) else {
                 return ThreadEnd::Over;
             };
-            match site.run_call(rt, &mut executor, number) {
+            match site.run_call(rt, &mut executor, &mut held, number) {
                 AttemptEnd::Committed => {
                     commits = commits.saturating_add(1);
                     if commits == next_prune {
                         next_prune = next_prune.saturating_mul(2);
-                        site.prune(rt);
+                        site.prune(rt, &mut held);
                     }
                 }
                 AttemptEnd::Left | AttemptEnd::Again => {}
@@ -103,11 +104,12 @@ impl<'a, 'b, 'c, G: Gate> Site<'a, 'b, 'c, G> {
         &self,
         rt: &R,
         executor: &mut Executor<O>,
+        held: &mut Held,
         number: u32,
     ) -> AttemptEnd {
         let mut tries = 1u32;
         for _ in rt.forever() {
-            match self.run_attempt(rt, executor, number, tries) {
+            match self.run_attempt(rt, executor, held, number, tries) {
                 AttemptEnd::Again => {
                     stand_back(tries);
                     tries = tries.saturating_add(1);
@@ -123,6 +125,7 @@ impl<'a, 'b, 'c, G: Gate> Site<'a, 'b, 'c, G> {
         &self,
         rt: &R,
         executor: &mut Executor<O>,
+        held: &mut Held,
         number: u32,
         tries: u32,
     ) -> AttemptEnd {
@@ -132,21 +135,37 @@ impl<'a, 'b, 'c, G: Gate> Site<'a, 'b, 'c, G> {
             Err(Failure::Fault(BeginFault::ClockEnd)) => return AttemptEnd::ClockEnd,
             Err(_) => return AttemptEnd::Left,
         };
-        let mut trial = Trial { attempt, tries };
-        self.shared.tell(&trial, GateEvent::Begun);
-        match self.shared.run(rt, executor, &mut trial) {
-            Ok(finished) => self.commit(rt, trial, finished),
+        let mut trial = Trial {
+            shared: self.shared,
+            rt,
+            attempt,
+            tries,
+        };
+        trial.tell(GateEvent::Begun);
+        match trial.run(executor) {
+            Ok(finished) => self.commit(held, trial, finished),
             Err(end) => self.abandon(rt, trial.attempt, end),
         }
     }
 
     /// Commits an attempt whose call has ended, or abandons it.
-    fn commit<R: Wait>(&self, rt: &R, trial: Trial, finished: Finished) -> AttemptEnd {
-        self.shared.tell(&trial, GateEvent::BeforeCommit);
-        let Trial { attempt, tries } = trial;
+    fn commit<R: Wait>(
+        &self,
+        held: &mut Held,
+        trial: Trial<G, R>,
+        finished: Finished,
+    ) -> AttemptEnd {
+        trial.tell(GateEvent::BeforeCommit);
+        let Trial {
+            shared: _shared,
+            rt,
+            attempt,
+            tries,
+        } = trial;
         let number = attempt.number();
         let wanted = shards_of(&attempt, &finished);
-        match self.under_locks(rt, &wanted, Work::Commit(attempt, finished)) {
+        let mut work = Work::Commit(attempt, finished);
+        match self.under_locks(rt, held, &wanted, &mut work) {
             Worked::Done => {
                 self.shared.gate.pause(number, tries, GateEvent::Committed);
                 AttemptEnd::Committed
@@ -157,14 +176,19 @@ impl<'a, 'b, 'c, G: Gate> Site<'a, 'b, 'c, G> {
     }
 
     /// Takes the journal's lock, and then those of the shards that are wanted.
-    fn under_locks<R: Wait>(&self, rt: &R, wanted: &[bool], work: Work) -> Worked {
-        let mut held = Held::new();
+    fn under_locks<R: Wait>(
+        &self,
+        rt: &R,
+        held: &mut Held,
+        wanted: &[bool],
+        work: &mut Work,
+    ) -> Worked {
         let mut guard = lock_soon(rt, self.journal);
         let locks = Wanted {
             locks: self.shared.shards,
             wanted,
         };
-        work_with(rt, &locks, &mut guard, &mut held, work)
+        work_with(rt, &locks, &mut guard, held, work)
     }
 
     /// Ends an attempt without a commit.
@@ -174,9 +198,9 @@ impl<'a, 'b, 'c, G: Gate> Site<'a, 'b, 'c, G> {
     }
 
     /// Drops the versions that no attempt can ask for any more.
-    fn prune<R: Wait>(&self, rt: &R) {
+    fn prune<R: Wait>(&self, rt: &R, held: &mut Held) {
         let all = [true; SHARD_COUNT];
-        self.under_locks(rt, &all, Work::Prune);
+        self.under_locks(rt, held, &all, &mut Work::Prune);
     }
 }
 

@@ -133,7 +133,7 @@ fn asking(call: Call, header: Header, phase: Phase, item: &Item) -> State
 }
 
 /// The finished call: what it writes without what has the value of before.
-fn finished(call: Call, header: Header, closed: EndedRun) -> Finished
+pub(crate) fn finished(call: Call, header: Header, closed: EndedRun) -> Finished
     requires result { answer_from (value_in closed.reads) (call_result call header) ≡ Ok (closed.outcome, closed.writes) }
     requires asked { AreAskedFor closed.reads call header }
     ensures same { (result.call ≡ call) × (result.header ≡ header) × (result.reads ≡ closed.reads) }

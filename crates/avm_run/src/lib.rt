@@ -13,6 +13,7 @@ mod known;
 pub mod laws;
 mod on_ledger;
 mod phase;
+mod reading;
 mod running;
 mod shown;
 
@@ -21,5 +22,6 @@ pub use executions::Executions;
 pub use finished::Finished;
 pub use full_ops::FullOps;
 pub use on_ledger::{call_on, call_on_counted, call_plain};
+pub use reading::{Reader, run_reading};
 pub use running::Spare;
 pub use shown::Shown;
