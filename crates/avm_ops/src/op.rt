@@ -6,7 +6,7 @@ ghost use Rattle.teal_value.specs.declared.value.Value.TheVariants.{Uint};
 ghost use Rattle.teal_table.specs.Table.{code_of};
 ghost use Rattle.avm_ops.specs.Frame.{flag};
 ghost use Rattle.avm_ops.specs.declared.op.Stop.TheVariants as stop;
-ghost use Rattle.avm_ops.specs.Objects.{Advances, Does, IfHeld, IfStopped, IsAdvance, IsReady, context_of, known_effect};
+ghost use Rattle.avm_ops.specs.Objects.{CarriesOut, Does, IfHeld, IfStopped, IsWay, IsReady, context_of, known_effect};
 
 use avm_cpu::{Cpu, Flow};
 use avm_items::{Env, Item};
@@ -69,10 +69,10 @@ pub fn flag(holds: bool) -> u64
 /// What an instruction comes to: where the program goes on, or why it was not carried out.
 pub type Executed = Result<Flow, Stop>;
 
-/// What an instruction comes to, in two registers. Who runs a program asks for it at each step; an [`Executed`] would be
-/// written to memory, and read there again.
+/// The way on from an instruction, in two registers. Who runs a program asks for it at each instruction; an [`Executed`]
+/// would be written to memory, and read there again.
 #[derive(Debug, Drop)]
-pub enum Advance {
+pub enum Way {
     /// The program goes on to the instruction behind this one.
     Next,
     /// It goes on to the target of the branch.
@@ -87,19 +87,19 @@ pub enum Advance {
     Memory,
 }
 
-impl Advance {
-    /// What was executed, in two registers.
+impl Way {
+    /// The way on from what was executed.
     #[inline(always)]
-    pub fn of(alloc: Global, executed: Executed) -> Advance
-        ensures { IsAdvance executed result }
+    pub fn of(alloc: Global, executed: Executed) -> Way
+        ensures { IsWay executed result }
     {
         match executed {
-            Ok(Flow::Next) => Advance::Next,
-            Ok(Flow::Jump(_)) => Advance::Jump,
-            Ok(Flow::End) => Advance::End,
+            Ok(Flow::Next) => Way::Next,
+            Ok(Flow::Jump(_)) => Way::Jump,
+            Ok(Flow::End) => Way::End,
             Err(Stop::Fault(fault)) => faulted(alloc, fault),
-            Err(Stop::Need(item)) => Advance::Need(item),
-            Err(Stop::Memory) => Advance::Memory,
+            Err(Stop::Need(item)) => Way::Need(item),
+            Err(Stop::Memory) => Way::Memory,
         }
     }
 }
@@ -107,12 +107,12 @@ impl Advance {
 /// A fault in its box. It is out of line, since it ends a program.
 #[cold]
 #[inline(never)]
-fn faulted(alloc: Global, fault: Fault) -> Advance
-    ensures { IsAdvance (Err (stop.Fault fault)) result }
+fn faulted(alloc: Global, fault: Fault) -> Way
+    ensures { IsWay (Err (stop.Fault fault)) result }
 {
     match Box::new(alloc, fault) {
-        Ok(fault) => Advance::Fault(fault),
-        Err(_refused) => Advance::Memory,
+        Ok(fault) => Way::Fault(fault),
+        Err(_refused) => Way::Memory,
     }
 }
 
@@ -139,15 +139,16 @@ pub trait Op: Send + Drop {
         // At a fault, and at an item that isn't known, nothing changes.
         ensures unchanged { IfStopped result ((cpu.new ≡ cpu.old) × (env.new ≡ env.old)) };
 
-    /// Carries out an instruction as [`Op::exec`] does, and answers in two registers.
-    fn advance(&self, alloc: Global, instr: &Instr, cpu: &mut Cpu, env: &mut Env) -> Advance
+    /// Carries out an instruction as [`Op::exec`] does, and answers the way on. A fault is answered as `Memory` where there is
+    /// no memory for its box.
+    fn carry_out(&self, alloc: Global, instr: &Instr, cpu: &mut Cpu, env: &mut Env) -> Way
         requires opcode { instr.now.opcode ≡ opcode self.now }
         requires ready { IsReady cpu.old.place (opcode self.now) instr.now.immediates }
-        ensures row { Advances result cpu.new env.new (known_effect cpu.old env.old (opcode self.now) instr.now.immediates) }
+        ensures row { CarriesOut result cpu.new env.new (known_effect cpu.old env.old (opcode self.now) instr.now.immediates) }
         ensures writes { env.new ≡ record env.old { writes = env.new.writes } }
         ensures unchanged { IfHeld result ((cpu.new ≡ cpu.old) × (env.new ≡ env.old)) }
     {
-        Advance::of(alloc, self.exec(alloc, instr, cpu, env))
+        Way::of(alloc, self.exec(alloc, instr, cpu, env))
     }
 }
 
@@ -168,7 +169,7 @@ impl Op for BoxedOp {
         self.op.exec(alloc, instr, cpu, env)
     }
 
-    fn advance(&self, alloc: Global, instr: &Instr, cpu: &mut Cpu, env: &mut Env) -> Advance {
-        self.op.advance(alloc, instr, cpu, env)
+    fn carry_out(&self, alloc: Global, instr: &Instr, cpu: &mut Cpu, env: &mut Env) -> Way {
+        self.op.carry_out(alloc, instr, cpu, env)
     }
 }
