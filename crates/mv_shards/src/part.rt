@@ -76,7 +76,7 @@ fn first_read(
 {
     let number = add_chain(alloc, chains, base, &item)?;
     let value = value_at(chains, number, attempt.timestamp)?;
-    attempt.reads.insert(item.copied(), value.clone()?)?;
+    attempt.reads.insert(item, value.clone()?)?;
     chains.mark(number, attempt.timestamp);
     Ok(value)
 }
