@@ -14,61 +14,11 @@ use std::alloc::Global;
 use std::sync::Arc;
 use std::test::Fail;
 
-/// The world that events lead to, from a ledger and with calls.
-pub fn world_after<O: Op>(
-    alloc: Global,
-    ops: &FullOps<O>,
-    base: &Ledger,
-    calls: &Arc<Vec<Call>>,
-    events: &[Event],
-) -> Result<World, Fail> {
-    // That a store is opened says that there are few calls, each of the header's profile.
-    match Store::open(alloc, base.clone()?, HEADER, Arc::try_clone(calls)?) {
-        Ok(_store) => Ok(run_events(
-            alloc,
-            base.clone()?,
-            HEADER,
-            Arc::try_clone(calls)?,
-            ops,
-            events,
-        )?),
-        Err(_) => Err("these calls make a store".into()),
-    }
-}
-
 /// The digest of the ledger of a timestamp, by a store.
 fn digest_at(alloc: Global, store: &Store, timestamp: u64) -> Result<[u8; 32], Fail> {
     match store.state_at(alloc, timestamp) {
         Ok(ledger) => Ok(ledger.digest(alloc)?),
         Err(_) => Err("there is no state of this timestamp".into()),
-    }
-}
-
-/// The digest of the ledger of a timestamp, by the replayer.
-fn replayed_at<O: Op>(
-    alloc: Global,
-    ops: &FullOps<O>,
-    base: &Ledger,
-    block: &Block,
-    timestamp: u64,
-) -> Result<[u8; 32], Fail> {
-    match state_at(alloc, base, block, timestamp, ops) {
-        Ok(ledger) => Ok(ledger.digest(alloc)?),
-        Err(_) => Err("a block stands over its base".into()),
-    }
-}
-
-/// Whether a block replays over a ledger, to a ledger of this digest.
-fn leads_to<O: Op>(
-    alloc: Global,
-    ops: &FullOps<O>,
-    base: &Ledger,
-    block: &Block,
-    digest: &[u8; 32],
-) -> Result<bool, Fail> {
-    match replay(alloc, base, block, ops)? {
-        Verdict::Agrees(after) => Ok(after.digest(alloc)? == *digest),
-        _ => Ok(false),
     }
 }
 
@@ -101,27 +51,6 @@ fn past_of(alloc: Global, store: &mut Store, behind: u64) -> Result<Past, Fail> 
     })
 }
 
-/// Where a sealed block and what its store said differ from the replay, if they do.
-fn difference<O: Op>(
-    alloc: Global,
-    ops: &FullOps<O>,
-    base: &Ledger,
-    sealed: &Sealed,
-    past: &Past,
-    calls: usize,
-) -> Result<Option<&'static str>, Fail> {
-    if !stand_once(alloc, sealed.numbers.as_slice(), calls)? {
-        return Ok(Some("a call is committed twice"));
-    }
-    if !leads_to(alloc, ops, base, &sealed.block, &past.now)? {
-        return Ok(Some("the block doesn't replay"));
-    }
-    if replayed_at(alloc, ops, base, &sealed.block, past.timestamp)? != past.then {
-        return Ok(Some("the ledgers of a timestamp differ"));
-    }
-    Ok(None)
-}
-
 /// A block that was replayed, with the low mark and the clock of its store.
 #[derive(Drop)]
 pub struct Replayed {
@@ -130,28 +59,87 @@ pub struct Replayed {
     pub clock: u64,
 }
 
-/// The block of a store in which nothing is live, if it is as the replayer has it: it replays, to the ledger that the
-/// store has at its clock; the ledgers of a timestamp are the same, so far behind the low mark; and the number of each
-/// committed call stands once, and is at most the count of calls.
-pub fn replay_store<O: Op>(
-    alloc: Global,
-    ops: &FullOps<O>,
-    base: &Ledger,
-    store: Store,
-    calls: usize,
-    behind: u64,
-) -> Result<Replayed, Fail> {
-    let mut store = store;
-    let past = past_of(alloc, &mut store, behind)?;
-    match store.seal(alloc) {
-        Ok(sealed) => match difference(alloc, ops, base, &sealed, &past, calls)? {
-            None => Ok(Replayed {
-                block: sealed.block,
-                low: past.low,
-                clock: past.clock,
-            }),
-            Some(difference) => Err(difference.into()),
-        },
-        Err(_) => Err("an attempt is live".into()),
+/// What lists of events are run with: the objects, and the ledger that each store begins with.
+#[derive(Drop)]
+pub struct Bench<'a, O: Op> {
+    pub alloc: Global,
+    pub ops: &'a FullOps<O>,
+    pub base: &'a Ledger,
+}
+
+impl<'a, O: Op> Bench<'a, O> {
+    /// The world that events lead to, with calls.
+    pub fn world_after(&self, calls: &Arc<Vec<Call>>, events: &[Event]) -> Result<World, Fail> {
+        // That a store is opened says that there are few calls, each of the header's profile.
+        match Store::open(
+            self.alloc,
+            self.base.clone()?,
+            HEADER,
+            Arc::try_clone(calls)?,
+        ) {
+            Ok(_store) => Ok(run_events(
+                self.alloc,
+                self.base.clone()?,
+                HEADER,
+                Arc::try_clone(calls)?,
+                self.ops,
+                events,
+            )?),
+            Err(_) => Err("these calls make a store".into()),
+        }
+    }
+
+    /// The digest of the ledger of a timestamp, by the replayer.
+    fn replayed_at(&self, block: &Block, timestamp: u64) -> Result<[u8; 32], Fail> {
+        match state_at(self.alloc, self.base, block, timestamp, self.ops) {
+            Ok(ledger) => Ok(ledger.digest(self.alloc)?),
+            Err(_) => Err("a block stands over its base".into()),
+        }
+    }
+
+    /// Whether a block replays, to a ledger of this digest.
+    fn leads_to(&self, block: &Block, digest: &[u8; 32]) -> Result<bool, Fail> {
+        match replay(self.alloc, self.base, block, self.ops)? {
+            Verdict::Agrees(after) => Ok(after.digest(self.alloc)? == *digest),
+            _ => Ok(false),
+        }
+    }
+
+    /// Where a sealed block and what its store said differ from the replay, if they do.
+    fn difference(
+        &self,
+        sealed: &Sealed,
+        past: &Past,
+        calls: usize,
+    ) -> Result<Option<&'static str>, Fail> {
+        if !stand_once(self.alloc, sealed.numbers.as_slice(), calls)? {
+            return Ok(Some("a call is committed twice"));
+        }
+        if !self.leads_to(&sealed.block, &past.now)? {
+            return Ok(Some("the block doesn't replay"));
+        }
+        if self.replayed_at(&sealed.block, past.timestamp)? != past.then {
+            return Ok(Some("the ledgers of a timestamp differ"));
+        }
+        Ok(None)
+    }
+
+    /// The block of a store in which nothing is live, if it is as the replayer has it: it replays, to the ledger that the
+    /// store has at its clock; the ledgers of a timestamp are the same, so far behind the low mark; and the number of each
+    /// committed call stands once, and is at most the count of calls.
+    pub fn replay_store(&self, store: Store, calls: usize, behind: u64) -> Result<Replayed, Fail> {
+        let mut store = store;
+        let past = past_of(self.alloc, &mut store, behind)?;
+        match store.seal(self.alloc) {
+            Ok(sealed) => match self.difference(&sealed, &past, calls)? {
+                None => Ok(Replayed {
+                    block: sealed.block,
+                    low: past.low,
+                    clock: past.clock,
+                }),
+                Some(difference) => Err(difference.into()),
+            },
+            Err(_) => Err("an attempt is live".into()),
+        }
     }
 }

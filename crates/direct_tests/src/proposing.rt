@@ -20,19 +20,37 @@ use std::sync::Wait;
 use std::test::Fail;
 use std::thread::Threads;
 
+/// The sets of objects of those who propose: each worker's, and the caller's own.
+#[derive(Drop)]
+pub struct ThreadSets<O: Op> {
+    pub workers: Vec<Ops<O>>,
+    pub own: Ops<O>,
+}
+
+/// What is proposed: calls over a ledger, in blocks of a header.
+#[derive(Drop)]
+pub struct Draft<'a> {
+    pub base: &'a Ledger,
+    pub header: Header,
+    pub calls: Vec<Call>,
+}
+
 /// Calls that are proposed whole: none is left, and the number of each stands once.
 pub fn proposed<G: Gate, R: Threads + Wait + Sync, O: Op>(
     rt: &R,
     alloc: Global,
-    base: &Ledger,
-    header: &Header,
-    calls: Vec<Call>,
-    sets: Vec<Ops<O>>,
-    own: Ops<O>,
+    draft: Draft,
+    sets: ThreadSets<O>,
     gate: &G,
 ) -> Result<Block, Fail> {
+    let Draft {
+        base,
+        header,
+        calls,
+    } = draft;
+    let ThreadSets { workers, own } = sets;
     let count = calls.len();
-    match propose(rt, alloc, base, header, calls, sets, own, gate) {
+    match propose(rt, alloc, base, &header, calls, workers, own, gate) {
         Ok(proposal) => {
             let Proposal {
                 block,
@@ -92,19 +110,22 @@ pub fn wrong<R: Threads + Wait + Sync, O: Op>(
     rt: &R,
     alloc: Global,
     case: &Case,
-    sets: Vec<Ops<O>>,
-    own: Ops<O>,
+    sets: ThreadSets<O>,
     other: Ops<O>,
 ) -> Result<Option<&'static str>, Fail> {
     let programs = programs(alloc)?;
     let base = ledger_of(alloc, &programs, case.base)?;
-    let header = Header {
-        profile: case.profile,
-        ..HEADER
-    };
     let calls = calls_of(alloc, &programs, case.calls, case.times)?;
     let gate = Script::new(alloc, case.holds, calls.len())?;
-    let block = proposed(rt, alloc, &base, &header, calls, sets, own, &gate)?;
+    let draft = Draft {
+        base: &base,
+        header: Header {
+            profile: case.profile,
+            ..HEADER
+        },
+        calls,
+    };
+    let block = proposed(rt, alloc, draft, sets, &gate)?;
     if !gate.is_passed() {
         return Ok(Some("someone waited in vain, or a call was not committed once"));
     }

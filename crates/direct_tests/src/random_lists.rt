@@ -1,14 +1,12 @@
 //! Random lists of events over a store, each of whose blocks is replayed.
 
 use crate::data::{BASE, CALLS as ROWS, calls_of, ledger_of, programs, some_calls};
-use crate::lists::{Replayed, replay_store, world_after};
+use crate::lists::{Bench, Replayed};
 use crate::outcomes::{NOTHING, Tally, count, is_ample};
 use crate::random::Random;
 use crate::sets::{filled_ops, full_ops};
 use avm_call::Call;
-use avm_ledger::Ledger;
 use avm_ops::{Op, Ops};
-use avm_run::FullOps;
 use mv_core::{Event, Worker};
 use std::alloc::{AllocError, Global};
 use std::sync::Arc;
@@ -84,55 +82,53 @@ fn ended(workers: &[Worker]) -> u64 {
 
 /// How many calls are late, where each worker has tried to commit behind these events.
 fn late_calls<O: Op>(
-    alloc: Global,
-    ops: &FullOps<O>,
-    base: &Ledger,
+    bench: &Bench<O>,
     calls: &Arc<Vec<Call>>,
     events: &[Event],
 ) -> Result<u64, Fail> {
-    Ok(ended(&world_after(alloc, ops, base, calls, events)?.workers))
+    Ok(ended(&bench.world_after(calls, events)?.workers))
 }
 
 /// The replayed block of these events, behind which nothing is live.
 fn replayed_list<O: Op>(
-    alloc: Global,
-    ops: &FullOps<O>,
-    base: &Ledger,
+    bench: &Bench<O>,
     calls: &Arc<Vec<Call>>,
     events: &[Event],
     behind: u64,
 ) -> Result<Replayed, Fail> {
-    let store = world_after(alloc, ops, base, calls, events)?.store;
-    replay_store(alloc, ops, base, store, calls.len(), behind)
+    let store = bench.world_after(calls, events)?.store;
+    bench.replay_store(store, calls.len(), behind)
 }
 
 /// One list: what came is added to the tally.
 fn run_list<O: Op>(
-    alloc: Global,
-    ops: &FullOps<O>,
-    base: &Ledger,
+    bench: &Bench<O>,
     all: &[Call],
     seed: u64,
     tally: &mut Tally,
 ) -> Result<(), Fail> {
+    let alloc = bench.alloc;
     let mut random = Random::new(seed);
     let calls = Arc::new(alloc, some_calls(alloc, &mut random, all, CALLS)?)?;
     let mut events = some_events(alloc, &mut random)?;
-    let late = late_calls(alloc, ops, base, &calls, &events)?;
+    let late = late_calls(bench, &calls, &events)?;
     push_abandons(&mut events)?;
-    let list = replayed_list(alloc, ops, base, &calls, &events, random.below(24))?;
+    let list = replayed_list(bench, &calls, &events, random.below(24))?;
     count(tally, &list, CALLS, late);
     Ok(())
 }
 
 /// So many lists, each of its number as seed.
 fn run_lists<O: Op>(alloc: Global, ops: Ops<O>, lists: u64, tally: &mut Tally) -> Result<(), Fail> {
-    let ops = full_ops(ops)?;
     let programs = programs(alloc)?;
-    let base = ledger_of(alloc, &programs, BASE)?;
     let all = calls_of(alloc, &programs, &ROWS, 1)?;
+    let bench = Bench {
+        alloc,
+        ops: &full_ops(ops)?,
+        base: &ledger_of(alloc, &programs, BASE)?,
+    };
     for seed in 0..lists {
-        run_list(alloc, &ops, &base, &all, seed, tally)?;
+        run_list(&bench, &all, seed, tally)?;
     }
     Ok(())
 }

@@ -8,7 +8,7 @@
 //! - `steps WORDS` makes a run of a call, instruction by instruction, over the ledger: how many there are, where the program
 //!   then stands, and how the call ends.
 
-use crate::ledgers::{Bench, digits_of, profile_of};
+use crate::ledgers::{Bench, Words, digits_of, profile_of};
 use avm_block::{Block, Entry, encode};
 use avm_call::{Call, Outcome};
 use avm_debug::{Debugger, PastError, Source, state_of};
@@ -66,14 +66,13 @@ pub fn reply<O: Op>(
     ops: &FullOps<O>,
     bench: &Bench,
     blocks: &mut Blocks,
-    head: &str,
-    words: &[&str],
+    row: Words,
 ) -> Result<Option<String>, Fail> {
-    match head {
-        "plain" => Ok(Some(plain(alloc, ops, bench, blocks, words)?)),
-        "steps" => Ok(Some(steps(alloc, ops, bench, words)?)),
+    match row.head {
+        "plain" => Ok(Some(plain(alloc, ops, bench, blocks, row.rest)?)),
+        "steps" => Ok(Some(steps(alloc, ops, bench, row.rest)?)),
         "made" | "copy" | "past" | "past_of" => match &blocks.block {
-            Some(block) => Ok(Some(look(alloc, ops, &bench.ledger, block, head, words)?)),
+            Some(block) => Ok(Some(look(alloc, ops, &bench.ledger, block, row)?)),
             None => Err("no block is made".into()),
         },
         _ => Ok(None),
@@ -118,10 +117,10 @@ fn look<O: Op>(
     ops: &FullOps<O>,
     base: &Ledger,
     block: &Block,
-    head: &str,
-    words: &[&str],
+    row: Words,
 ) -> Result<String, Fail> {
-    match head {
+    let words = row.rest;
+    match row.head {
         "made" => block_digits(alloc, block),
         "copy" => copy(alloc, block),
         "past" => {

@@ -24,6 +24,13 @@ use std::alloc::Global;
 use std::test::Fail;
 use teal_value::Failure;
 
+/// A row: its first word, and those behind it.
+#[derive(Clone, Copy)]
+pub struct Words<'a> {
+    pub head: &'a str,
+    pub rest: &'a [&'a str],
+}
+
 /// The ledger, the programs and the header of the rows so far.
 #[derive(Drop)]
 pub struct Bench {
@@ -54,10 +61,10 @@ pub fn reply<O: Op>(
     ops: &FullOps<O>,
     bench: &mut Bench,
     input: &mut Vec<u8>,
-    head: &str,
-    words: &[&str],
+    row: Words,
 ) -> Result<Option<String>, Fail> {
-    match head {
+    let words = row.rest;
+    match row.head {
         "call" => Ok(Some(called(alloc, ops, bench, None, words)?)),
         "call3" => Ok(Some(called(alloc, ops, bench, Some(Profile::Three), words)?)),
         "ledger" => Ok(Some(ledger_read(alloc, bench, words)?)),
@@ -78,8 +85,9 @@ pub fn reply<O: Op>(
 }
 
 /// Whether a row sets something, and has no answer.
-pub fn is_set(alloc: Global, bench: &mut Bench, head: &str, words: &[&str]) -> Result<bool, Fail> {
-    match head {
+pub fn is_set(alloc: Global, bench: &mut Bench, row: Words) -> Result<bool, Fail> {
+    let words = row.rest;
+    match row.head {
         "code" => {
             if let Some((name, words)) = words.split_first() {
                 let bytes = joined(alloc, &bench.programs, words)?;

@@ -26,7 +26,7 @@ mod streams;
 mod texts;
 
 use crate::blocks::Blocks;
-use crate::ledgers::Bench;
+use crate::ledgers::{Bench, Words};
 use crate::store_rows::carry_out_all;
 use crate::streams::{Input, Output};
 use avm_node::answer;
@@ -137,34 +137,36 @@ fn reply<O: Op>(
         return Ok(None);
     }
     let words: Vec<&str> = rest.split_whitespace().collect(alloc)?;
-    reply_to_words(alloc, ops, said, head, words.as_slice())
+    let row = Words {
+        head,
+        rest: words.as_slice(),
+    };
+    reply_to_words(alloc, ops, said, row)
 }
 
 fn reply_to_words<O: Op>(
     alloc: Global,
     ops: &FullOps<O>,
     said: &mut Said,
-    head: &str,
-    words: &[&str],
+    row: Words,
 ) -> Result<Option<String>, Fail> {
     let bench = &mut said.bench;
-    if let Some(text) = ledgers::reply(alloc, ops, bench, &mut said.row.bytes, head, words)? {
+    if let Some(text) = ledgers::reply(alloc, ops, bench, &mut said.row.bytes, row)? {
         return Ok(Some(text));
     }
-    if let Some(text) = blocks::reply(alloc, ops, bench, &mut said.blocks, head, words)? {
+    if let Some(text) = blocks::reply(alloc, ops, bench, &mut said.blocks, row)? {
         return Ok(Some(text));
     }
-    match head {
-        "queue" => said.blocks.queue(alloc, bench, words)?,
+    match row.head {
+        "queue" => said.blocks.queue(alloc, bench, row.rest)?,
         "+" => {
-            let line = said
-                .blocks
-                .line(alloc, bench, words.first().copied().unwrap_or(""))?;
+            let word = row.rest.first().copied().unwrap_or("");
+            let line = said.blocks.line(alloc, bench, word)?;
             said.row.bytes.extend_from_slice(line.as_bytes())?;
             said.row.bytes.push(b'\n')?;
         }
         _ => {
-            let _is_set = ledgers::is_set(alloc, bench, head, words)?;
+            let _is_set = ledgers::is_set(alloc, bench, row)?;
         }
     }
     Ok(None)
