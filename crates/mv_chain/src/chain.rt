@@ -12,6 +12,9 @@ ghost use Rattle.mv_chain.specs.Laws.{EveryReadFindsTheNewest, EveryReadMarksIts
 use std::alloc::{AllocError, Global};
 use std::marker::Model;
 
+/// Room for the versions of an item that is written once, with the base's.
+const FIRST_ROOM: usize = 2;
+
 /// A version of an item.
 #[derive(Drop)]
 pub struct Version<V> {
@@ -179,7 +182,8 @@ impl<V> Chain<V> {
         V: Drop,
         ensures { IfOk result (λ chain. chain.list ≡ record { timestamp = 0; mark = 0; value = base } ∷ []) }
     {
-        let mut versions = Vec::new(alloc);
+        // Most items are written once or never, and all chains stay to the end of the block.
+        let mut versions = Vec::with_capacity(alloc, FIRST_ROOM)?;
         versions.push(Version {
             timestamp: 0,
             mark: 0,

@@ -43,12 +43,19 @@ pub(crate) fn entry_of(attempt: Attempt, finished: Finished) -> Entry
     requires own { finished.reads ≡ attempt.reads }
     ensures { result ≡ entry_at attempt.timestamp attempt.number finished }
 {
+    let (timestamp, number) = (attempt.timestamp(), attempt.number());
+    let outcome = finished.outcome();
+    // Entries stay to the end of the block, so they keep no room for more.
+    let mut reads = attempt.into_reads().into_vec();
+    reads.shrink_to_fit();
+    let mut writes = finished.into_writes().into_vec();
+    writes.shrink_to_fit();
     Entry {
-        timestamp: attempt.timestamp(),
-        number: attempt.number(),
-        outcome: finished.outcome(),
-        reads: attempt.into_reads().into_vec(),
-        writes: finished.into_writes().into_vec(),
+        timestamp,
+        number,
+        outcome,
+        reads,
+        writes,
     }
 }
 
