@@ -1,11 +1,12 @@
 //! Instructions that take two numbers and give one.
 
 ghost use Rattle.std.specs.Prelude.{◌≡◌, IfSome, Some};
+ghost use Rattle.avm_ops.specs.Objects.{Executes};
 ghost use Rattle.avm_arith.specs.Families.{binary_opcode, binary_value};
 
 use avm_cpu::{Cpu, Flow};
 use avm_items::Env;
-use avm_ops::{Executed, Op};
+use avm_ops::{Executed, Op, Way};
 use std::alloc::Global;
 use teal_code::Instr;
 use teal_table::Opcode;
@@ -73,6 +74,17 @@ impl Binary {
             Binary::BitXor => Ok(a ^ b),
         }
     }
+
+    #[tactic(auto, unfolding(avm_ops::specs::Effect::effect))]
+    #[inline(always)]
+    fn execute(&self, _alloc: Global, _instr: &Instr, cpu: &mut Cpu, _env: &mut Env) -> Executed
+        ensures { Executes (binary_opcode self.now) _instr.now.immediates cpu.old _env.old result cpu.new _env.new }
+    {
+        let (a, b) = cpu.two_uints()?;
+        let value = self.value(a, b)?;
+        cpu.set_uint(2, value);
+        Ok(Flow::Next)
+    }
 }
 
 impl Op for Binary {
@@ -82,12 +94,11 @@ impl Op for Binary {
         self.opcode().code()
     }
 
-    #[tactic(auto, unfolding(avm_ops::specs::Effect::effect))]
-    #[inline(always)]
-    fn exec(&self, _alloc: Global, _instr: &Instr, cpu: &mut Cpu, _env: &mut Env) -> Executed {
-        let (a, b) = cpu.two_uints()?;
-        let value = self.value(a, b)?;
-        cpu.set_uint(2, value);
-        Ok(Flow::Next)
+    fn exec(&self, alloc: Global, instr: &Instr, cpu: &mut Cpu, env: &mut Env) -> Executed {
+        self.execute(alloc, instr, cpu, env)
+    }
+
+    fn carry_out(&self, alloc: Global, instr: &Instr, cpu: &mut Cpu, env: &mut Env) -> Way {
+        Way::of(alloc, self.execute(alloc, instr, cpu, env))
     }
 }

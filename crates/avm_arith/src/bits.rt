@@ -1,12 +1,13 @@
 //! Instructions on the bytes and bits of values.
 
 ghost use Rattle.std.specs.Prelude.{◌≡◌, ◌<◌, ◌^◌, length, IfOk, IfSome, Some, nat_lt, slice_set};
+ghost use Rattle.avm_ops.specs.Objects.{Executes};
 ghost use Rattle.avm_ops.specs.ByteStrings.{bit_count, bit_of, bit_of_value, value_with_bit, with_bit};
 ghost use Rattle.avm_arith.specs.Families.{bits_opcode};
 
 use avm_cpu::{Cpu, Flow};
 use avm_items::Env;
-use avm_ops::{Executed, Op, Stop};
+use avm_ops::{Executed, Op, Stop, Way};
 use std::alloc::{AllocError, Global};
 use teal_code::Instr;
 use teal_table::Opcode;
@@ -46,6 +47,48 @@ impl Bits {
             Bits::Getbyte => Opcode::Getbyte,
             Bits::Setbyte => Opcode::Setbyte,
         }
+    }
+
+    #[tactic(auto, unfolding(avm_ops::specs::Effect::effect))]
+    #[inline(always)]
+    fn execute(&self, alloc: Global, _instr: &Instr, cpu: &mut Cpu, _env: &mut Env) -> Executed
+        ensures { Executes (bits_opcode self.now) _instr.now.immediates cpu.old _env.old result cpu.new _env.new }
+    {
+        match self {
+            Bits::Getbit => {
+                let (value, place) = cpu.value_and_uint()?;
+                if !has_bit(value, place) {
+                    return Err(Stop::Fault(Fault::Range));
+                }
+                let bit = bit_of_value(value, place);
+                cpu.set_uint(2, bit);
+            }
+            Bits::Setbit => {
+                let (value, place, bit) = cpu.value_and_two_uints()?;
+                if !has_bit(value, place) || bit > 1 {
+                    return Err(Stop::Fault(Fault::Range));
+                }
+                let copy = value_with_bit(alloc, value, place, bit)?;
+                cpu.replace(3, copy);
+            }
+            Bits::Getbyte => {
+                let (bytes, place) = cpu.bytes_and_uint()?;
+                if place >= bytes.len() as u64 {
+                    return Err(Stop::Fault(Fault::Range));
+                }
+                let byte = bytes[place as usize];
+                cpu.set_uint(2, u64::from(byte));
+            }
+            Bits::Setbyte => {
+                let (bytes, place, byte) = cpu.bytes_and_two_uints()?;
+                if place >= bytes.len() as u64 || byte > 255 {
+                    return Err(Stop::Fault(Fault::Range));
+                }
+                let copy = with_byte(alloc, bytes, place as usize, byte as u8)?;
+                cpu.replace(3, Value::Bytes(copy));
+            }
+        }
+        Ok(Flow::Next)
     }
 }
 
@@ -141,43 +184,11 @@ impl Op for Bits {
         self.opcode().code()
     }
 
-    #[tactic(auto, unfolding(avm_ops::specs::Effect::effect))]
-    #[inline(always)]
-    fn exec(&self, alloc: Global, _instr: &Instr, cpu: &mut Cpu, _env: &mut Env) -> Executed {
-        match self {
-            Bits::Getbit => {
-                let (value, place) = cpu.value_and_uint()?;
-                if !has_bit(value, place) {
-                    return Err(Stop::Fault(Fault::Range));
-                }
-                let bit = bit_of_value(value, place);
-                cpu.set_uint(2, bit);
-            }
-            Bits::Setbit => {
-                let (value, place, bit) = cpu.value_and_two_uints()?;
-                if !has_bit(value, place) || bit > 1 {
-                    return Err(Stop::Fault(Fault::Range));
-                }
-                let copy = value_with_bit(alloc, value, place, bit)?;
-                cpu.replace(3, copy);
-            }
-            Bits::Getbyte => {
-                let (bytes, place) = cpu.bytes_and_uint()?;
-                if place >= bytes.len() as u64 {
-                    return Err(Stop::Fault(Fault::Range));
-                }
-                let byte = bytes[place as usize];
-                cpu.set_uint(2, u64::from(byte));
-            }
-            Bits::Setbyte => {
-                let (bytes, place, byte) = cpu.bytes_and_two_uints()?;
-                if place >= bytes.len() as u64 || byte > 255 {
-                    return Err(Stop::Fault(Fault::Range));
-                }
-                let copy = with_byte(alloc, bytes, place as usize, byte as u8)?;
-                cpu.replace(3, Value::Bytes(copy));
-            }
-        }
-        Ok(Flow::Next)
+    fn exec(&self, alloc: Global, instr: &Instr, cpu: &mut Cpu, env: &mut Env) -> Executed {
+        self.execute(alloc, instr, cpu, env)
+    }
+
+    fn carry_out(&self, alloc: Global, instr: &Instr, cpu: &mut Cpu, env: &mut Env) -> Way {
+        Way::of(alloc, self.execute(alloc, instr, cpu, env))
     }
 }

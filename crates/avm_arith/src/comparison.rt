@@ -1,6 +1,7 @@
 //! Instructions that compare two numbers, or two values of one type.
 
 ghost use Rattle.std.specs.Prelude.{◌≡◌, IfSome, Some};
+ghost use Rattle.avm_ops.specs.Objects.{Executes};
 ghost use Rattle.teal_value.specs.declared.value.Value.TheVariants.{Uint};
 ghost use Rattle.avm_ops.specs.Frame.{flag};
 ghost use Rattle.avm_ops.specs.Numbers.{are_equal};
@@ -8,7 +9,7 @@ ghost use Rattle.avm_arith.specs.Families.{comparison_opcode, comparison_holds, 
 
 use avm_cpu::{Cpu, Flow};
 use avm_items::Env;
-use avm_ops::{Executed, Op, flag};
+use avm_ops::{Executed, Op, Way, flag};
 use std::alloc::Global;
 use teal_code::Instr;
 use teal_table::Opcode;
@@ -68,6 +69,17 @@ impl Comparison {
             Comparison::Or => a != 0 || b != 0,
         }
     }
+
+    #[tactic(auto, unfolding(avm_ops::specs::Effect::effect))]
+    #[inline(always)]
+    fn execute(&self, _alloc: Global, _instr: &Instr, cpu: &mut Cpu, _env: &mut Env) -> Executed
+        ensures { Executes (comparison_opcode self.now) _instr.now.immediates cpu.old _env.old result cpu.new _env.new }
+    {
+        let (a, b) = cpu.two_uints()?;
+        let holds = self.holds(a, b);
+        cpu.set_uint(2, flag(holds));
+        Ok(Flow::Next)
+    }
 }
 
 impl Op for Comparison {
@@ -77,13 +89,12 @@ impl Op for Comparison {
         self.opcode().code()
     }
 
-    #[tactic(auto, unfolding(avm_ops::specs::Effect::effect))]
-    #[inline(always)]
-    fn exec(&self, _alloc: Global, _instr: &Instr, cpu: &mut Cpu, _env: &mut Env) -> Executed {
-        let (a, b) = cpu.two_uints()?;
-        let holds = self.holds(a, b);
-        cpu.set_uint(2, flag(holds));
-        Ok(Flow::Next)
+    fn exec(&self, alloc: Global, instr: &Instr, cpu: &mut Cpu, env: &mut Env) -> Executed {
+        self.execute(alloc, instr, cpu, env)
+    }
+
+    fn carry_out(&self, alloc: Global, instr: &Instr, cpu: &mut Cpu, env: &mut Env) -> Way {
+        Way::of(alloc, self.execute(alloc, instr, cpu, env))
     }
 }
 
@@ -125,6 +136,17 @@ impl Equality {
             Equality::NotEqual => !are_equal,
         }
     }
+
+    #[tactic(auto, unfolding(avm_ops::specs::Effect::effect))]
+    #[inline(always)]
+    fn execute(&self, _alloc: Global, _instr: &Instr, cpu: &mut Cpu, _env: &mut Env) -> Executed
+        ensures { Executes (equality_opcode self.now) _instr.now.immediates cpu.old _env.old result cpu.new _env.new }
+    {
+        let (a, b) = cpu.two_values()?;
+        let same = are_equal(a, b)?;
+        cpu.set_uint(2, flag(self.holds(same)));
+        Ok(Flow::Next)
+    }
 }
 
 /// Whether two values of one type are the same.
@@ -145,12 +167,11 @@ impl Op for Equality {
         self.opcode().code()
     }
 
-    #[tactic(auto, unfolding(avm_ops::specs::Effect::effect))]
-    #[inline(always)]
-    fn exec(&self, _alloc: Global, _instr: &Instr, cpu: &mut Cpu, _env: &mut Env) -> Executed {
-        let (a, b) = cpu.two_values()?;
-        let same = are_equal(a, b)?;
-        cpu.set_uint(2, flag(self.holds(same)));
-        Ok(Flow::Next)
+    fn exec(&self, alloc: Global, instr: &Instr, cpu: &mut Cpu, env: &mut Env) -> Executed {
+        self.execute(alloc, instr, cpu, env)
+    }
+
+    fn carry_out(&self, alloc: Global, instr: &Instr, cpu: &mut Cpu, env: &mut Env) -> Way {
+        Way::of(alloc, self.execute(alloc, instr, cpu, env))
     }
 }

@@ -1,12 +1,13 @@
 //! Instructions that join byte strings and take parts of them.
 
 ghost use Rattle.std.specs.Prelude.{◌≡◌, ◌++◌, IfOk, IfSome, Some};
+ghost use Rattle.avm_ops.specs.Objects.{Executes};
 ghost use Rattle.avm_arith.specs.Families.{joined_opcode};
 
 use crate::of_bytes::range_of;
 use avm_cpu::{Cpu, Flow, MAX_BYTES};
 use avm_items::Env;
-use avm_ops::{Executed, Op, Stop};
+use avm_ops::{Executed, Op, Stop, Way};
 use std::alloc::{AllocError, Global};
 use teal_code::Instr;
 use teal_table::Opcode;
@@ -51,18 +52,12 @@ impl Joined {
             Joined::Substring3 => Opcode::Substring3,
         }
     }
-}
-
-impl Op for Joined {
-    ghost opcode = { joined_opcode };
-
-    fn code(&self) -> u8 {
-        self.opcode().code()
-    }
 
     #[tactic(auto, unfolding(avm_ops::specs::Effect::effect))]
     #[inline(always)]
-    fn exec(&self, alloc: Global, _instr: &Instr, cpu: &mut Cpu, _env: &mut Env) -> Executed {
+    fn execute(&self, alloc: Global, _instr: &Instr, cpu: &mut Cpu, _env: &mut Env) -> Executed
+        ensures { Executes (joined_opcode self.now) _instr.now.immediates cpu.old _env.old result cpu.new _env.new }
+    {
         match self {
             Joined::Concat => {
                 let (first, second) = cpu.two_bytes()?;
@@ -79,5 +74,21 @@ impl Op for Joined {
             }
         }
         Ok(Flow::Next)
+    }
+}
+
+impl Op for Joined {
+    ghost opcode = { joined_opcode };
+
+    fn code(&self) -> u8 {
+        self.opcode().code()
+    }
+
+    fn exec(&self, alloc: Global, instr: &Instr, cpu: &mut Cpu, env: &mut Env) -> Executed {
+        self.execute(alloc, instr, cpu, env)
+    }
+
+    fn carry_out(&self, alloc: Global, instr: &Instr, cpu: &mut Cpu, env: &mut Env) -> Way {
+        Way::of(alloc, self.execute(alloc, instr, cpu, env))
     }
 }

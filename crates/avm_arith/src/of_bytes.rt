@@ -1,6 +1,7 @@
 //! Instructions on one byte string.
 
 ghost use Rattle.std.specs.Prelude.{◌≡◌, ◌≤◌, length, IfOk, IfSome, Some};
+ghost use Rattle.avm_ops.specs.Objects.{Executes};
 ghost use Rattle.sha2.specs.Sha256.{sha256};
 ghost use Rattle.sha2.specs.Sha512.{sha512_256};
 ghost use Rattle.teal_value.specs.Answer.{Gives};
@@ -10,7 +11,7 @@ ghost use Rattle.avm_arith.specs.Families.{of_bytes_opcode, of_bytes_value};
 use avm_cpu::{Cpu, Flow};
 use avm_items::Env;
 use avm_ops::immediates::{end_of, start_of};
-use avm_ops::{Executed, Op};
+use avm_ops::{Executed, Op, Way};
 use sha2::{Digest, Sha256, Sha512_256};
 use std::alloc::Global;
 use teal_code::{Immediates, Instr};
@@ -79,6 +80,17 @@ impl OfBytes {
             }
         }
     }
+
+    #[tactic(auto, unfolding(avm_ops::specs::Effect::effect))]
+    #[inline(always)]
+    fn execute(&self, alloc: Global, instr: &Instr, cpu: &mut Cpu, _env: &mut Env) -> Executed
+        ensures { Executes (of_bytes_opcode self.now) instr.now.immediates cpu.old _env.old result cpu.new _env.new }
+    {
+        let bytes = cpu.one_bytes()?;
+        let value = self.value(alloc, &instr.immediates, bytes)?;
+        cpu.replace(1, value);
+        Ok(Flow::Next)
+    }
 }
 
 fn sha256(bytes: &[u8]) -> [u8; 32]
@@ -140,12 +152,11 @@ impl Op for OfBytes {
         self.opcode().code()
     }
 
-    #[tactic(auto, unfolding(avm_ops::specs::Effect::effect))]
-    #[inline(always)]
-    fn exec(&self, alloc: Global, instr: &Instr, cpu: &mut Cpu, _env: &mut Env) -> Executed {
-        let bytes = cpu.one_bytes()?;
-        let value = self.value(alloc, &instr.immediates, bytes)?;
-        cpu.replace(1, value);
-        Ok(Flow::Next)
+    fn exec(&self, alloc: Global, instr: &Instr, cpu: &mut Cpu, env: &mut Env) -> Executed {
+        self.execute(alloc, instr, cpu, env)
+    }
+
+    fn carry_out(&self, alloc: Global, instr: &Instr, cpu: &mut Cpu, env: &mut Env) -> Way {
+        Way::of(alloc, self.execute(alloc, instr, cpu, env))
     }
 }

@@ -1,12 +1,13 @@
 //! Instructions on one number.
 
 ghost use Rattle.std.specs.Prelude.{◌≡◌, IfOk, IfSome, Some};
+ghost use Rattle.avm_ops.specs.Objects.{Executes};
 ghost use Rattle.avm_ops.specs.ByteStrings.{bytes_of_number};
 ghost use Rattle.avm_arith.specs.Families.{unary_opcode, unary_value};
 
 use avm_cpu::{Cpu, Flow};
 use avm_items::Env;
-use avm_ops::{Executed, Op, flag};
+use avm_ops::{Executed, Op, Way, flag};
 use std::alloc::{AllocError, Global};
 use teal_code::Instr;
 use teal_table::Opcode;
@@ -54,6 +55,17 @@ impl Unary {
             Unary::Itob => Ok(Value::Bytes(ByteString::from_slice(alloc, &a.to_be_bytes())?)),
         }
     }
+
+    #[tactic(auto, unfolding(avm_ops::specs::Effect::effect))]
+    #[inline(always)]
+    fn execute(&self, alloc: Global, _instr: &Instr, cpu: &mut Cpu, _env: &mut Env) -> Executed
+        ensures { Executes (unary_opcode self.now) _instr.now.immediates cpu.old _env.old result cpu.new _env.new }
+    {
+        let a = cpu.one_uint()?;
+        let value = self.value(alloc, a)?;
+        cpu.replace(1, value);
+        Ok(Flow::Next)
+    }
 }
 
 impl Op for Unary {
@@ -63,12 +75,11 @@ impl Op for Unary {
         self.opcode().code()
     }
 
-    #[tactic(auto, unfolding(avm_ops::specs::Effect::effect))]
-    #[inline(always)]
-    fn exec(&self, alloc: Global, _instr: &Instr, cpu: &mut Cpu, _env: &mut Env) -> Executed {
-        let a = cpu.one_uint()?;
-        let value = self.value(alloc, a)?;
-        cpu.replace(1, value);
-        Ok(Flow::Next)
+    fn exec(&self, alloc: Global, instr: &Instr, cpu: &mut Cpu, env: &mut Env) -> Executed {
+        self.execute(alloc, instr, cpu, env)
+    }
+
+    fn carry_out(&self, alloc: Global, instr: &Instr, cpu: &mut Cpu, env: &mut Env) -> Way {
+        Way::of(alloc, self.execute(alloc, instr, cpu, env))
     }
 }

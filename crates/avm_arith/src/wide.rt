@@ -1,11 +1,12 @@
 //! Instructions whose result has 128 bits.
 
 ghost use Rattle.std.specs.Prelude.{◌≡◌, ◌/◌, ◌%◌, ◌^◌, IfSome, Some};
+ghost use Rattle.avm_ops.specs.Objects.{Executes};
 ghost use Rattle.avm_arith.specs.Families.{wide_opcode, wide_value};
 
 use avm_cpu::{Cpu, Flow};
 use avm_items::Env;
-use avm_ops::{Executed, Op};
+use avm_ops::{Executed, Op, Way};
 use std::alloc::Global;
 use teal_code::Instr;
 use teal_table::Opcode;
@@ -51,6 +52,17 @@ impl Wide {
             Wide::Addw => u128::from(a) + u128::from(b),
         }
     }
+
+    #[tactic(auto, unfolding(avm_ops::specs::Effect::effect))]
+    #[inline(always)]
+    fn execute(&self, _alloc: Global, _instr: &Instr, cpu: &mut Cpu, _env: &mut Env) -> Executed
+        ensures { Executes (wide_opcode self.now) _instr.now.immediates cpu.old _env.old result cpu.new _env.new }
+    {
+        let (a, b) = cpu.two_uints()?;
+        let (high, low) = words(self.value(a, b));
+        cpu.set_uints(2, high, low);
+        Ok(Flow::Next)
+    }
 }
 
 /// The high word and the low word.
@@ -68,12 +80,11 @@ impl Op for Wide {
         self.opcode().code()
     }
 
-    #[tactic(auto, unfolding(avm_ops::specs::Effect::effect))]
-    #[inline(always)]
-    fn exec(&self, _alloc: Global, _instr: &Instr, cpu: &mut Cpu, _env: &mut Env) -> Executed {
-        let (a, b) = cpu.two_uints()?;
-        let (high, low) = words(self.value(a, b));
-        cpu.set_uints(2, high, low);
-        Ok(Flow::Next)
+    fn exec(&self, alloc: Global, instr: &Instr, cpu: &mut Cpu, env: &mut Env) -> Executed {
+        self.execute(alloc, instr, cpu, env)
+    }
+
+    fn carry_out(&self, alloc: Global, instr: &Instr, cpu: &mut Cpu, env: &mut Env) -> Way {
+        Way::of(alloc, self.execute(alloc, instr, cpu, env))
     }
 }

@@ -1,12 +1,13 @@
 //! Constant blocks.
 
 ghost use Rattle.std.specs.Prelude.{◌≡◌, IfSome, Some};
+ghost use Rattle.avm_ops.specs.Objects.{Executes};
 ghost use Rattle.avm_flow_ops.specs.Families.{block_opcode};
 
 use avm_cpu::{Cpu, Flow};
 use avm_items::Env;
 use avm_ops::immediates::{byte_strings_of, uints_of};
-use avm_ops::{Executed, Op};
+use avm_ops::{Executed, Op, Way};
 use std::alloc::Global;
 use teal_code::Instr;
 use teal_table::Opcode;
@@ -39,6 +40,20 @@ impl Block {
             Block::Bytecblock => Opcode::Bytecblock,
         }
     }
+
+    #[tactic(auto, unfolding(avm_ops::specs::Effect::effect))]
+    #[inline(always)]
+    fn execute(&self, alloc: Global, instr: &Instr, cpu: &mut Cpu, _env: &mut Env) -> Executed
+        ensures { Executes (block_opcode self.now) instr.now.immediates cpu.old _env.old result cpu.new _env.new }
+    {
+        match self {
+            Block::Intcblock => cpu.set_uint_constants(uints_of(&instr.immediates))?,
+            Block::Bytecblock => {
+                cpu.set_byte_constants(alloc, byte_strings_of(&instr.immediates))?
+            }
+        }
+        Ok(Flow::Next)
+    }
 }
 
 impl Op for Block {
@@ -48,15 +63,11 @@ impl Op for Block {
         self.opcode().code()
     }
 
-    #[tactic(auto, unfolding(avm_ops::specs::Effect::effect))]
-    #[inline(always)]
-    fn exec(&self, alloc: Global, instr: &Instr, cpu: &mut Cpu, _env: &mut Env) -> Executed {
-        match self {
-            Block::Intcblock => cpu.set_uint_constants(uints_of(&instr.immediates))?,
-            Block::Bytecblock => {
-                cpu.set_byte_constants(alloc, byte_strings_of(&instr.immediates))?
-            }
-        }
-        Ok(Flow::Next)
+    fn exec(&self, alloc: Global, instr: &Instr, cpu: &mut Cpu, env: &mut Env) -> Executed {
+        self.execute(alloc, instr, cpu, env)
+    }
+
+    fn carry_out(&self, alloc: Global, instr: &Instr, cpu: &mut Cpu, env: &mut Env) -> Way {
+        Way::of(alloc, self.execute(alloc, instr, cpu, env))
     }
 }

@@ -1,12 +1,13 @@
 //! The instructions that push a constant of the block in force.
 
 ghost use Rattle.std.specs.Prelude.{◌≡◌, IfSome, Some};
+ghost use Rattle.avm_ops.specs.Objects.{Executes};
 ghost use Rattle.avm_flow_ops.specs.Families.{intc_opcode, intc_index, bytec_opcode, bytec_index};
 
 use avm_cpu::{Cpu, Flow};
 use avm_items::Env;
 use avm_ops::immediates::index_of;
-use avm_ops::{Executed, Op};
+use avm_ops::{Executed, Op, Way};
 use std::alloc::Global;
 use teal_code::{Immediates, Instr};
 use teal_table::Opcode;
@@ -73,6 +74,17 @@ impl Intc {
             Intc::Three => 3,
         }
     }
+
+    #[tactic(auto, unfolding(avm_ops::specs::Effect::effect))]
+    #[inline(always)]
+    fn execute(&self, _alloc: Global, instr: &Instr, cpu: &mut Cpu, _env: &mut Env) -> Executed
+        ensures { Executes (intc_opcode self.now) instr.now.immediates cpu.old _env.old result cpu.new _env.new }
+    {
+        let index = self.index(&instr.immediates);
+        let number = cpu.uint_constant(index).ok_or(Fault::NoConstant)?;
+        cpu.push_uint(number)?;
+        Ok(Flow::Next)
+    }
 }
 
 impl Op for Intc {
@@ -82,13 +94,12 @@ impl Op for Intc {
         self.opcode().code()
     }
 
-    #[tactic(auto, unfolding(avm_ops::specs::Effect::effect))]
-    #[inline(always)]
-    fn exec(&self, _alloc: Global, instr: &Instr, cpu: &mut Cpu, _env: &mut Env) -> Executed {
-        let index = self.index(&instr.immediates);
-        let number = cpu.uint_constant(index).ok_or(Fault::NoConstant)?;
-        cpu.push_uint(number)?;
-        Ok(Flow::Next)
+    fn exec(&self, alloc: Global, instr: &Instr, cpu: &mut Cpu, env: &mut Env) -> Executed {
+        self.execute(alloc, instr, cpu, env)
+    }
+
+    fn carry_out(&self, alloc: Global, instr: &Instr, cpu: &mut Cpu, env: &mut Env) -> Way {
+        Way::of(alloc, self.execute(alloc, instr, cpu, env))
     }
 }
 
@@ -131,6 +142,18 @@ impl Bytec {
             Bytec::Three => 3,
         }
     }
+
+    #[tactic(auto, unfolding(avm_ops::specs::Effect::effect))]
+    #[inline(always)]
+    fn execute(&self, alloc: Global, instr: &Instr, cpu: &mut Cpu, _env: &mut Env) -> Executed
+        ensures { Executes (bytec_opcode self.now) instr.now.immediates cpu.old _env.old result cpu.new _env.new }
+    {
+        let index = self.index(&instr.immediates);
+        let bytes = cpu.byte_constant(index).ok_or(Fault::NoConstant)?;
+        let copy = ByteString::from_slice(alloc, bytes)?;
+        cpu.push(Value::Bytes(copy))?;
+        Ok(Flow::Next)
+    }
 }
 
 impl Op for Bytec {
@@ -140,13 +163,11 @@ impl Op for Bytec {
         self.opcode().code()
     }
 
-    #[tactic(auto, unfolding(avm_ops::specs::Effect::effect))]
-    #[inline(always)]
-    fn exec(&self, alloc: Global, instr: &Instr, cpu: &mut Cpu, _env: &mut Env) -> Executed {
-        let index = self.index(&instr.immediates);
-        let bytes = cpu.byte_constant(index).ok_or(Fault::NoConstant)?;
-        let copy = ByteString::from_slice(alloc, bytes)?;
-        cpu.push(Value::Bytes(copy))?;
-        Ok(Flow::Next)
+    fn exec(&self, alloc: Global, instr: &Instr, cpu: &mut Cpu, env: &mut Env) -> Executed {
+        self.execute(alloc, instr, cpu, env)
+    }
+
+    fn carry_out(&self, alloc: Global, instr: &Instr, cpu: &mut Cpu, env: &mut Env) -> Way {
+        Way::of(alloc, self.execute(alloc, instr, cpu, env))
     }
 }

@@ -1,12 +1,13 @@
 //! Instructions that push what they hold.
 
 ghost use Rattle.std.specs.Prelude.{◌≡◌, IfSome, Some};
+ghost use Rattle.avm_ops.specs.Objects.{Executes};
 ghost use Rattle.avm_flow_ops.specs.Families.{literal_opcode};
 
 use avm_cpu::{Cpu, Flow};
 use avm_items::Env;
 use avm_ops::immediates::{bytes_of, uint_of};
-use avm_ops::{Executed, Op};
+use avm_ops::{Executed, Op, Way};
 use std::alloc::Global;
 use teal_code::Instr;
 use teal_table::Opcode;
@@ -40,6 +41,21 @@ impl Literal {
             Literal::Pushint => Opcode::Pushint,
         }
     }
+
+    #[tactic(auto, unfolding(avm_ops::specs::Effect::effect))]
+    #[inline(always)]
+    fn execute(&self, alloc: Global, instr: &Instr, cpu: &mut Cpu, _env: &mut Env) -> Executed
+        ensures { Executes (literal_opcode self.now) instr.now.immediates cpu.old _env.old result cpu.new _env.new }
+    {
+        match self {
+            Literal::Pushbytes => {
+                let copy = ByteString::from_slice(alloc, bytes_of(&instr.immediates))?;
+                cpu.push(Value::Bytes(copy))?;
+            }
+            Literal::Pushint => cpu.push_uint(uint_of(&instr.immediates))?,
+        }
+        Ok(Flow::Next)
+    }
 }
 
 impl Op for Literal {
@@ -49,16 +65,11 @@ impl Op for Literal {
         self.opcode().code()
     }
 
-    #[tactic(auto, unfolding(avm_ops::specs::Effect::effect))]
-    #[inline(always)]
-    fn exec(&self, alloc: Global, instr: &Instr, cpu: &mut Cpu, _env: &mut Env) -> Executed {
-        match self {
-            Literal::Pushbytes => {
-                let copy = ByteString::from_slice(alloc, bytes_of(&instr.immediates))?;
-                cpu.push(Value::Bytes(copy))?;
-            }
-            Literal::Pushint => cpu.push_uint(uint_of(&instr.immediates))?,
-        }
-        Ok(Flow::Next)
+    fn exec(&self, alloc: Global, instr: &Instr, cpu: &mut Cpu, env: &mut Env) -> Executed {
+        self.execute(alloc, instr, cpu, env)
+    }
+
+    fn carry_out(&self, alloc: Global, instr: &Instr, cpu: &mut Cpu, env: &mut Env) -> Way {
+        Way::of(alloc, self.execute(alloc, instr, cpu, env))
     }
 }

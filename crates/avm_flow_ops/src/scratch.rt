@@ -2,11 +2,12 @@
 
 ghost use Rattle.std.specs.Prelude.{◌≡◌, IfSome, Some};
 ghost use Rattle.avm_flow_ops.specs.Families.{scratch_opcode};
+ghost use Rattle.avm_ops.specs.Objects.{Executes};
 
 use avm_cpu::{Cpu, Flow};
 use avm_items::Env;
 use avm_ops::immediates::index_of;
-use avm_ops::{Executed, Op};
+use avm_ops::{Executed, Op, Way};
 use std::alloc::Global;
 use teal_code::Instr;
 use teal_table::Opcode;
@@ -42,18 +43,13 @@ impl Scratch {
             Scratch::Store => Opcode::Store,
         }
     }
-}
 
-impl Op for Scratch {
-    ghost opcode = { scratch_opcode };
-
-    fn code(&self) -> u8 {
-        self.opcode().code()
-    }
-
+    /// Carries an instruction out. Both methods of the interface have this body inline.
     #[tactic(auto, unfolding(avm_ops::specs::Effect::effect))]
     #[inline(always)]
-    fn exec(&self, _alloc: Global, instr: &Instr, cpu: &mut Cpu, _env: &mut Env) -> Executed {
+    fn execute(self, instr: &Instr, cpu: &mut Cpu, _env: &mut Env) -> Executed
+        ensures { Executes (scratch_opcode self) instr.now.immediates cpu.old _env.old result cpu.new _env.new }
+    {
         let index = index_of(&instr.immediates);
         match self {
             Scratch::Load => match cpu.scratch(index) {
@@ -69,5 +65,21 @@ impl Op for Scratch {
             }
         }
         Ok(Flow::Next)
+    }
+}
+
+impl Op for Scratch {
+    ghost opcode = { scratch_opcode };
+
+    fn code(&self) -> u8 {
+        self.opcode().code()
+    }
+
+    fn exec(&self, _alloc: Global, instr: &Instr, cpu: &mut Cpu, env: &mut Env) -> Executed {
+        self.execute(instr, cpu, env)
+    }
+
+    fn carry_out(&self, alloc: Global, instr: &Instr, cpu: &mut Cpu, env: &mut Env) -> Way {
+        Way::of(alloc, self.execute(instr, cpu, env))
     }
 }

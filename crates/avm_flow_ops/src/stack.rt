@@ -1,12 +1,13 @@
 //! Instructions that move the values of the stack.
 
 ghost use Rattle.std.specs.Prelude.{◌≡◌, IfSome, Some};
+ghost use Rattle.avm_ops.specs.Objects.{Executes};
 ghost use Rattle.avm_flow_ops.specs.Families.{stack_opcode};
 
 use avm_cpu::{Cpu, Flow};
 use avm_items::Env;
 use avm_ops::immediates::index_of;
-use avm_ops::{Executed, Op};
+use avm_ops::{Executed, Op, Way};
 use std::alloc::Global;
 use teal_code::Instr;
 use teal_table::Opcode;
@@ -58,18 +59,12 @@ impl Stack {
             Stack::Select => Opcode::Select,
         }
     }
-}
-
-impl Op for Stack {
-    ghost opcode = { stack_opcode };
-
-    fn code(&self) -> u8 {
-        self.opcode().code()
-    }
 
     #[tactic(auto, unfolding(avm_ops::specs::Effect::effect))]
     #[inline(always)]
-    fn exec(&self, _alloc: Global, instr: &Instr, cpu: &mut Cpu, _env: &mut Env) -> Executed {
+    fn execute(&self, _alloc: Global, instr: &Instr, cpu: &mut Cpu, _env: &mut Env) -> Executed
+        ensures { Executes (stack_opcode self.now) instr.now.immediates cpu.old _env.old result cpu.new _env.new }
+    {
         match self {
             Stack::Pop => {
                 let _value = cpu.one_value()?;
@@ -114,5 +109,21 @@ impl Op for Stack {
             }
         }
         Ok(Flow::Next)
+    }
+}
+
+impl Op for Stack {
+    ghost opcode = { stack_opcode };
+
+    fn code(&self) -> u8 {
+        self.opcode().code()
+    }
+
+    fn exec(&self, alloc: Global, instr: &Instr, cpu: &mut Cpu, env: &mut Env) -> Executed {
+        self.execute(alloc, instr, cpu, env)
+    }
+
+    fn carry_out(&self, alloc: Global, instr: &Instr, cpu: &mut Cpu, env: &mut Env) -> Way {
+        Way::of(alloc, self.execute(alloc, instr, cpu, env))
     }
 }

@@ -1,11 +1,12 @@
 //! Instructions that end a program, or may.
 
 ghost use Rattle.std.specs.Prelude.{◌≡◌, IfSome, Some};
+ghost use Rattle.avm_ops.specs.Objects.{Executes};
 ghost use Rattle.avm_flow_ops.specs.Families.{stops_opcode};
 
 use avm_cpu::{Cpu, Flow};
 use avm_items::Env;
-use avm_ops::{Executed, Op, Stop};
+use avm_ops::{Executed, Op, Stop, Way};
 use std::alloc::Global;
 use teal_code::Instr;
 use teal_table::Opcode;
@@ -45,18 +46,12 @@ impl Stops {
             Stops::Assert => Opcode::Assert,
         }
     }
-}
-
-impl Op for Stops {
-    ghost opcode = { stops_opcode };
-
-    fn code(&self) -> u8 {
-        self.opcode().code()
-    }
 
     #[tactic(auto, unfolding(avm_ops::specs::Effect::effect))]
     #[inline(always)]
-    fn exec(&self, _alloc: Global, _instr: &Instr, cpu: &mut Cpu, _env: &mut Env) -> Executed {
+    fn execute(&self, _alloc: Global, _instr: &Instr, cpu: &mut Cpu, _env: &mut Env) -> Executed
+        ensures { Executes (stops_opcode self.now) _instr.now.immediates cpu.old _env.old result cpu.new _env.new }
+    {
         match self {
             Stops::Err => Err(Stop::Fault(Fault::Err)),
             Stops::Return => {
@@ -72,5 +67,21 @@ impl Op for Stops {
                 Ok(Flow::Next)
             }
         }
+    }
+}
+
+impl Op for Stops {
+    ghost opcode = { stops_opcode };
+
+    fn code(&self) -> u8 {
+        self.opcode().code()
+    }
+
+    fn exec(&self, alloc: Global, instr: &Instr, cpu: &mut Cpu, env: &mut Env) -> Executed {
+        self.execute(alloc, instr, cpu, env)
+    }
+
+    fn carry_out(&self, alloc: Global, instr: &Instr, cpu: &mut Cpu, env: &mut Env) -> Way {
+        Way::of(alloc, self.execute(alloc, instr, cpu, env))
     }
 }

@@ -6,7 +6,7 @@ ghost use Rattle.avm_items.specs.Asks.{answer_from};
 ghost use Rattle.avm_items.specs.Environments.{known_to};
 ghost use Rattle.avm_cpu.specs.Machine.{Machine};
 ghost use Rattle.avm_ops.specs.Fields.{value_of_global_field, global_at, profile_version};
-ghost use Rattle.avm_ops.specs.Objects.{context_of};
+ghost use Rattle.avm_ops.specs.Objects.{Executes, context_of};
 ghost use Rattle.avm_state_ops.specs.Parts.{Answers};
 
 use crate::fields::{ZERO_ADDRESS, bytes_value};
@@ -15,7 +15,7 @@ use avm_cpu::{Cpu, Flow};
 use avm_items::{Env, Item, ItemValue};
 use avm_ledger::Profile;
 use avm_ops::immediates::field_of;
-use avm_ops::{Executed, Op, Stop};
+use avm_ops::{Executed, Op, Stop, Way};
 use std::alloc::Global;
 use teal_code::Instr;
 use teal_table::{GlobalField, Opcode, global_field};
@@ -67,6 +67,19 @@ impl GlobalOp {
             _ => None,
         }
     }
+
+    #[tactic(auto, unfolding(avm_ops::specs::Effect::effect))]
+    #[inline(always)]
+    fn execute(&self, alloc: Global, instr: &Instr, cpu: &mut Cpu, env: &mut Env) -> Executed
+        ensures { Executes op.Global instr.now.immediates cpu.old env.old result cpu.new env.new }
+    {
+        let Some(field) = global_field(field_of(&instr.immediates)) else {
+            return Err(Stop::Fault(Fault::BadField));
+        };
+        let value = global_value(alloc, env, field)?;
+        cpu.push(value)?;
+        Ok(Flow::Next)
+    }
 }
 
 impl Op for GlobalOp {
@@ -76,14 +89,11 @@ impl Op for GlobalOp {
         Opcode::Global.code()
     }
 
-    #[tactic(auto, unfolding(avm_ops::specs::Effect::effect))]
-    #[inline(always)]
     fn exec(&self, alloc: Global, instr: &Instr, cpu: &mut Cpu, env: &mut Env) -> Executed {
-        let Some(field) = global_field(field_of(&instr.immediates)) else {
-            return Err(Stop::Fault(Fault::BadField));
-        };
-        let value = global_value(alloc, env, field)?;
-        cpu.push(value)?;
-        Ok(Flow::Next)
+        self.execute(alloc, instr, cpu, env)
+    }
+
+    fn carry_out(&self, alloc: Global, instr: &Instr, cpu: &mut Cpu, env: &mut Env) -> Way {
+        Way::of(alloc, self.execute(alloc, instr, cpu, env))
     }
 }

@@ -5,7 +5,7 @@ ghost use Rattle.std.specs.Option.{option_copied};
 ghost use Rattle.teal_value.specs.declared.fault.Fault.TheVariants.{NoForeign};
 ghost use Rattle.teal_value.specs.declared.value.Value.TheVariants.{Uint};
 ghost use Rattle.avm_ops.specs.Frame.{flag};
-ghost use Rattle.avm_ops.specs.Objects.{Does, IfStopped};
+ghost use Rattle.avm_ops.specs.Objects.{Does, Executes, IfStopped};
 ghost use Rattle.avm_ops.specs.States.{foreign_of, global_get, global_get_ex, local_get, local_get_ex, opted_in, or_zero};
 ghost use Rattle.avm_state_ops.specs.Families.{read_opcode};
 ghost use Rattle.avm_state_ops.specs.Parts.{known_row};
@@ -14,7 +14,7 @@ use crate::fields::account;
 use crate::known::{application, global_entry, local_state};
 use avm_cpu::{Cpu, Flow};
 use avm_items::Env;
-use avm_ops::{Executed, Op, Stop, flag};
+use avm_ops::{Executed, Op, Stop, Way, flag};
 use std::alloc::{AllocError, Global};
 use teal_code::Instr;
 use teal_table::Opcode;
@@ -60,6 +60,20 @@ impl StateRead {
             StateRead::LocalGetEx => Opcode::AppLocalGetEx,
             StateRead::GlobalGet => Opcode::AppGlobalGet,
             StateRead::GlobalGetEx => Opcode::AppGlobalGetEx,
+        }
+    }
+
+    #[tactic(auto, unfolding(avm_ops::specs::Effect::effect))]
+    #[inline(always)]
+    fn execute(&self, alloc: Global, _instr: &Instr, cpu: &mut Cpu, env: &mut Env) -> Executed
+        ensures { Executes (read_opcode self.now) _instr.now.immediates cpu.old env.old result cpu.new env.new }
+    {
+        match self {
+            StateRead::OptedIn => opted_in(alloc, cpu, env),
+            StateRead::LocalGet => local_get(alloc, cpu, env),
+            StateRead::LocalGetEx => local_get_ex(alloc, cpu, env),
+            StateRead::GlobalGet => global_get(alloc, cpu, env),
+            StateRead::GlobalGetEx => global_get_ex(alloc, cpu, env),
         }
     }
 }
@@ -173,15 +187,11 @@ impl Op for StateRead {
         self.opcode().code()
     }
 
-    #[tactic(auto, unfolding(avm_ops::specs::Effect::effect))]
-    #[inline(always)]
-    fn exec(&self, alloc: Global, _instr: &Instr, cpu: &mut Cpu, env: &mut Env) -> Executed {
-        match self {
-            StateRead::OptedIn => opted_in(alloc, cpu, env),
-            StateRead::LocalGet => local_get(alloc, cpu, env),
-            StateRead::LocalGetEx => local_get_ex(alloc, cpu, env),
-            StateRead::GlobalGet => global_get(alloc, cpu, env),
-            StateRead::GlobalGetEx => global_get_ex(alloc, cpu, env),
-        }
+    fn exec(&self, alloc: Global, instr: &Instr, cpu: &mut Cpu, env: &mut Env) -> Executed {
+        self.execute(alloc, instr, cpu, env)
+    }
+
+    fn carry_out(&self, alloc: Global, instr: &Instr, cpu: &mut Cpu, env: &mut Env) -> Way {
+        Way::of(alloc, self.execute(alloc, instr, cpu, env))
     }
 }

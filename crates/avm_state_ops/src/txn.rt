@@ -1,6 +1,7 @@
 //! Instructions that push a field of the call.
 
 ghost use Rattle.std.specs.Prelude.{◌≡◌, IfSome, Some, ◌==◌};
+ghost use Rattle.avm_ops.specs.Objects.{Executes};
 ghost use Rattle.teal_value.specs.Answer.{Gives};
 ghost use Rattle.avm_ops.specs.Fields.{is_in_group};
 ghost use Rattle.avm_state_ops.specs.Families.{txn_opcode};
@@ -9,7 +10,7 @@ use crate::fields::{array_field, scalar_field, scalar_number};
 use avm_cpu::{Cpu, Flow};
 use avm_items::Env;
 use avm_ops::immediates::{field_of, group_index_of, index_of};
-use avm_ops::{Executed, Op};
+use avm_ops::{Executed, Op, Way};
 use std::alloc::Global;
 use teal_code::Instr;
 use teal_table::Opcode;
@@ -59,29 +60,12 @@ impl Txn {
             Txn::StackElement => Opcode::Gtxnsa,
         }
     }
-}
-
-/// Every call is a group of one: transaction 0 alone is there.
-fn test_group(transaction: u64) -> Result<(), Fault>
-    ensures { result ≡ is_in_group transaction }
-{
-    if transaction == 0 {
-        Ok(())
-    } else {
-        Err(Fault::NoTxn)
-    }
-}
-
-impl Op for Txn {
-    ghost opcode = { txn_opcode };
-
-    fn code(&self) -> u8 {
-        self.opcode().code()
-    }
 
     #[tactic(auto, unfolding(avm_ops::specs::Effect::effect))]
     #[inline(always)]
-    fn exec(&self, alloc: Global, instr: &Instr, cpu: &mut Cpu, env: &mut Env) -> Executed {
+    fn execute(&self, alloc: Global, instr: &Instr, cpu: &mut Cpu, env: &mut Env) -> Executed
+        ensures { Executes (txn_opcode self.now) instr.now.immediates cpu.old env.old result cpu.new env.new }
+    {
         let immediates = &instr.immediates;
         let field = field_of(immediates);
         match self {
@@ -110,5 +94,32 @@ impl Op for Txn {
             }
         }
         Ok(Flow::Next)
+    }
+}
+
+/// Every call is a group of one: transaction 0 alone is there.
+fn test_group(transaction: u64) -> Result<(), Fault>
+    ensures { result ≡ is_in_group transaction }
+{
+    if transaction == 0 {
+        Ok(())
+    } else {
+        Err(Fault::NoTxn)
+    }
+}
+
+impl Op for Txn {
+    ghost opcode = { txn_opcode };
+
+    fn code(&self) -> u8 {
+        self.opcode().code()
+    }
+
+    fn exec(&self, alloc: Global, instr: &Instr, cpu: &mut Cpu, env: &mut Env) -> Executed {
+        self.execute(alloc, instr, cpu, env)
+    }
+
+    fn carry_out(&self, alloc: Global, instr: &Instr, cpu: &mut Cpu, env: &mut Env) -> Way {
+        Way::of(alloc, self.execute(alloc, instr, cpu, env))
     }
 }

@@ -6,7 +6,7 @@ ghost use Rattle.avm_states.specs.Schemas.{counts_after, is_within, keeps_kind};
 ghost use Rattle.avm_items.specs.Asks.{answer_from};
 ghost use Rattle.avm_items.specs.Environments.{known_to};
 ghost use Rattle.avm_cpu.specs.Machine.{Machine};
-ghost use Rattle.avm_ops.specs.Objects.{context_of, Does, IfStopped};
+ghost use Rattle.avm_ops.specs.Objects.{Does, Executes, IfStopped, context_of};
 ghost use Rattle.avm_ops.specs.States.{global_delete, global_delete_of, global_put, global_put_over, local_delete, local_put, schema_in, value_length};
 ghost use Rattle.avm_state_ops.specs.Families.{write_opcode};
 ghost use Rattle.avm_state_ops.specs.Parts.{Answers, after_delete, after_put, known_row, schema_test};
@@ -16,7 +16,7 @@ use crate::known::{application, global_counts, global_entry, local_state};
 use avm_cpu::{Cpu, Flow};
 use avm_items::{Env, Item, ItemValue};
 use avm_ledger::Application;
-use avm_ops::{Executed, Op, Stop};
+use avm_ops::{Executed, Op, Stop, Way};
 use avm_states::{EntryCounts, MAX_VALUE_BYTES, Schema, State};
 use std::alloc::Global;
 use teal_code::Instr;
@@ -59,6 +59,19 @@ impl StateWrite {
             StateWrite::GlobalPut => Opcode::AppGlobalPut,
             StateWrite::LocalDelete => Opcode::AppLocalDel,
             StateWrite::GlobalDelete => Opcode::AppGlobalDel,
+        }
+    }
+
+    #[tactic(auto, unfolding(avm_ops::specs::Effect::effect))]
+    #[inline(always)]
+    fn execute(&self, alloc: Global, _instr: &Instr, cpu: &mut Cpu, env: &mut Env) -> Executed
+        ensures { Executes (write_opcode self.now) _instr.now.immediates cpu.old env.old result cpu.new env.new }
+    {
+        match self {
+            StateWrite::LocalPut => local_put(alloc, cpu, env),
+            StateWrite::GlobalPut => global_put(alloc, cpu, env),
+            StateWrite::LocalDelete => local_delete(alloc, cpu, env),
+            StateWrite::GlobalDelete => global_delete(alloc, cpu, env),
         }
     }
 }
@@ -261,14 +274,11 @@ impl Op for StateWrite {
         self.opcode().code()
     }
 
-    #[tactic(auto, unfolding(avm_ops::specs::Effect::effect))]
-    #[inline(always)]
-    fn exec(&self, alloc: Global, _instr: &Instr, cpu: &mut Cpu, env: &mut Env) -> Executed {
-        match self {
-            StateWrite::LocalPut => local_put(alloc, cpu, env),
-            StateWrite::GlobalPut => global_put(alloc, cpu, env),
-            StateWrite::LocalDelete => local_delete(alloc, cpu, env),
-            StateWrite::GlobalDelete => global_delete(alloc, cpu, env),
-        }
+    fn exec(&self, alloc: Global, instr: &Instr, cpu: &mut Cpu, env: &mut Env) -> Executed {
+        self.execute(alloc, instr, cpu, env)
+    }
+
+    fn carry_out(&self, alloc: Global, instr: &Instr, cpu: &mut Cpu, env: &mut Env) -> Way {
+        Way::of(alloc, self.execute(alloc, instr, cpu, env))
     }
 }
