@@ -6,7 +6,7 @@ ghost use Rattle.mv_parts.specs.CallLaws.{entry_of as entry_at};
 ghost use Rattle.mv_shards.specs.Writing.{AreWritten, CanTake};
 ghost use Rattle.mv_parts.specs.Commits.{entries_not_above};
 
-use crate::entry::Entry;
+use crate::entry::{Entry, KeptItems};
 use avm_run::Finished;
 use mv_shards::{Attempt, Held};
 use std::alloc::{AllocError, Global};
@@ -39,23 +39,33 @@ pub(crate) fn write_all(
 }
 
 /// The entry of an attempt's own call.
-pub(crate) fn entry_of(attempt: Attempt, finished: Finished) -> Entry
+pub(crate) fn entry_of(alloc: Global, attempt: Attempt, finished: Finished) -> Entry
     requires own { finished.reads ≡ attempt.reads }
     ensures { result ≡ entry_at attempt.timestamp attempt.number finished }
 {
     let (timestamp, number) = (attempt.timestamp(), attempt.number());
     let outcome = finished.outcome();
-    // Entries stay to the end of the block, so they keep no room for more.
-    let mut reads = attempt.into_reads().into_vec();
-    reads.shrink_to_fit();
-    let mut writes = finished.into_writes().into_vec();
-    writes.shrink_to_fit();
     Entry {
         timestamp,
         number,
         outcome,
-        reads,
-        writes,
+        reads: without_room(alloc, attempt.into_reads().into_vec()),
+        writes: without_room(alloc, finished.into_writes().into_vec()),
+    }
+}
+
+/// A list without room for more, where there is memory for another one. Entries stay to the end of the block, and lists with
+/// room are used again from call to call.
+fn without_room(alloc: Global, values: KeptItems) -> KeptItems
+    ensures { result.items ≡ values.items }
+{
+    let mut values = values;
+    match Vec::with_capacity(alloc, values.len()) {
+        Ok(mut exact) => match exact.append(&mut values) {
+            Ok(()) => exact,
+            Err(_refused) => values,
+        },
+        Err(_refused) => values,
     }
 }
 

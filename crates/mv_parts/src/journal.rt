@@ -251,7 +251,7 @@ impl Journal {
             Ok(()) => {
                 self.live.remove(timestamp);
                 self.states[attempt.number() as usize - 1] = CallState::Committed;
-                insert_entry(&mut self.entries, entry_of(attempt, finished));
+                insert_entry(&mut self.entries, entry_of(self.alloc, attempt, finished));
                 Ok(timestamp)
             }
             Err(_) => Err(RefusedCommit {
