@@ -26,8 +26,8 @@ returns-in-Ok-Need-clause-runs g c =
       next = asks.next;
     }
 
-pub close-requires : goal.close-requires
-close-requires g c =
+pub close-requires-clause-ends : goal.close-requires-clause-ends
+close-requires-clause-ends g c κs within =
     let call = c.args.call.now in
     let header = c.args.context.now.header.now in
     let old = c.deref_mut.result.now in
@@ -36,7 +36,7 @@ close-requires g c =
     let begun = subst (BeginsRun call header items) (sym c.deref_mut.ensures.value) c.requires.begun in
     let stops = rw c.in-Ok-Ended.field-0-is at c.in-Ok-Ended.ensures.stops in
     let there = stops_there call header items 65535 old (λ before. EndsThere before new c.in-Ok-Ended.ended) begun stops in
-    record { ends = closes call header items stops.before new c.in-Ok-Ended.ended there stops.stops.same stops.stops.ends }
+    closes call header items stops.before new c.in-Ok-Ended.ended there stops.stops.same stops.stops.ends
 
 pub returns-in_ok-close-in-Ok-Ended-clause-runs : goal.returns-in_ok-close-in-Ok-Ended-clause-runs
 returns-in_ok-close-in-Ok-Ended-clause-runs g c =
