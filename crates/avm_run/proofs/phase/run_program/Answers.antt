@@ -16,7 +16,7 @@ pub returns-in-Ok-Need-clause-runs : goal.returns-in-Ok-Need-clause-runs
 returns-in-Ok-Need-clause-runs g c =
     let old = c.deref_mut.result.now in
     let new = c.make_steps.new.running in
-    let begun = subst (BeginsRun c.args.call.now c.args.header.now c.args.running.value.env.reads) (sym c.deref_mut.ensures.value) c.requires.begun in
+    let begun = subst (BeginsRun c.args.call.now c.args.context.now.header.now c.args.running.value.env.reads) (sym c.deref_mut.ensures.value) c.requires.begun in
     let stops = subst (λ x. StopsWithin 65535 old (λ before. AsksThere before new x)) (sym c.into_inner.ensures) (rw c.in-Ok-Need.field-0-is at c.in-Ok-Need.ensures.stops) in
     let asks = asks_behind _ _ _ 65535 old new c.into_inner.result begun stops in
     record {
@@ -26,22 +26,22 @@ returns-in-Ok-Need-clause-runs g c =
       next = asks.next;
     }
 
-pub close-requires : goal.close-requires
-close-requires g c =
+pub close-requires-clause-ends : goal.close-requires-clause-ends
+close-requires-clause-ends g c κs within =
     let call = c.args.call.now in
-    let header = c.args.header.now in
+    let header = c.args.context.now.header.now in
     let old = c.deref_mut.result.now in
     let new = c.make_steps.new.running in
     let items = c.args.running.value.env.reads in
     let begun = subst (BeginsRun call header items) (sym c.deref_mut.ensures.value) c.requires.begun in
     let stops = rw c.in-Ok-Ended.field-0-is at c.in-Ok-Ended.ensures.stops in
     let there = stops_there call header items 65535 old (λ before. EndsThere before new c.in-Ok-Ended.ended) begun stops in
-    record { ends = closes call header items stops.before new c.in-Ok-Ended.ended there stops.stops.same stops.stops.ends }
+    closes call header items stops.before new c.in-Ok-Ended.ended there stops.stops.same stops.stops.ends
 
 pub returns-in_ok-close-in-Ok-Ended-clause-runs : goal.returns-in_ok-close-in-Ok-Ended-clause-runs
 returns-in_ok-close-in-Ok-Ended-clause-runs g c =
     let call = c.args.call.now in
-    let header = c.args.header.now in
+    let header = c.args.context.now.header.now in
     let old = c.deref_mut.result.now in
     let new = c.make_steps.new.running in
     let items = c.args.running.value.env.reads in
@@ -65,7 +65,7 @@ returns-in-Ok-Need-clause-executes g c =
 pub returns-in_ok-close-in-Ok-Ended-clause-executes : goal.returns-in_ok-close-in-Ok-Ended-clause-executes
 returns-in_ok-close-in-Ok-Ended-clause-executes g c =
     let call = c.args.call.now in
-    let header = c.args.header.now in
+    let header = c.args.context.now.header.now in
     let old = c.deref_mut.result.now in
     let new = c.make_steps.new.running in
     let items = c.args.running.value.env.reads in
