@@ -23,3 +23,4 @@ pub use held::Held;
 pub use index::{SHARD_COUNT, shard_of};
 pub use read_fault::{ReadError, ReadFault};
 pub use shard::Shard;
+pub use writing::Commit;
