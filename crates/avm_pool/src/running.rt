@@ -11,7 +11,7 @@ use avm_call::Call;
 use avm_items::{Item, ItemValue};
 use avm_ledger::Header;
 use avm_ops::Op;
-use avm_run::{Finished, FullOps, Reader, Spare, run_reading};
+use avm_run::{Finished, FullOps, Reader, RunContext, Spare, run_reading};
 use mv_shards::{Attempt, shard_of};
 use std::alloc::Global;
 use std::sync::Wait;
@@ -64,15 +64,12 @@ impl<'a, 'b, G: Gate, R: Wait> Trial<'a, 'b, G, R> {
         let Some(call) = shared.call(self.attempt.number()) else {
             return Err(AttemptEnd::Left);
         };
-        let ops = executor.ops;
-        match run_reading(
-            shared.alloc,
-            call,
-            shared.header,
-            ops,
-            &mut executor.spare,
-            self,
-        ) {
+        let context = RunContext {
+            alloc: shared.alloc,
+            ops: executor.ops,
+            header: shared.header,
+        };
+        match run_reading(&context, call, &mut executor.spare, self) {
             Ok(finished) => Ok(finished),
             Err(Failure::Memory) => Err(AttemptEnd::Left),
             Err(Failure::Fault(end)) => Err(end),

@@ -9,9 +9,9 @@ ghost use Rattle.avm_replay.specs.Past.{IsRefused, entries_until, ledger_until};
 
 use crate::base::Base;
 use avm_block::{Block, Entry};
-use avm_ledger::{Header, Ledger};
+use avm_ledger::Ledger;
 use avm_ops::Op;
-use avm_run::{FullOps, call_on};
+use avm_run::{FullOps, RunContext, call_on};
 use std::alloc::{AllocError, Global};
 use teal_value::Failure;
 use thiserror::Error;
@@ -71,35 +71,31 @@ pub fn state_at_owned<O: Op>(
         return Err(Failure::Fault(StateFault::WrongBase));
     }
     let mut after = base.into_ledger();
-    make_until(
+    let context = RunContext {
         alloc,
-        &mut after,
-        block.header(),
-        block.entries(),
-        timestamp,
         ops,
-    )?;
+        header: block.header(),
+    };
+    make_until(&context, &mut after, block.entries(), timestamp)?;
     Ok(after)
 }
 
 /// Makes the calls of entries on a ledger, up to the last that isn't behind the timestamp.
 fn make_until<O: Op>(
-    alloc: Global,
+    context: &RunContext<'_, O>,
     ledger: &mut Ledger,
-    header: &Header,
     entries: &[Entry],
     timestamp: u64,
-    ops: &FullOps<O>,
 ) -> Result<(), AllocError>
     requires rising { RisesAbove 0 entries.now }
-    ensures { IfOk result (λ _. ledger.new ≡ replayed ledger.old header.now (calls_in (entries_until timestamp entries.now))) }
+    ensures { IfOk result (λ _. ledger.new ≡ replayed ledger.old context.now.header.now (calls_in (entries_until timestamp entries.now))) }
 {
     let mut spare = None;
     for entry in entries {
         if entry.timestamp > timestamp {
             return Ok(());
         }
-        call_on(alloc, ledger, &entry.call, header, ops, &mut spare)?;
+        call_on(context, ledger, &entry.call, &mut spare)?;
     }
     Ok(())
 }

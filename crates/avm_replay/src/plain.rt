@@ -8,7 +8,7 @@ use avm_block::{Block, Entry, MAX_ENTRIES, first_beyond, outcome_has_place};
 use avm_call::Call;
 use avm_ledger::{Header, Ledger};
 use avm_ops::Op;
-use avm_run::{FullOps, call_on};
+use avm_run::{FullOps, RunContext, call_on};
 use std::alloc::{AllocError, Global};
 use teal_value::Failure;
 use thiserror::Error;
@@ -58,29 +58,28 @@ pub fn plain_block<O: Op>(
     }
     let base = ledger.digest(alloc)?;
     let mut after = ledger.clone()?;
-    let entries = entries_of(alloc, &mut after, header, &calls, ops)?;
+    let context = RunContext { alloc, ops, header };
+    let entries = entries_of(&context, &mut after, &calls)?;
     let digest = after.digest(alloc)?;
     Ok(Block::new(base, *header, entries, digest))
 }
 
 /// Makes calls on a ledger, one after another, and gives them as entries.
 fn entries_of<O: Op>(
-    alloc: Global,
+    context: &RunContext<'_, O>,
     ledger: &mut Ledger,
-    header: &Header,
     calls: &[Call],
-    ops: &FullOps<O>,
 ) -> Result<Vec<Entry>, AllocError>
     requires few { length calls.now ≤ MAX_ENTRIES }
-    ensures { IfOk result (λ entries. AreMade ledger.old header.now calls.now entries.items ledger.new) }
+    ensures { IfOk result (λ entries. AreMade ledger.old context.now.header.now calls.now entries.items ledger.new) }
 {
     let mut spare = None;
-    let mut entries = Vec::new(alloc);
+    let mut entries = Vec::new(context.alloc);
     let mut timestamp = 0;
     for call in calls {
         timestamp += 1;
-        outcome_has_place(ledger, call, header);
-        let outcome = call_on(alloc, ledger, call, header, ops, &mut spare)?;
+        outcome_has_place(ledger, call, context.header);
+        let outcome = call_on(context, ledger, call, &mut spare)?;
         entries.push(Entry {
             timestamp,
             call: call.clone()?,

@@ -7,9 +7,9 @@ use crate::base::Base;
 use crate::verdict::Verdict;
 use avm_block::{Block, Entry, MAX_ENTRIES};
 use avm_call::Outcome;
-use avm_ledger::{Header, Ledger};
+use avm_ledger::Ledger;
 use avm_ops::Op;
-use avm_run::{FullOps, call_on};
+use avm_run::{FullOps, RunContext, call_on};
 use std::alloc::{AllocError, Global};
 
 /// Makes the calls of a block over the ledger before it, and compares. The ledger is copied once; a call costs what it
@@ -40,13 +40,12 @@ pub fn replay_owned<O: Op>(
         return Ok(Verdict::WrongBase);
     }
     let mut after = base.into_ledger();
-    if let Some((entry, found)) = first_wrong(
+    let context = RunContext {
         alloc,
-        &mut after,
-        block.header(),
-        block.entries(),
         ops,
-    )? {
+        header: block.header(),
+    };
+    if let Some((entry, found)) = first_wrong(&context, &mut after, block.entries())? {
         return Ok(Verdict::WrongOutcome { entry, found });
     }
     if after.digest(alloc)? != *block.after() {
@@ -58,20 +57,18 @@ pub fn replay_owned<O: Op>(
 /// Makes the calls of entries on a ledger, up to the first that ends otherwise than its entry says; gives its number and
 /// how it ends.
 fn first_wrong<O: Op>(
-    alloc: Global,
+    context: &RunContext<'_, O>,
     ledger: &mut Ledger,
-    header: &Header,
     entries: &[Entry],
-    ops: &FullOps<O>,
 ) -> Result<Option<(usize, Outcome)>, AllocError>
     requires few { length entries.now ≤ MAX_ENTRIES }
-    ensures { IfOk result (Compares ledger.old ledger.new header.now entries.now) }
+    ensures { IfOk result (Compares ledger.old ledger.new context.now.header.now entries.now) }
 {
     let mut spare = None;
     let mut number = 0;
     for entry in entries {
         number += 1;
-        let found = call_on(alloc, ledger, &entry.call, header, ops, &mut spare)?;
+        let found = call_on(context, ledger, &entry.call, &mut spare)?;
         if !are_same(found, entry.outcome) {
             return Ok(Some((number, found)));
         }

@@ -15,6 +15,7 @@ ghost use Rattle.avm_run.specs.Knowing.{Knows};
 ghost use Rattle.avm_run.specs.RunState.{is_asked};
 ghost use Rattle.avm_run.specs.Showing.{Shows};
 
+use crate::context::RunContext;
 use crate::executions::Executions;
 use crate::finished::Finished;
 use crate::full_ops::FullOps;
@@ -300,15 +301,12 @@ impl CallRun {
                     phase,
                     asked: _asked,
                 } = live;
-                match run_on(
+                let context = RunContext {
                     alloc,
                     ops,
-                    &call,
-                    &header,
-                    phase,
-                    &mut self.spare,
-                    executions,
-                ) {
+                    header: &header,
+                };
+                match run_on(&context, &call, phase, &mut self.spare, executions) {
                     Ok(RunOutcome::Need(phase, item)) => {
                         self.state = asking(call, header, phase, &item);
                         Ok(Advance::Need(item))
@@ -368,15 +366,12 @@ impl CallRun {
                     phase,
                     asked: _asked,
                 } = live;
-                match step_on(
+                let context = RunContext {
                     alloc,
                     ops,
-                    &call,
-                    &header,
-                    phase,
-                    &mut self.spare,
-                    executions,
-                ) {
+                    header: &header,
+                };
+                match step_on(&context, &call, phase, &mut self.spare, executions) {
                     Ok(PathOutcome::On(phase)) => {
                         self.state = going(call, header, phase);
                         Ok(Step::Moved)

@@ -5,6 +5,7 @@
 
 mod admission;
 mod call_run;
+mod context;
 mod ending;
 mod executions;
 mod finished;
@@ -18,6 +19,7 @@ mod running;
 mod shown;
 
 pub use call_run::{Advance, CallRun, RunFault, Step};
+pub use context::RunContext;
 pub use executions::Executions;
 pub use finished::Finished;
 pub use full_ops::FullOps;

@@ -11,17 +11,17 @@ ghost use Rattle.avm_run.specs.Executions.{ExecutesAtMost};
 ghost use Rattle.avm_run.specs.ExecutedSteps.{CallExecutes};
 
 use crate::admission::first_item;
+use crate::context::RunContext;
 use crate::executions::Executions;
-use crate::full_ops::FullOps;
 use crate::phase::{EndedRun, Phase, RunOutcome, run_on};
 use crate::running::Spare;
 use avm_call::{Call, Outcome};
 use avm_items::{ItemMap, item_of, put_items};
 use avm_laws::call_laws::changes_are_handed_on;
 use avm_laws::order_laws::every_call_keeps_order;
-use avm_ledger::{Header, Ledger};
+use avm_ledger::Ledger;
 use avm_ops::Op;
-use std::alloc::{AllocError, Global};
+use std::alloc::AllocError;
 use std::marker::Brand;
 use std::sync::ledger;
 use std::sync::ledger::Blank;
@@ -31,107 +31,97 @@ use std::sync::ledger::Blank;
 /// The program runs in the spare box, on its machine, and leaves it for the next call: a first call is handed `None`, and
 /// further ones need no memory for either.
 pub fn call_on<O: Op>(
-    alloc: Global,
+    context: &RunContext<'_, O>,
     ledger: &mut Ledger,
     call: &Call,
-    header: &Header,
-    ops: &FullOps<O>,
     spare: &mut Option<Spare>,
 ) -> Result<Outcome, AllocError>
-    ensures outcome { IfOk result (λ outcome. outcome ≡ outcome_on ledger.old call.now header.now) }
-    ensures after { IfOk result (λ _. ledger.new ≡ ledger_after ledger.old call.now header.now) }
+    ensures outcome { IfOk result (λ outcome. outcome ≡ outcome_on ledger.old call.now context.now.header.now) }
+    ensures after { IfOk result (λ _. ledger.new ≡ ledger_after ledger.old call.now context.now.header.now) }
     ensures unchanged { IfErr result (λ _. ledger.new ≡ ledger.old) }
 {
-    call_on_blank::<Brand, O>(alloc, ledger, call, header, ops, spare, Blank::new(2))
+    call_on_blank::<Brand, O>(context, ledger, call, spare, Blank::new(2))
 }
 
 /// Makes a call on a ledger, and counts on a new one of counts.
 #[inline]
 fn call_on_blank<L: ledger::Ledger, O: Op>(
-    alloc: Global,
+    context: &RunContext<'_, O>,
     ledger: &mut Ledger,
     call: &Call,
-    header: &Header,
-    ops: &FullOps<O>,
     spare: &mut Option<Spare>,
     blank: Blank,
 ) -> Result<Outcome, AllocError>
     requires name { blank.name ≡ L.name }
     requires two { blank.parts ≡ 2 }
     requires parts { blank.parts ≡ L.parts }
-    ensures outcome { IfOk result (λ outcome. outcome ≡ outcome_on ledger.old call.now header.now) }
-    ensures after { IfOk result (λ _. ledger.new ≡ ledger_after ledger.old call.now header.now) }
+    ensures outcome { IfOk result (λ outcome. outcome ≡ outcome_on ledger.old call.now context.now.header.now) }
+    ensures after { IfOk result (λ _. ledger.new ≡ ledger_after ledger.old call.now context.now.header.now) }
     ensures unchanged { IfErr result (λ _. ledger.new ≡ ledger.old) }
 {
     let mut executions = Executions::<L>::new(blank);
-    call_on_counted(alloc, ledger, call, header, ops, spare, &mut executions)
+    call_on_counted(context, ledger, call, spare, &mut executions)
 }
 
 /// Makes a call on a ledger as [`call_on`] does, and counts the instructions that are executed: one for each step of its
 /// program's path, and so no more than the program has, and none where no program runs. An instruction that asks for an
 /// item is executed again with it; that and a fault are counted apart.
 pub fn call_on_counted<L: ledger::Ledger, O: Op>(
-    alloc: Global,
+    context: &RunContext<'_, O>,
     ledger: &mut Ledger,
     call: &Call,
-    header: &Header,
-    ops: &FullOps<O>,
     spare: &mut Option<Spare>,
     executions: &mut Executions<L>,
 ) -> Result<Outcome, AllocError>
-    ensures outcome { IfOk result (λ outcome. outcome ≡ outcome_on ledger.old call.now header.now) }
-    ensures after { IfOk result (λ _. ledger.new ≡ ledger_after ledger.old call.now header.now) }
+    ensures outcome { IfOk result (λ outcome. outcome ≡ outcome_on ledger.old call.now context.now.header.now) }
+    ensures after { IfOk result (λ _. ledger.new ≡ ledger_after ledger.old call.now context.now.header.now) }
     ensures unchanged { IfErr result (λ _. ledger.new ≡ ledger.old) }
-    ensures executes { IfOk result (λ outcome. CallExecutes ledger.old call.now header.now outcome executions.old executions.new) }
+    ensures executes { IfOk result (λ outcome. CallExecutes ledger.old call.now context.now.header.now outcome executions.old executions.new) }
     ensures few { IfErr result (λ _. ExecutesAtMost most_program_bytes (most_items + 1) executions.old executions.new) }
 {
-    let closed = run_over(alloc, ledger, call, header, ops, spare, executions)?;
+    let closed = run_over(context, ledger, call, spare, executions)?;
     // What the call leaves is a ledger. All that it writes is put, also what is there already, which changes nothing.
     ledger.holds();
     every_call_keeps_order();
     changes_are_handed_on();
-    put_items(alloc, ledger, closed.writes)?;
+    put_items(context.alloc, ledger, closed.writes)?;
     Ok(closed.outcome)
 }
 
 /// Makes a call on a copy of a ledger.
 pub fn call_plain<O: Op>(
-    alloc: Global,
+    context: &RunContext<'_, O>,
     ledger: &Ledger,
     call: &Call,
-    header: &Header,
-    ops: &FullOps<O>,
 ) -> Result<(Outcome, Ledger), AllocError>
-    ensures outcome { IfOk result (λ r. r.0 ≡ outcome_on ledger.now call.now header.now) }
-    ensures after { IfOk result (λ r. r.1 ≡ ledger_after ledger.now call.now header.now) }
+    ensures outcome { IfOk result (λ r. r.0 ≡ outcome_on ledger.now call.now context.now.header.now) }
+    ensures after { IfOk result (λ r. r.1 ≡ ledger_after ledger.now call.now context.now.header.now) }
 {
     let mut after = ledger.clone()?;
     let mut spare = None;
-    let outcome = call_on(alloc, &mut after, call, header, ops, &mut spare)?;
+    let outcome = call_on(context, &mut after, call, &mut spare)?;
     Ok((outcome, after))
 }
 
 /// The run of a call that is supplied with a ledger's items.
 fn run_over<L: ledger::Ledger, O: Op>(
-    alloc: Global,
+    context: &RunContext<'_, O>,
     ledger: &Ledger,
     call: &Call,
-    header: &Header,
-    ops: &FullOps<O>,
     spare: &mut Option<Spare>,
     executions: &mut Executions<L>,
 ) -> Result<EndedRun, AllocError>
-    ensures result { IfOk result (λ closed. (closed.outcome, closed.writes) ≡ result_over (at ledger.now) (call_result call.now header.now)) }
-    ensures executes { IfOk result (λ closed. CallExecutes ledger.now call.now header.now closed.outcome executions.old executions.new) }
+    ensures result { IfOk result (λ closed. (closed.outcome, closed.writes) ≡ result_over (at ledger.now) (call_result call.now context.now.header.now)) }
+    ensures executes { IfOk result (λ closed. CallExecutes ledger.now call.now context.now.header.now closed.outcome executions.old executions.new) }
     ensures few { IfErr result (λ _. ExecutesAtMost most_program_bytes (most_items + 1) executions.old executions.new) }
 {
     // That the call keeps the rules of calls, its type says.
     let _fields = call.fields();
     let first = first_item(call);
     let value = item_of(ledger, &first)?;
-    let mut phase = Phase::Tests(ItemMap::new(alloc)).supplied(first, value)?;
+    let mut phase = Phase::Tests(ItemMap::new(context.alloc)).supplied(first, value)?;
     loop {
-        match run_on(alloc, ops, call, header, phase, spare, executions)? {
+        match run_on(context, call, phase, spare, executions)? {
             RunOutcome::Need(asking, item) => {
                 let value = item_of(ledger, &item)?;
                 phase = asking.supplied(item, value)?;

@@ -1,5 +1,5 @@
 //! The steps of a run: the tests before the program, the program, and what comes after it. What moves from step to step is
-//! the phase alone; the call and the header are lent.
+//! the phase alone; the call and what it is run with are lent.
 
 ghost use Rattle.std.specs.Prelude.{◌≡◌, ◌-◌, Ok, Some, IfErr, IfOk, IsTrue};
 ghost use Rattle.teal_code.specs.Limits.{most_program_bytes};
@@ -11,15 +11,14 @@ ghost use Rattle.avm_run.specs.Progress.{ClosesAs, EndsRun, Follows, GoesTo, IsS
 ghost use Rattle.avm_run.specs.Standing.{BeginsRun};
 
 use crate::admission::{AdmissionStop, Admitted, admit};
+use crate::context::RunContext;
 use crate::ending::{cleared, end_call};
 use crate::executions::Executions;
-use crate::full_ops::FullOps;
-use crate::running::{Running, Spare, StepsOutcome, make_steps, start_program};
+use crate::running::{Callee, Running, Spare, StepsOutcome, make_steps, start_program};
 use avm_call::{Call, Cause, Ended, Outcome};
 use avm_items::{Env, Item, ItemMap, ItemValue};
-use avm_ledger::Header;
 use avm_ops::Op;
-use std::alloc::{AllocError, Global};
+use std::alloc::AllocError;
 use std::mem;
 use std::sync::ledger::Ledger;
 
@@ -113,72 +112,68 @@ fn keeps_programs(value: &ItemValue)
 /// Runs on to the end of the call, or to an item that was not supplied. A program begins in the spare box, where there is
 /// one, and leaves its own there at its end.
 pub(crate) fn run_on<L: Ledger, O: Op>(
-    alloc: Global,
-    ops: &FullOps<O>,
+    context: &RunContext<'_, O>,
     call: &Call,
-    header: &Header,
     phase: Phase,
     spare: &mut Option<Spare>,
     executions: &mut Executions<L>,
 ) -> Result<RunOutcome, AllocError>
-    requires follows { Follows call.now header.now phase }
-    ensures runs { IfOk result (λ ran. RunsTo call.now header.now (reads_of phase) ran) }
-    ensures executes { IfOk result (λ ran. RunExecutes call.now header.now (reads_of phase) (steps_of phase) ran executions.old executions.new) }
+    requires follows { Follows call.now context.now.header.now phase }
+    ensures runs { IfOk result (λ ran. RunsTo call.now context.now.header.now (reads_of phase) ran) }
+    ensures executes { IfOk result (λ ran. RunExecutes call.now context.now.header.now (reads_of phase) (steps_of phase) ran executions.old executions.new) }
     ensures few { IfErr result (λ _. ExecutesAtMost (most_program_bytes - steps_made (steps_of phase)) 1 executions.old executions.new) }
 {
     match phase {
-        Phase::Tests(items) => match run_tests(alloc, call, header, items, spare)? {
+        Phase::Tests(items) => match run_tests(context, call, items, spare)? {
             AdmissionOutcome::Begins(running) => run_program(
-                alloc, ops, call, header, running, spare, executions,
+                context, call, running, spare, executions,
             ),
             AdmissionOutcome::Stops(ran) => Ok(ran),
         },
-        Phase::Runs(running) => run_program(alloc, ops, call, header, running, spare, executions),
+        Phase::Runs(running) => run_program(context, call, running, spare, executions),
     }
 }
 
 /// Makes the next step of the path of the call's program. The first leads to the start of the program. The spare box is used
 /// as by [`run_on`].
 pub(crate) fn step_on<L: Ledger, O: Op>(
-    alloc: Global,
-    ops: &FullOps<O>,
+    context: &RunContext<'_, O>,
     call: &Call,
-    header: &Header,
     phase: Phase,
     spare: &mut Option<Spare>,
     executions: &mut Executions<L>,
 ) -> Result<PathOutcome, AllocError>
-    requires follows { Follows call.now header.now phase }
-    ensures goes { IfOk result (λ went. GoesTo call.now header.now (reads_of phase) (steps_of phase) went) }
-    ensures executes { IfOk result (λ went. GoExecutes call.now header.now (reads_of phase) (steps_of phase) went executions.old executions.new) }
+    requires follows { Follows call.now context.now.header.now phase }
+    ensures goes { IfOk result (λ went. GoesTo call.now context.now.header.now (reads_of phase) (steps_of phase) went) }
+    ensures executes { IfOk result (λ went. GoExecutes call.now context.now.header.now (reads_of phase) (steps_of phase) went executions.old executions.new) }
     ensures few { IfErr result (λ _. ExecutesAtMost 0 1 executions.old executions.new) }
 {
     match phase {
-        Phase::Tests(items) => match run_tests(alloc, call, header, items, spare)? {
+        Phase::Tests(items) => match run_tests(context, call, items, spare)? {
             AdmissionOutcome::Begins(running) => Ok(PathOutcome::On(Phase::Runs(running))),
             AdmissionOutcome::Stops(ran) => Ok(PathOutcome::Stops(ran)),
         },
-        Phase::Runs(running) => step_program(alloc, ops, call, header, running, executions),
+        Phase::Runs(running) => step_program(context, call, running, executions),
     }
 }
 
 /// Makes the tests before the program, and stands before its first instruction where they pass.
-fn run_tests(
-    alloc: Global,
+fn run_tests<O: Op>(
+    context: &RunContext<'_, O>,
     call: &Call,
-    header: &Header,
     items: ItemMap,
     spare: &mut Option<Spare>,
 ) -> Result<AdmissionOutcome, AllocError>
-    ensures { IfOk result (λ tested. TestsTo call.now header.now items tested) }
+    ensures { IfOk result (λ tested. TestsTo call.now context.now.header.now items tested) }
 {
-    match admit(alloc, call, &items) {
+    match admit(context.alloc, call, &items) {
         Ok(Admitted { id, row: Some(row) }) => {
-            let running = start_program(alloc, call, header, items, id, row, spare)?;
+            let callee = Callee { id, row };
+            let running = start_program(context, call, items, callee, spare)?;
             Ok(AdmissionOutcome::Begins(running))
         }
         Ok(Admitted { id, row: None }) => {
-            let end = cleared(alloc, call, id, Cause::Gone)?;
+            let end = cleared(context.alloc, call, id, Cause::Gone)?;
             Ok(AdmissionOutcome::Stops(RunOutcome::Done(EndedRun {
                 reads: items,
                 writes: end.writes,
@@ -188,7 +183,7 @@ fn run_tests(
         Err(AdmissionStop::Refused(why)) => Ok(AdmissionOutcome::Stops(RunOutcome::Done(
             EndedRun {
                 reads: items,
-                writes: ItemMap::new(alloc),
+                writes: ItemMap::new(context.alloc),
                 outcome: Outcome::Refused(why),
             },
         ))),
@@ -202,20 +197,18 @@ fn run_tests(
 
 /// Makes one step of the program's path.
 fn step_program<L: Ledger, O: Op>(
-    alloc: Global,
-    ops: &FullOps<O>,
+    context: &RunContext<'_, O>,
     call: &Call,
-    header: &Header,
     running: Box<Running>,
     executions: &mut Executions<L>,
 ) -> Result<PathOutcome, AllocError>
-    requires begun { BeginsRun call.now header.now running.value.env.reads running.value }
-    ensures goes { IfOk result (λ went. GoesTo call.now header.now running.value.env.reads (Some running.value.steps) went) }
-    ensures executes { IfOk result (λ went. GoExecutes call.now header.now running.value.env.reads (Some running.value.steps) went executions.old executions.new) }
+    requires begun { BeginsRun call.now context.now.header.now running.value.env.reads running.value }
+    ensures goes { IfOk result (λ went. GoesTo call.now context.now.header.now running.value.env.reads (Some running.value.steps) went) }
+    ensures executes { IfOk result (λ went. GoExecutes call.now context.now.header.now running.value.env.reads (Some running.value.steps) went executions.old executions.new) }
     ensures few { IfErr result (λ _. ExecutesAtMost 0 1 executions.old executions.new) }
 {
     let mut running = running;
-    match make_steps(alloc, ops, &mut running, 1, executions)? {
+    match make_steps(context.alloc, context.ops, &mut running, 1, executions)? {
         StepsOutcome::Made => Ok(PathOutcome::On(Phase::Runs(running))),
         StepsOutcome::Need(item) => Ok(PathOutcome::Stops(RunOutcome::Need(
             Phase::Runs(running),
@@ -227,21 +220,25 @@ fn step_program<L: Ledger, O: Op>(
 
 /// Runs the program on to its end, or to an item that was not supplied.
 fn run_program<L: Ledger, O: Op>(
-    alloc: Global,
-    ops: &FullOps<O>,
+    context: &RunContext<'_, O>,
     call: &Call,
-    header: &Header,
     running: Box<Running>,
     spare: &mut Option<Spare>,
     executions: &mut Executions<L>,
 ) -> Result<RunOutcome, AllocError>
-    requires begun { BeginsRun call.now header.now running.value.env.reads running.value }
-    ensures runs { IfOk result (λ ran. RunsTo call.now header.now running.value.env.reads ran) }
-    ensures executes { IfOk result (λ ran. RunExecutes call.now header.now running.value.env.reads (Some running.value.steps) ran executions.old executions.new) }
+    requires begun { BeginsRun call.now context.now.header.now running.value.env.reads running.value }
+    ensures runs { IfOk result (λ ran. RunsTo call.now context.now.header.now running.value.env.reads ran) }
+    ensures executes { IfOk result (λ ran. RunExecutes call.now context.now.header.now running.value.env.reads (Some running.value.steps) ran executions.old executions.new) }
     ensures few { IfErr result (λ _. ExecutesAtMost (most_program_bytes - running.value.steps) 1 executions.old executions.new) }
 {
     let mut running = running;
-    match make_steps(alloc, ops, &mut running, u16::MAX, executions) {
+    match make_steps(
+        context.alloc,
+        context.ops,
+        &mut running,
+        u16::MAX,
+        executions,
+    ) {
         // No path has so many.
         Ok(StepsOutcome::Made) => unreachable!(),
         Ok(StepsOutcome::Need(item)) => Ok(RunOutcome::Need(
@@ -249,7 +246,7 @@ fn run_program<L: Ledger, O: Op>(
             Box::into_inner(item),
         )),
         Ok(StepsOutcome::Ended(ended)) => Ok(RunOutcome::Done(close(
-            alloc, call, header, running, ended, spare,
+            context, call, running, ended, spare,
         )?)),
         Err(AllocError) => {
             discard(running);
@@ -272,41 +269,39 @@ fn give_back(spare: &mut Option<Spare>, running: Box<Running>) {
 }
 
 /// A run whose program has ended so. Its box is spare again.
-fn close(
-    alloc: Global,
+fn close<O: Op>(
+    context: &RunContext<'_, O>,
     call: &Call,
-    header: &Header,
     running: Box<Running>,
     ended: Ended,
     spare: &mut Option<Spare>,
 ) -> Result<EndedRun, AllocError>
-    requires ends { ClosesAs call.now header.now running.value ended }
-    ensures ends { IfOk result (λ closed. EndsRun call.now header.now running.value.env.reads closed) }
+    requires ends { ClosesAs call.now context.now.header.now running.value ended }
+    ensures ends { IfOk result (λ closed. EndsRun call.now context.now.header.now running.value.env.reads closed) }
     ensures outcome { IfOk result (λ closed. closed.outcome ≡ outcome_of call.now.completion ended) }
 {
     let mut running = running;
-    let closed = ended_run(alloc, call, header, &mut running, ended);
+    let closed = ended_run(context, call, &mut running, ended);
     give_back(spare, running);
     closed
 }
 
 /// Takes the items out of a run whose program has ended so, and ends the call.
-fn ended_run(
-    alloc: Global,
+fn ended_run<O: Op>(
+    context: &RunContext<'_, O>,
     call: &Call,
-    header: &Header,
     running: &mut Running,
     ended: Ended,
 ) -> Result<EndedRun, AllocError>
-    requires ends { ClosesAs call.now header.now running.old ended }
-    ensures ends { IfOk result (λ closed. EndsRun call.now header.now running.old.env.reads closed) }
+    requires ends { ClosesAs call.now context.now.header.now running.old ended }
+    ensures ends { IfOk result (λ closed. EndsRun call.now context.now.header.now running.old.env.reads closed) }
     ensures outcome { IfOk result (λ closed. closed.outcome ≡ outcome_of call.now.completion ended) }
 {
     let id = running.env.current();
-    let empty = Env::new(alloc, call.shared_fields()?, *header, id);
+    let empty = Env::new(context.alloc, call.shared_fields()?, *context.header, id);
     let env = mem::replace(&mut running.env, empty);
     let (reads, writes) = env.into_items();
-    let end = end_call(alloc, call, id, running.row.get(), writes, ended)?;
+    let end = end_call(context.alloc, call, id, running.row.get(), writes, ended)?;
     Ok(EndedRun {
         reads,
         writes: end.writes,

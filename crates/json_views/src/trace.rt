@@ -23,12 +23,11 @@ use avm_input::outcome_text;
 use avm_items::Completion;
 use avm_ledger::{Header, Ledger};
 use avm_ops::Op;
-use avm_run::{FullOps, call_plain};
+use avm_run::{FullOps, RunContext, call_plain};
 use avm_stepper::{Stepper, entry_of};
 use json::Pretty;
 use std::alloc::{AllocError, Global};
 use teal_check::Program;
-use teal_dis::line_numbers;
 use teal_value::Failure;
 
 /// The text of the trace of a block's entry over the ledger before the block, or why there is none. Entries are numbered
@@ -84,7 +83,8 @@ fn trace_text<O: Op>(
     ensures text { IfOk result (λ text. IsTraceText stepper.old entry.now.outcome (string_bytes text)) }
     ensures refused { IfErr result (IsTraceFailure stepper.old entry.now.outcome) }
 {
-    let (outcome, _after) = call_plain(alloc, stepper.ledger(), &entry.call, header, ops)?;
+    let context = RunContext { alloc, ops, header };
+    let (outcome, _after) = call_plain(&context, stepper.ledger(), &entry.call)?;
     let mut out = Pretty::new(alloc);
     begin_object(&mut out)?;
     put_name(&mut out, "app-call-messages")?;
@@ -138,9 +138,8 @@ fn put_run<O: Op>(
     ensures refused { IfErr result (IsStatesFailure stepper.old) }
 {
     let program = program_of(stepper)?;
-    let lines = line_numbers(alloc, &program)?;
     put_name(out, "app-call-trace")?;
-    put_states(alloc, out, &program, &lines, stepper, ops)?;
+    put_states(alloc, out, &program, stepper, ops)?;
     put_name(out, "disassembly")?;
     put_disassembly(alloc, out, &program)?;
     Ok(())

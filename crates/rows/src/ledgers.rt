@@ -16,7 +16,7 @@ use avm_call_codec::{CallCodec, CallDataFault};
 use avm_items::CallData;
 use avm_ledger::{Header, Ledger, LedgerFault, Profile};
 use avm_ops::Op;
-use avm_run::{FullOps, call_on};
+use avm_run::{FullOps, RunContext, call_on};
 use sample_calls::calls::{HEADER, call_or_fault};
 use sample_calls::programs::Programs;
 use sample_calls::words::{joined, number, word};
@@ -173,8 +173,13 @@ fn called<O: Op>(
     match call_or_fault(alloc, &bench.programs, words)? {
         Ok(call) => {
             let header = bench.header(profile.unwrap_or(call.needs()));
+            let context = RunContext {
+                alloc,
+                ops,
+                header: &header,
+            };
             let mut spare = None;
-            let outcome = call_on(alloc, &mut bench.ledger, &call, &header, ops, &mut spare)?;
+            let outcome = call_on(&context, &mut bench.ledger, &call, &mut spare)?;
             Ok(format!(in alloc; "{outcome:?} {:?}", header.profile)?)
         }
         Err(fault) => Ok(format!(in alloc; "{fault:?}")?),

@@ -9,7 +9,7 @@ use avm_debug::{Debugger, PastError, Source, state_of};
 use avm_items::Item;
 use avm_ledger::{Header, Ledger};
 use avm_ops::Op;
-use avm_run::{Advance, CallRun, Finished, FullOps, call_plain};
+use avm_run::{Advance, CallRun, Finished, FullOps, RunContext, call_plain};
 use mv_core::{CommitFault, Event, ReadFault, Store, Ticket, Tools, Worker, World, run_events};
 use mv_parts::{BeginFault, Sealed};
 use sample_calls::calls::HEADER;
@@ -380,7 +380,12 @@ pub fn other_ledger(alloc: Global) -> Ledger {
 fn plain<O: Op>(alloc: Global, ops: &FullOps<O>, stored: &Stored) -> Result<Said, AllocError> {
     match stored.calls.first() {
         Some(call) => {
-            let (outcome, after) = call_plain(alloc, &stored.base, call, &HEADER, ops)?;
+            let context = RunContext {
+                alloc,
+                ops,
+                header: &HEADER,
+            };
+            let (outcome, after) = call_plain(&context, &stored.base, call)?;
             let digits = digits_of(alloc, &after)?;
             Ok(Said::Text(format!(in alloc; "{outcome:?} {digits}")?))
         }

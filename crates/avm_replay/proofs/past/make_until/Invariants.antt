@@ -8,5 +8,5 @@ abbrev pub invariant-loop-entry : goal.invariant-loop-entry
 invariant-loop-entry g l = record {
   before : ℕ;
   rises : RisesAbove before (drop l.entry-index l.entries);
-  rest : replayed l.ledger l.header (calls_in (entries_until l.timestamp (drop l.entry-index l.entries))) ≡ replayed l.initial.ledger l.header (calls_in (entries_until l.timestamp l.entries));
+  rest : replayed l.ledger l.context.header.now (calls_in (entries_until l.timestamp (drop l.entry-index l.entries))) ≡ replayed l.initial.ledger l.context.header.now (calls_in (entries_until l.timestamp l.entries));
 }

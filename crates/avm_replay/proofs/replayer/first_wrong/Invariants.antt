@@ -3,4 +3,4 @@ use Rattle.avm_replay.specs.Verdicts.{Compares}
 use Rattle.avm_replay.proofs.replayer.first_wrong.Given as goal
 
 abbrev pub invariant-loop-entry : goal.invariant-loop-entry
-invariant-loop-entry g l = (l.number ≡ l.entry-index) × Compares l.initial.ledger l.ledger l.header (take l.entry-index l.entries) None
+invariant-loop-entry g l = (l.number ≡ l.entry-index) × Compares l.initial.ledger l.ledger l.context.header.now (take l.entry-index l.entries) None

@@ -16,7 +16,7 @@ use Rattle.avm_run.proofs.on_ledger.run_over.Goals as goal
 pub loop-asking-init : goal.loop-asking-init
 loop-asking-init g c =
     let call = c.args.call.now in
-    let header = c.args.header.now in
+    let header = c.args.context.now.header.now in
     let alive = starts_alive call header c.new.result c.new.ensures c.fields-fields.ensures.checked in
     let asks = ap (λ items. answer_from (value_in items) (call_result call header)) c.new.ensures ∙ c.first_item-first.ensures header in
     let given = supplied call header (phase.Tests c.new.result) c.in_ok-phase.phase c.first_item-first.result c.in_ok-value.value alive asks c.supplied.ensures.programs c.in_ok-phase.ensures.supplied in
@@ -32,7 +32,7 @@ loop-asking-init g c =
 pub loop-asking-smaller : goal.loop-asking-smaller
 loop-asking-smaller g c =
     let call = c.args.call.now in
-    let header = c.args.header.now in
+    let header = c.args.context.now.header.now in
     let items = reads_of c.loop-asking.phase in
     let asks = rw c.in-Need.is at c.in_ok-asking.ensures.runs in
     let alive = asks_alive call header items c.in-Need.asking c.in-Need.item c.loop-asking.invariant.alive.few asks in
@@ -45,7 +45,7 @@ loop-asking-smaller g c =
 pub loop-asking-preserved : goal.loop-asking-preserved
 loop-asking-preserved g c =
     let call = c.args.call.now in
-    let header = c.args.header.now in
+    let header = c.args.context.now.header.now in
     let items = reads_of c.loop-asking.phase in
     let asks = rw c.in-Need.is at c.in_ok-asking.ensures.runs in
     let alive = asks_alive call header items c.in-Need.asking c.in-Need.item c.loop-asking.invariant.alive.few asks in
@@ -64,32 +64,32 @@ loop-asking-preserved g c =
 pub returns-in-Done-clause-result : goal.returns-in-Done-clause-result
 returns-in-Done-clause-result g c =
     let call = c.args.call.now in
-    let header = c.args.header.now in
+    let header = c.args.context.now.header.now in
     let ends = (rw c.in-Done.is at c.in_ok-asking.ensures.runs).run in
     sym (result_on_ledger (value_in (reads_of c.loop-asking.phase)) (at c.args.ledger.now) (call_result call header) _ c.loop-asking.invariant.agrees ends.definition)
 
 pub returns-in-Done-clause-executes : goal.returns-in-Done-clause-executes
 returns-in-Done-clause-executes g c =
     let i = c.loop-asking.invariant in
-    executed_all c.args.ledger.now c.args.call.now c.args.header.now (reads_of c.loop-asking.phase) _ (steps_of c.loop-asking.phase) _ _ _ i.agrees i.alive.few.asked i.few i.executed (rw c.in-Done.is at c.in_ok-asking.ensures.executes)
+    executed_all c.args.ledger.now c.args.call.now c.args.context.now.header.now (reads_of c.loop-asking.phase) _ (steps_of c.loop-asking.phase) _ _ _ i.agrees i.alive.few.asked i.few i.executed (rw c.in-Done.is at c.in_ok-asking.ensures.executes)
 
 pub returns-in_err-asking-clause-few : goal.returns-in_err-asking-clause-few
 returns-in_err-asking-clause-few g c =
     let i = c.loop-asking.invariant in
     let steps = steps_of c.loop-asking.phase in
-    let made = few_made c.args.call.now c.args.header.now c.loop-asking.phase i.alive.follows in
+    let made = few_made c.args.call.now c.args.context.now.header.now c.loop-asking.phase i.alive.follows in
     if_err _ _ (refused_running steps (length (reads_of c.loop-asking.phase)) _ _ _ i.executed made i.few c.in_err-asking.ensures.few)
 
 pub returns-in_err-value-in-Need-clause-few : goal.returns-in_err-value-in-Need-clause-few
 returns-in_err-value-in-Need-clause-few g c =
     let i = c.loop-asking.invariant in
     let asks = rw c.in-Need.is at c.in_ok-asking.ensures.runs in
-    let made = few_made c.args.call.now c.args.header.now c.in-Need.asking asks.follows in
+    let made = few_made c.args.call.now c.args.context.now.header.now c.in-Need.asking asks.follows in
     if_err _ _ (refused_asking (steps_of c.loop-asking.phase) (steps_of c.in-Need.asking) (length (reads_of c.loop-asking.phase)) _ _ _ i.executed (rw c.in-Need.is at c.in_ok-asking.ensures.executes) made i.few)
 
 pub returns-in_err-phase-in-Need-clause-few : goal.returns-in_err-phase-in-Need-clause-few
 returns-in_err-phase-in-Need-clause-few g c =
     let i = c.loop-asking.invariant in
     let asks = rw c.in-Need.is at c.in_ok-asking.ensures.runs in
-    let made = few_made c.args.call.now c.args.header.now c.in-Need.asking asks.follows in
+    let made = few_made c.args.call.now c.args.context.now.header.now c.in-Need.asking asks.follows in
     if_err _ _ (refused_asking (steps_of c.loop-asking.phase) (steps_of c.in-Need.asking) (length (reads_of c.loop-asking.phase)) _ _ _ i.executed (rw c.in-Need.is at c.in_ok-asking.ensures.executes) made i.few)

@@ -9,7 +9,7 @@ use Rattle.avm_run.proofs.on_ledger.run_over.Given as goal
 
 abbrev pub invariant-loop-asking : goal.invariant-loop-asking
 invariant-loop-asking g l = record {
-  alive : IsAlive l.call l.header l.phase;
+  alive : IsAlive l.call l.context.header.now l.phase;
   agrees : LookAgrees (value_in (reads_of l.phase)) (at l.ledger);
   few : length (reads_of l.phase) ≤ most_items;
   executed : Executed (steps_of l.phase) (length (reads_of l.phase)) l.fn.executions l.executions;

@@ -16,7 +16,7 @@ pub returns-in-Ok-Need-clause-runs : goal.returns-in-Ok-Need-clause-runs
 returns-in-Ok-Need-clause-runs g c =
     let old = c.deref_mut.result.now in
     let new = c.make_steps.new.running in
-    let begun = subst (BeginsRun c.args.call.now c.args.header.now c.args.running.value.env.reads) (sym c.deref_mut.ensures.value) c.requires.begun in
+    let begun = subst (BeginsRun c.args.call.now c.args.context.now.header.now c.args.running.value.env.reads) (sym c.deref_mut.ensures.value) c.requires.begun in
     let stops = subst (λ x. StopsWithin 65535 old (λ before. AsksThere before new x)) (sym c.into_inner.ensures) (rw c.in-Ok-Need.field-0-is at c.in-Ok-Need.ensures.stops) in
     let asks = asks_behind _ _ _ 65535 old new c.into_inner.result begun stops in
     record {
@@ -29,7 +29,7 @@ returns-in-Ok-Need-clause-runs g c =
 pub close-requires : goal.close-requires
 close-requires g c =
     let call = c.args.call.now in
-    let header = c.args.header.now in
+    let header = c.args.context.now.header.now in
     let old = c.deref_mut.result.now in
     let new = c.make_steps.new.running in
     let items = c.args.running.value.env.reads in
@@ -41,7 +41,7 @@ close-requires g c =
 pub returns-in_ok-close-in-Ok-Ended-clause-runs : goal.returns-in_ok-close-in-Ok-Ended-clause-runs
 returns-in_ok-close-in-Ok-Ended-clause-runs g c =
     let call = c.args.call.now in
-    let header = c.args.header.now in
+    let header = c.args.context.now.header.now in
     let old = c.deref_mut.result.now in
     let new = c.make_steps.new.running in
     let items = c.args.running.value.env.reads in
@@ -65,7 +65,7 @@ returns-in-Ok-Need-clause-executes g c =
 pub returns-in_ok-close-in-Ok-Ended-clause-executes : goal.returns-in_ok-close-in-Ok-Ended-clause-executes
 returns-in_ok-close-in-Ok-Ended-clause-executes g c =
     let call = c.args.call.now in
-    let header = c.args.header.now in
+    let header = c.args.context.now.header.now in
     let old = c.deref_mut.result.now in
     let new = c.make_steps.new.running in
     let items = c.args.running.value.env.reads in

@@ -8,10 +8,10 @@ use Rattle.avm_run.proofs.Leading.{refused, asks_first, gone, no_path}
 use Rattle.avm_run.proofs.phase.run_tests.Goals as goal
 
 pub returns-in-Err-Refused : goal.returns-in-Err-Refused
-returns-in-Err-Refused c =
+returns-in-Err-Refused g c =
     let tests = rw c.in-Err-Refused.field-0-is at c.in-Err-Refused.ensures.tests in
     let call = c.args.call.now in
-    let header = c.args.header.now in (
+    let header = c.args.context.now.header.now in (
       record {
         same_reads = refl;
         definition = refused (value_in c.args.items) call header c.in-Err-Refused.why tests ∙ ap (λ w. Ok (Refused c.in-Err-Refused.why, w)) (sym c.new.ensures);
@@ -21,10 +21,10 @@ returns-in-Err-Refused c =
     )
 
 pub returns-in-Err-Need : goal.returns-in-Err-Need
-returns-in-Err-Need c =
+returns-in-Err-Need g c =
     let tests = rw c.in-Err-Need.field-0-is at c.in-Err-Need.ensures.tests in
     let call = c.args.call.now in
-    let header = c.args.header.now in (
+    let header = c.args.context.now.header.now in (
       record {
         same_reads = refl;
         follows = tt;
@@ -35,10 +35,10 @@ returns-in-Err-Need c =
     )
 
 pub returns-in_ok-end-in-Ok-None : goal.returns-in_ok-end-in-Ok-None
-returns-in_ok-end-in-Ok-None c =
+returns-in_ok-end-in-Ok-None g c =
     let known = value_in c.args.items in
     let call = c.args.call.now in
-    let header = c.args.header.now in
+    let header = c.args.context.now.header.now in
     let gone_row : c.in-Ok-None.field-0.row ≡ None = search rules in
     let tests : answer_from known (admitted call) ≡ Ok (Ok (record { id = c.in-Ok-None.field-0.id; row = None })) =
     c.in-Ok-None.ensures.tests ∙ (λ i. Ok (Ok (record { id = c.in-Ok-None.field-0.id; row = gone_row i }))) in (

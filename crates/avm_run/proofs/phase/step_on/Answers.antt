@@ -11,7 +11,7 @@ use Rattle.avm_run.proofs.phase.step_on.Goals as goal
 pub returns-in-Begins-clause-goes : goal.returns-in-Begins-clause-goes
 returns-in-Begins-clause-goes g c =
     let call = c.args.call.now in
-    let header = c.args.header.now in
+    let header = c.args.context.now.header.now in
     let tests = rw c.in-Begins.is at c.in_ok-running-in-Tests.ensures in
     let first = subst (HasStep call header c.in-Tests.items) tests.1 (begins_there call header c.in-Tests.items c.in-Begins.running.value tests.0) in
     record {
@@ -27,8 +27,8 @@ returns-in-Begins-clause-executes g c =
 
 pub returns-in-Stops-clause-executes : goal.returns-in-Stops-clause-executes
 returns-in-Stops-clause-executes g c =
-    subst (λ (p : Phase). GoExecutes c.args.call.now c.args.header.now (reads_of p) (steps_of p) (Stops c.in-Stops.ran) c.args.executions.now c.args.executions.now) (sym c.in-Tests.is)
-    (tests_go c.args.call.now c.args.header.now c.in-Tests.items c.in-Stops.ran c.args.executions.now)
+    subst (λ (p : Phase). GoExecutes c.args.call.now c.args.context.now.header.now (reads_of p) (steps_of p) (Stops c.in-Stops.ran) c.args.executions.now c.args.executions.now) (sym c.in-Tests.is)
+    (tests_go c.args.call.now c.args.context.now.header.now c.in-Tests.items c.in-Stops.ran c.args.executions.now)
 
 pub returns-in_err-running-in-Tests-clause-few : goal.returns-in_err-running-in-Tests-clause-few
 returns-in_err-running-in-Tests-clause-few g c = if_err _ _ (at_most_none _ _)

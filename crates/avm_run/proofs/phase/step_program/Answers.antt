@@ -10,7 +10,7 @@ use Rattle.avm_run.proofs.phase.step_program.Goals as goal
 pub returns-in-Made-clause-goes : goal.returns-in-Made-clause-goes
 returns-in-Made-clause-goes g c =
     let call = c.args.call.now in
-    let header = c.args.header.now in
+    let header = c.args.context.now.header.now in
     let old = c.deref_mut.result.now in
     let new = c.make_steps.new.running in
     let items = c.args.running.value.env.reads in
@@ -28,7 +28,7 @@ returns-in-Made-clause-goes g c =
 pub returns-in-Need-clause-goes : goal.returns-in-Need-clause-goes
 returns-in-Need-clause-goes g c =
     let call = c.args.call.now in
-    let header = c.args.header.now in
+    let header = c.args.context.now.header.now in
     let old = c.deref_mut.result.now in
     let new = c.make_steps.new.running in
     let items = c.args.running.value.env.reads in
@@ -47,7 +47,7 @@ returns-in-Need-clause-goes g c =
 pub returns-in-Ended-clause-goes : goal.returns-in-Ended-clause-goes
 returns-in-Ended-clause-goes g c =
     let call = c.args.call.now in
-    let header = c.args.header.now in
+    let header = c.args.context.now.header.now in
     let old = c.deref_mut.result.now in
     let new = c.make_steps.new.running in
     let items = c.args.running.value.env.reads in
@@ -89,7 +89,7 @@ returns-in-Need-clause-executes g c =
 pub returns-in-Ended-clause-executes : goal.returns-in-Ended-clause-executes
 returns-in-Ended-clause-executes g c =
     let call = c.args.call.now in
-    let header = c.args.header.now in
+    let header = c.args.context.now.header.now in
     let old = c.deref_mut.result.now in
     let new = c.make_steps.new.running in
     let items = c.args.running.value.env.reads in

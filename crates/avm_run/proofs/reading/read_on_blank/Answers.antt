@@ -11,7 +11,7 @@ use Rattle.avm_run.proofs.reading.read_on_blank.Goals as goal
 pub loop-executions-init : goal.loop-executions-init
 loop-executions-init g c =
     let call = c.args.call.now in
-    let header = c.args.header.now in
+    let header = c.args.context.now.header.now in
     let first = c.first_item-first.result in
     let value = c.in_ok-value.value in
     let alive = starts_alive call header c.new.result c.new.ensures c.fields-fields.ensures.checked in
@@ -27,7 +27,7 @@ loop-executions-init g c =
 pub loop-executions-smaller : goal.loop-executions-smaller
 loop-executions-smaller g c =
     let call = c.args.call.now in
-    let header = c.args.header.now in
+    let header = c.args.context.now.header.now in
     let items = reads_of c.loop-executions.phase in
     let asks = rw c.in-Need.is at c.in_ok-asking.ensures.runs in
     let value = c.in_ok-value-in-Need.value in
@@ -41,7 +41,7 @@ loop-executions-smaller g c =
 pub loop-executions-preserved : goal.loop-executions-preserved
 loop-executions-preserved g c =
     let call = c.args.call.now in
-    let header = c.args.header.now in
+    let header = c.args.context.now.header.now in
     let items = reads_of c.loop-executions.phase in
     let asks = rw c.in-Need.is at c.in_ok-asking.ensures.runs in
     let value = c.in_ok-value-in-Need.value in
@@ -58,8 +58,8 @@ loop-executions-preserved g c =
 
 pub returns-in-Done-clause-result : goal.returns-in-Done-clause-result
 returns-in-Done-clause-result g c =
-    ends_over_reads c.args.call.now c.args.header.now (reads_of c.loop-executions.phase) c.in-Done.closed (rw c.in-Done.is at c.in_ok-asking.ensures.runs).run
+    ends_over_reads c.args.call.now c.args.context.now.header.now (reads_of c.loop-executions.phase) c.in-Done.closed (rw c.in-Done.is at c.in_ok-asking.ensures.runs).run
 
 pub returns-in-Done-clause-asked : goal.returns-in-Done-clause-asked
 returns-in-Done-clause-asked g c =
-    asked_by_end c.args.call.now c.args.header.now (reads_of c.loop-executions.phase) c.in-Done.closed c.loop-executions.invariant.alive.few (rw c.in-Done.is at c.in_ok-asking.ensures.runs).run
+    asked_by_end c.args.call.now c.args.context.now.header.now (reads_of c.loop-executions.phase) c.in-Done.closed c.loop-executions.invariant.alive.few (rw c.in-Done.is at c.in_ok-asking.ensures.runs).run

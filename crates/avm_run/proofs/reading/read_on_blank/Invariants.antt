@@ -5,7 +5,7 @@ use Rattle.avm_run.proofs.reading.read_on_blank.Given as goal
 
 abbrev pub invariant-loop-executions : goal.invariant-loop-executions
 invariant-loop-executions g l = record {
-  alive : IsAlive l.call l.header l.phase;
+  alive : IsAlive l.call l.context.header.now l.phase;
   few : length (reads_of l.phase) ≤ most_items;
   kept : g.R.Reader.kept l.reader ≡ g.R.Reader.kept l.fn.reader;
 }
