@@ -5,7 +5,7 @@ ghost use Rattle.direct_tests.specs.Firsts.{IsFirstHeld, next_id_write};
 
 use avm_items::{Item, ItemMap, ItemValue};
 use avm_ledger::Ledger;
-use mv_shards::{Attempt, Commit, Held, Shard};
+use mv_shards::{Attempt, Held, Shard};
 use std::alloc::{AllocError, Global};
 use std::sync::Arc;
 use std::test::Fail;
@@ -74,12 +74,7 @@ fn committed_at_5(alloc: Global) -> Result<Held, AllocError> {
     let mut held = first_held(alloc)?;
     let mut others = first_held(alloc)?;
     let writes = next_id_is(alloc, 2)?;
-    let commit = Commit {
-        reads: &ItemMap::new(alloc),
-        writes: &writes,
-        timestamp: 5,
-    };
-    held.write_both(&mut others, alloc, &commit)?;
+    held.write_both(&mut others, alloc, &ItemMap::new(alloc), &writes, 5)?;
     Ok(held)
 }
 

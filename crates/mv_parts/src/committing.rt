@@ -8,7 +8,7 @@ ghost use Rattle.mv_parts.specs.Commits.{entries_not_above};
 
 use crate::entry::Entry;
 use avm_run::Finished;
-use mv_shards::{Attempt, Commit, Held};
+use mv_shards::{Attempt, Held};
 use std::alloc::{AllocError, Global};
 
 /// Makes room for an entry, and writes to the journal's versions and to the shards that are held.
@@ -28,12 +28,13 @@ pub(crate) fn write_all(
     ensures unchanged { OnErr result ((index.new ≡ index.old) × (held.new ≡ held.old)) }
 {
     entries.reserve(1)?;
-    let commit = Commit {
-        reads: attempt.reads(),
-        writes: finished.writes(),
-        timestamp: attempt.timestamp(),
-    };
-    index.write_both(held, alloc, &commit)?;
+    index.write_both(
+        held,
+        alloc,
+        attempt.reads(),
+        finished.writes(),
+        attempt.timestamp(),
+    )?;
     Ok(())
 }
 

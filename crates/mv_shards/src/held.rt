@@ -18,7 +18,7 @@ use crate::part::{Part, has_value, has_version, late, prune, read, version_count
 use crate::read_fault::ReadError;
 use crate::room::Parts;
 use crate::shard::Shard;
-use crate::writing::{Commit, write_parts};
+use crate::writing::write_parts;
 use avm_items::{Item, ItemMap, ItemValue};
 use mv_chain::Late;
 use std::alloc::{AllocError, Global};
@@ -176,21 +176,30 @@ impl Held {
         }
     }
 
-    /// Marks what a commit has read, and adds a version of each item that it writes, here and in other shards. All room is
-    /// made first: where memory is refused, nothing has changed in either.
+    /// Marks what a commit at a timestamp has read, and adds a version of each item that it writes, here and in other shards.
+    /// All room is made first: where memory is refused, nothing has changed in either.
     pub fn write_both(
         &mut self,
         others: &mut Held,
         alloc: Global,
-        commit: &Commit,
+        reads: &ItemMap,
+        writes: &ItemMap,
+        timestamp: u64,
     ) -> Result<(), AllocError>
-        requires held { CanTake commit.now.timestamp self.old commit.now.reads.now commit.now.writes.now }
-        requires others { CanTake commit.now.timestamp others.old commit.now.reads.now commit.now.writes.now }
-        requires positive { 0 < commit.now.timestamp }
-        ensures written { OnOk result (AreWritten commit.now.timestamp commit.now.reads.now commit.now.writes.now self.old self.new × AreWritten commit.now.timestamp commit.now.reads.now commit.now.writes.now others.old others.new) }
+        requires held { CanTake timestamp self.old reads.now writes.now }
+        requires others { CanTake timestamp others.old reads.now writes.now }
+        requires positive { 0 < timestamp }
+        ensures written { OnOk result (AreWritten timestamp reads.now writes.now self.old self.new × AreWritten timestamp reads.now writes.now others.old others.new) }
         ensures unchanged { OnErr result ((self.new ≡ self.old) × (others.new ≡ others.old)) }
     {
-        write_parts(alloc, &mut self.parts, &mut others.parts, commit)
+        write_parts(
+            alloc,
+            &mut self.parts,
+            &mut others.parts,
+            reads,
+            writes,
+            timestamp,
+        )
     }
 }
 

@@ -23,4 +23,3 @@ pub use held::Held;
 pub use index::{SHARD_COUNT, shard_of};
 pub use read_fault::{ReadError, ReadFault};
 pub use shard::Shard;
-pub use writing::Commit;

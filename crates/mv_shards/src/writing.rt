@@ -12,14 +12,6 @@ use crate::spot::Spot;
 use avm_items::{ItemMap, ItemValue};
 use std::alloc::{AllocError, Global};
 
-/// What a commit reads and writes, at its timestamp.
-#[derive(Drop)]
-pub struct Commit<'a> {
-    pub reads: &'a ItemMap,
-    pub writes: &'a ItemMap,
-    pub timestamp: u64,
-}
-
 /// Notes that the newest version not above a timestamp was read at it, in the chain that stands there.
 fn mark_at(parts: &mut Parts, spot: Spot, timestamp: u64)
     requires readable { IsReadableSpot timestamp parts.old spot }
@@ -72,22 +64,23 @@ pub(crate) fn write_parts(
     alloc: Global,
     parts: &mut Parts,
     others: &mut Parts,
-    commit: &Commit,
+    reads: &ItemMap,
+    writes: &ItemMap,
+    timestamp: u64,
 ) -> Result<(), AllocError>
-    requires reads { AllByRecursion (λ e. IsHeldIn parts.old e.0) commit.now.reads.now }
-    requires writes { AllByRecursion (λ e. IsHeldIn parts.old e.0) commit.now.writes.now }
-    requires chains { (i : _) → AreChains (first_at parts.old i) commit.now.timestamp (chains_at parts.old i) }
-    requires absent { AllByRecursion (λ e. AllByRecursion (λ v. v.timestamp ≢ commit.now.timestamp) (versions_of (first_at parts.old (shard_index e.0)) (chains_for parts.old e.0) e.0)) commit.now.writes.now }
-    requires other_reads { AllByRecursion (λ e. IsHeldIn others.old e.0) commit.now.reads.now }
-    requires other_writes { AllByRecursion (λ e. IsHeldIn others.old e.0) commit.now.writes.now }
-    requires other_chains { (i : _) → AreChains (first_at others.old i) commit.now.timestamp (chains_at others.old i) }
-    requires other_absent { AllByRecursion (λ e. AllByRecursion (λ v. v.timestamp ≢ commit.now.timestamp) (versions_of (first_at others.old (shard_index e.0)) (chains_for others.old e.0) e.0)) commit.now.writes.now }
-    requires positive { 0 < commit.now.timestamp }
-    ensures written { OnOk result (AreWrittenParts commit.now.timestamp commit.now.reads.now commit.now.writes.now parts.old parts.new × AreWrittenParts commit.now.timestamp commit.now.reads.now commit.now.writes.now others.old others.new) }
+    requires reads { AllByRecursion (λ e. IsHeldIn parts.old e.0) reads.now }
+    requires writes { AllByRecursion (λ e. IsHeldIn parts.old e.0) writes.now }
+    requires chains { (i : _) → AreChains (first_at parts.old i) timestamp (chains_at parts.old i) }
+    requires absent { AllByRecursion (λ e. AllByRecursion (λ v. v.timestamp ≢ timestamp) (versions_of (first_at parts.old (shard_index e.0)) (chains_for parts.old e.0) e.0)) writes.now }
+    requires other_reads { AllByRecursion (λ e. IsHeldIn others.old e.0) reads.now }
+    requires other_writes { AllByRecursion (λ e. IsHeldIn others.old e.0) writes.now }
+    requires other_chains { (i : _) → AreChains (first_at others.old i) timestamp (chains_at others.old i) }
+    requires other_absent { AllByRecursion (λ e. AllByRecursion (λ v. v.timestamp ≢ timestamp) (versions_of (first_at others.old (shard_index e.0)) (chains_for others.old e.0) e.0)) writes.now }
+    requires positive { 0 < timestamp }
+    ensures written { OnOk result (AreWrittenParts timestamp reads.now writes.now parts.old parts.new × AreWrittenParts timestamp reads.now writes.now others.old others.new) }
     ensures grown { OnErr result (AreGrown parts.old parts.new × AreGrown others.old others.new) }
 {
-    let timestamp = commit.timestamp;
-    match make_both(alloc, parts, others, commit.reads, commit.writes) {
+    match make_both(alloc, parts, others, reads, writes) {
         Ok((room, other_room)) => {
             mark_all(parts, &room.reads, timestamp);
             install_all(parts, room.writes, timestamp);
