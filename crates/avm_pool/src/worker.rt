@@ -152,12 +152,7 @@ impl<'a, 'b, 'c, G: Gate, R: Wait> Site<'a, 'b, 'c, G, R> {
     }
 
     /// Commits an attempt whose call has ended, or abandons it.
-    fn commit(
-        &self,
-        held: &mut Held,
-        trial: Trial<G, R>,
-        finished: Finished,
-    ) -> AttemptEnd {
+    fn commit(&self, held: &mut Held, trial: Trial<G, R>, finished: Finished) -> AttemptEnd {
         trial.tell(GateEvent::BeforeCommit);
         let Trial {
             shared: _shared,
@@ -179,12 +174,7 @@ impl<'a, 'b, 'c, G: Gate, R: Wait> Site<'a, 'b, 'c, G, R> {
     }
 
     /// Takes the journal's lock, and then those of the shards that are wanted.
-    fn under_locks(
-        &self,
-        held: &mut Held,
-        wanted: &[bool],
-        work: &mut Work,
-    ) -> Worked {
+    fn under_locks(&self, held: &mut Held, wanted: &[bool], work: &mut Work) -> Worked {
         let mut guard = lock_soon(self.rt, self.journal);
         let locks = Wanted {
             rt: self.rt,
