@@ -11,7 +11,7 @@ ghost use Rattle.avm_node.specs.WorkerSets.{AreWorkerSets};
 use crate::propose_input::{ProposeInput, propose_input};
 use avm_input::{DONE, REFUSED, Reply, digit_line, refusal_reply};
 use avm_ops::{Op, Ops};
-use avm_pool::{OpenGate, PoolFault, Proposal, SharedBase, propose_on};
+use avm_pool::{Draft, OpenGate, PoolFault, Proposal, SharedBase, ThreadSets, propose_on};
 use std::alloc::{AllocError, Global};
 use std::sync::Wait;
 use std::thread::Threads;
@@ -53,7 +53,13 @@ fn pool_answer<R: Threads + Wait + Sync, O: Op>(
     } = read;
     let (ledger, digest) = base.into_parts();
     let base = SharedBase::with_digest(alloc, ledger, digest)?;
-    match propose_on(rt, alloc, &base, &header, calls, sets, own, &OpenGate) {
+    let draft = Draft {
+        base: &base,
+        header,
+        calls,
+    };
+    let sets = ThreadSets { workers: sets, own };
+    match propose_on(rt, alloc, draft, sets, &OpenGate) {
         Ok(proposal) => proposal_reply(alloc, &proposal),
         Err(Failure::Fault(fault)) => pool_reply(alloc, fault),
         Err(Failure::Memory) => Err(AllocError),

@@ -2,34 +2,32 @@
 //! it meanwhile; where no thread can be made, one comes after the other.
 
 ghost use Rattle.std.specs.Prelude.{◌≡◌, ◌↔◌, IfNone, IfOk, IfSome, IsTrue};
+ghost use Rattle.std.specs.Arc.{arc_value};
 ghost use Rattle.avm_block.specs.BlockSpelling.{block_bytes};
 ghost use Rattle.mv_parts.specs.Sealing.{IsJournalOf, IsSealed};
 ghost use Rattle.avm_pool.specs.Proposals.{IsProposal};
 
+use crate::draft::SharedDraft;
 use crate::holding::ShardLock;
 use crate::left::left_of;
 use crate::proposal::Proposal;
 use avm_block::{Block, encode};
-use avm_call::Call;
-use avm_ledger::{Header, Ledger};
 use mv_parts::{Journal, Sealed};
 use std::alloc::{AllocError, Global};
 use std::thread::{Threads, join};
 
-/// The proposal of a journal, if it is of this ledger, header and calls. The shards are not needed any more.
+/// The proposal of a journal, if it is of this draft. The shards are not needed any more.
 pub(crate) fn proposal_of<R: Threads + Sync>(
     rt: &R,
     alloc: Global,
     journal: Journal,
     shards: Vec<ShardLock>,
-    base: &Ledger,
-    header: &Header,
-    calls: &[Call],
+    draft: &SharedDraft,
 ) -> Result<Option<Proposal>, AllocError>
-    ensures proposal { IfOk result (λ made. IfSome made (IsProposal base.now header.now calls.now)) }
-    ensures none { IfOk result (λ made. IfNone made (IsJournalOf journal base.now header.now calls.now → ⊥)) }
+    ensures proposal { IfOk result (λ made. IfSome made (IsProposal draft.now.base.now draft.now.header (arc_value draft.now.calls).items)) }
+    ensures none { IfOk result (λ made. IfNone made (IsJournalOf journal draft.now.base.now draft.now.header (arc_value draft.now.calls).items → ⊥)) }
 {
-    let (is_own, sealed) = block_of(rt, alloc, &journal, shards, base, header, calls);
+    let (is_own, sealed) = block_of(rt, alloc, &journal, shards, draft);
     if !is_own {
         return Ok(None);
     }
@@ -45,26 +43,24 @@ pub(crate) fn proposal_of<R: Threads + Sync>(
     }))
 }
 
-/// Whether a journal is of this ledger, header and calls, and the block that it makes.
+/// Whether a journal is of this draft, and the block that it makes.
 fn block_of<R: Threads + Sync>(
     rt: &R,
     alloc: Global,
     journal: &Journal,
     shards: Vec<ShardLock>,
-    base: &Ledger,
-    header: &Header,
-    calls: &[Call],
+    draft: &SharedDraft,
 ) -> (bool, Result<Sealed, AllocError>)
-    ensures own { IsTrue result.0 ↔ IsJournalOf journal.now base.now header.now calls.now }
+    ensures own { IsTrue result.0 ↔ IsJournalOf journal.now draft.now.base.now draft.now.header (arc_value draft.now.calls).items }
     ensures sealed { IfOk result.1 (λ sealed. IsSealed journal.now sealed.block sealed.numbers.items) }
 {
     join(
         rt,
         move || -> bool
-            ensures { IsTrue result ↔ IsJournalOf journal.entry.now base.entry.now header.entry.now calls.entry.now }
+            ensures { IsTrue result ↔ IsJournalOf journal.entry.now draft.entry.now.base.now draft.entry.now.header (arc_value draft.entry.now.calls).items }
         {
             free_shards(shards);
-            journal.is_of(base, header, calls)
+            journal.is_of(draft.base.ledger(), &draft.header, &draft.calls)
         },
         || -> Result<Sealed, AllocError>
             ensures { IfOk result (λ sealed. IsSealed journal.entry.now sealed.block sealed.numbers.items) }

@@ -93,9 +93,10 @@ fn commit(journal: &mut Journal, held: &mut Held, attempt: Attempt, finished: Fi
     }
 }
 
-/// The locks of all shards, and which of them are wanted, by index.
+/// The locks of all shards, which of them are wanted, by index, and the runtime in which a thread waits for them.
 #[derive(Drop)]
-pub(crate) struct Wanted<'a> {
+pub(crate) struct Wanted<'a, R> {
+    pub rt: &'a R,
     pub locks: &'a [ShardLock],
     pub wanted: &'a [bool],
 }
@@ -103,21 +104,19 @@ pub(crate) struct Wanted<'a> {
 /// Locks the shards that are wanted, by rising index, and does the work while all of them are held. No lock is let go
 /// before it is done; then each shard goes back behind its own.
 pub(crate) fn work_with<R: Wait>(
-    rt: &R,
-    shards: &Wanted,
+    shards: &Wanted<R>,
     journal: &mut Journal,
     held: &mut Held,
     work: &mut Work,
 ) -> Worked
     ensures { Works work.old journal.old journal.new result }
 {
-    work_from(rt, shards, 0, journal, held, work)
+    work_from(shards, 0, journal, held, work)
 }
 
 /// Locks those from an index on too, and does the work.
 fn work_from<R: Wait>(
-    rt: &R,
-    shards: &Wanted,
+    shards: &Wanted<R>,
     from: usize,
     journal: &mut Journal,
     held: &mut Held,
@@ -131,11 +130,11 @@ fn work_from<R: Wait>(
     let Some(lock) = shards.locks.get(index) else {
         return work.not_done();
     };
-    let mut guard = lock_soon(rt, lock);
+    let mut guard = lock_soon(shards.rt, lock);
     if !hold(held, &mut guard) {
         return work.not_done();
     }
-    let worked = work_from(rt, shards, index + 1, journal, held, work);
+    let worked = work_from(shards, index + 1, journal, held, work);
     give_back(held, &mut guard);
     worked
 }

@@ -7,6 +7,7 @@
 #![tactic(auto)]
 
 mod call_numbers;
+mod draft;
 mod ends;
 mod finishing;
 mod gate;
@@ -23,6 +24,7 @@ mod worker;
 mod workers;
 
 pub use call_numbers::{NumberPass, Numbers};
+pub use draft::{Draft, ThreadSets};
 pub use gate::{Gate, GateEvent, OpenGate};
 pub use mv_parts::SharedBase;
 pub use pool_fault::{PoolError, PoolFault};

@@ -9,6 +9,7 @@ ghost use Rattle.avm_pool.specs.Refusals.{IsRefusal, IsWant, MayPropose};
 ghost use Rattle.avm_block.specs.Blocks.{most_calls};
 
 use crate::call_numbers::Numbers;
+use crate::draft::{Crew, Draft, SharedDraft, ThreadSets};
 use crate::ends::ThreadEnd;
 use crate::finishing::proposal_of;
 use crate::gate::Gate;
@@ -19,9 +20,8 @@ use crate::refusals::pool_fault;
 use crate::rest::run_rest;
 use crate::running::Shared;
 use crate::workers::{enlist_all, put_all, run_workers};
-use avm_call::Call;
-use avm_ledger::{Header, Ledger};
-use avm_ops::{Op, Ops};
+use avm_ledger::Ledger;
+use avm_ops::Op;
 use avm_run::FullOps;
 use mv_parts::{Journal, SharedBase, open_on};
 use mv_shards::{Held, SHARD_COUNT};
@@ -30,7 +30,7 @@ use std::sync::{Arc, Mutex, Wait};
 use std::thread::Threads;
 use teal_value::Failure;
 
-/// Runs calls on a ledger in as many threads as there are sets of objects, and gives their block. A program runs
+/// Runs calls on a ledger in as many threads as there are sets of workers, and gives their block. A program runs
 /// outside all locks, and reads of items in different shards share none. What the workers leave, the calling thread
 /// runs with its own set.
 ///
@@ -39,22 +39,20 @@ use teal_value::Failure;
 pub fn propose<G: Gate, R: Threads + Wait + Sync, O: Op>(
     rt: &R,
     alloc: Global,
-    base: &Ledger,
-    header: &Header,
-    calls: Vec<Call>,
-    worker_ops: Vec<Ops<O>>,
-    own_ops: Ops<O>,
+    draft: Draft<Ledger>,
+    sets: ThreadSets<O>,
     gate: &G,
 ) -> Result<Proposal, PoolError>
-    ensures proposal { IfOk result (IsProposal base.now header.now calls.items) }
-    ensures may { OnOk result (MayPropose O.opcode worker_ops.items own_ops header.now calls.items) }
-    ensures refused { IfErr result (IsRefusal O.opcode worker_ops.items own_ops header.now calls.items) }
+    ensures proposal { IfOk result (IsProposal draft.base.now draft.header draft.calls.items) }
+    ensures may { OnOk result (MayPropose O.opcode sets.workers.items sets.own draft.header draft.calls.items) }
+    ensures refused { IfErr result (IsRefusal O.opcode sets.workers.items sets.own draft.header draft.calls.items) }
 {
-    match pool_fault(&worker_ops, &own_ops, header, &calls) {
+    match pool_fault(&sets.workers, &sets.own, &draft.header, &draft.calls) {
         Some(fault) => Err(Failure::Fault(fault)),
         None => {
-            let own = FullOps::from_full(own_ops);
-            proposed_over(rt, alloc, base, header, calls, worker_ops, &own, gate)
+            let ThreadSets { workers, own } = sets;
+            let own = FullOps::from_full(own);
+            proposed_over(rt, alloc, draft, Crew { workers, own }, gate)
         }
     }
 }
@@ -63,22 +61,20 @@ pub fn propose<G: Gate, R: Threads + Wait + Sync, O: Op>(
 pub fn propose_on<G: Gate, R: Threads + Wait + Sync, O: Op>(
     rt: &R,
     alloc: Global,
-    base: &SharedBase,
-    header: &Header,
-    calls: Vec<Call>,
-    worker_ops: Vec<Ops<O>>,
-    own_ops: Ops<O>,
+    draft: Draft<SharedBase>,
+    sets: ThreadSets<O>,
     gate: &G,
 ) -> Result<Proposal, PoolError>
-    ensures proposal { IfOk result (IsProposal base.now header.now calls.items) }
-    ensures may { OnOk result (MayPropose O.opcode worker_ops.items own_ops header.now calls.items) }
-    ensures refused { IfErr result (IsRefusal O.opcode worker_ops.items own_ops header.now calls.items) }
+    ensures proposal { IfOk result (IsProposal draft.base.now draft.header draft.calls.items) }
+    ensures may { OnOk result (MayPropose O.opcode sets.workers.items sets.own draft.header draft.calls.items) }
+    ensures refused { IfErr result (IsRefusal O.opcode sets.workers.items sets.own draft.header draft.calls.items) }
 {
-    match pool_fault(&worker_ops, &own_ops, header, &calls) {
+    match pool_fault(&sets.workers, &sets.own, &draft.header, &draft.calls) {
         Some(fault) => Err(Failure::Fault(fault)),
         None => {
-            let own = FullOps::from_full(own_ops);
-            proposed(rt, alloc, base, header, calls, worker_ops, &own, gate)
+            let ThreadSets { workers, own } = sets;
+            let own = FullOps::from_full(own);
+            proposed(rt, alloc, draft, Crew { workers, own }, gate)
         }
     }
 }
@@ -87,48 +83,63 @@ pub fn propose_on<G: Gate, R: Threads + Wait + Sync, O: Op>(
 fn proposed_over<G: Gate, R: Threads + Wait + Sync, O: Op>(
     rt: &R,
     alloc: Global,
-    base: &Ledger,
-    header: &Header,
-    calls: Vec<Call>,
-    worker_ops: Vec<Ops<O>>,
-    own_ops: &FullOps<O>,
+    draft: Draft<Ledger>,
+    crew: Crew<O>,
     gate: &G,
 ) -> Result<Proposal, PoolError>
-    requires opens { open_fault header.now calls.items ≡ None }
-    ensures proposal { IfOk result (IsProposal base.now header.now calls.items) }
+    requires opens { open_fault draft.header draft.calls.items ≡ None }
+    ensures proposal { IfOk result (IsProposal draft.base.now draft.header draft.calls.items) }
     ensures want { IfErr result IsWant }
 {
+    let Draft {
+        base,
+        header,
+        calls,
+    } = draft;
     let base = SharedBase::of(alloc, base.clone()?)?;
-    proposed(rt, alloc, &base, header, calls, worker_ops, own_ops, gate)
+    let draft = Draft {
+        base: &base,
+        header,
+        calls,
+    };
+    proposed(rt, alloc, draft, crew, gate)
 }
 
 /// What comes out where no test fails.
 fn proposed<G: Gate, R: Threads + Wait + Sync, O: Op>(
     rt: &R,
     alloc: Global,
-    base: &SharedBase,
-    header: &Header,
-    calls: Vec<Call>,
-    worker_ops: Vec<Ops<O>>,
-    own_ops: &FullOps<O>,
+    draft: Draft<SharedBase>,
+    crew: Crew<O>,
     gate: &G,
 ) -> Result<Proposal, PoolError>
-    requires opens { open_fault header.now calls.items ≡ None }
-    ensures proposal { IfOk result (IsProposal base.now header.now calls.items) }
+    requires opens { open_fault draft.header draft.calls.items ≡ None }
+    ensures proposal { IfOk result (IsProposal draft.base.now draft.header draft.calls.items) }
     ensures want { IfErr result IsWant }
 {
+    let Draft {
+        base,
+        header,
+        calls,
+    } = draft;
+    let Crew { workers, own } = crew;
     let count = calls.len() as u32;
     let (numbers, mut pass) = Numbers::new(alloc)?;
     put_all(rt, &numbers, &mut pass, count);
-    let workers = enlist_all(alloc, &numbers, &mut pass, worker_ops)?;
+    let workers = enlist_all(alloc, &numbers, &mut pass, workers)?;
     let calls = Arc::new(alloc, calls)?;
-    let (journal, shards) = opened(alloc, base, header, &calls)?;
+    let draft = SharedDraft {
+        base,
+        header,
+        calls,
+    };
+    let (journal, shards) = draft.open(alloc)?;
     let journal = Mutex::new(journal);
     let shared = Shared {
         alloc,
         shards: shards.as_slice(),
-        calls: calls.as_slice(),
-        header,
+        calls: draft.calls.as_slice(),
+        header: &draft.header,
         gate,
     };
     match run_workers(rt, &journal, &shared, workers)? {
@@ -138,22 +149,14 @@ fn proposed<G: Gate, R: Threads + Wait + Sync, O: Op>(
     }
     let mut journal = journal.into_inner();
     if journal.is_over() {
-        if !run_rest(rt, &shared, &mut journal, own_ops) {
+        if !run_rest(rt, &shared, &mut journal, &own) {
             return Err(Failure::Fault(PoolFault::ClockEnd));
         }
-        if let Some(proposal) = proposal_of(
-            rt,
-            alloc,
-            journal,
-            shards,
-            base.ledger(),
-            header,
-            &calls,
-        )? {
+        if let Some(proposal) = proposal_of(rt, alloc, journal, shards, &draft)? {
             return Ok(proposal);
         }
     }
-    proposed_anew(rt, alloc, base, header, &calls, own_ops, gate)
+    proposed_anew(rt, alloc, &draft, &own, gate)
 }
 
 /// What one thread makes of all calls. It is for a journal that is not the one that was opened, which nothing rules out that
@@ -161,59 +164,51 @@ fn proposed<G: Gate, R: Threads + Wait + Sync, O: Op>(
 fn proposed_anew<G: Gate, R: Threads + Wait + Sync, O: Op>(
     rt: &R,
     alloc: Global,
-    base: &SharedBase,
-    header: &Header,
-    calls: &Arc<Vec<Call>>,
-    own_ops: &FullOps<O>,
+    draft: &SharedDraft,
+    own: &FullOps<O>,
     gate: &G,
 ) -> Result<Proposal, PoolError>
-    requires opens { open_fault header.now (arc_value calls.now).items ≡ None }
-    ensures proposal { IfOk result (IsProposal base.now header.now (arc_value calls.now).items) }
+    requires opens { open_fault draft.now.header (arc_value draft.now.calls).items ≡ None }
+    ensures proposal { IfOk result (IsProposal draft.now.base.now draft.now.header (arc_value draft.now.calls).items) }
     ensures want { IfErr result IsWant }
 {
-    let (journal, shards) = opened(alloc, base, header, calls)?;
+    let (journal, shards) = draft.open(alloc)?;
     let shared = Shared {
         alloc,
         shards: shards.as_slice(),
-        calls: calls.as_slice(),
-        header,
+        calls: draft.calls.as_slice(),
+        header: &draft.header,
         gate,
     };
     let mut journal = journal;
-    if !run_rest(rt, &shared, &mut journal, own_ops) {
+    if !run_rest(rt, &shared, &mut journal, own) {
         return Err(Failure::Fault(PoolFault::ClockEnd));
     }
-    match proposal_of(
-        rt,
-        alloc,
-        journal,
-        shards,
-        base.ledger(),
-        header,
-        calls.as_slice(),
-    )? {
+    match proposal_of(rt, alloc, journal, shards, draft)? {
         Some(proposal) => Ok(proposal),
         None => unreachable!(),
     }
 }
 
-/// A journal of which no call has begun, and its shards behind locks of their own.
-fn opened(
-    alloc: Global,
-    base: &SharedBase,
-    header: &Header,
-    calls: &Arc<Vec<Call>>,
-) -> Result<(Journal, Vec<ShardLock>), AllocError>
-    requires opens { open_fault header.now (arc_value calls.now).items ≡ None }
-    ensures { IfOk result (λ opened. IsJournalOf opened.0 base.now header.now (arc_value calls.now).items) }
-{
-    match open_on(alloc, base.try_clone()?, *header, Arc::try_clone(calls)?) {
-        Ok((journal, held)) => {
-            let shards = locked(alloc, held)?;
-            Ok((journal, shards))
+impl<'a> SharedDraft<'a> {
+    /// A journal of which no call has begun, and its shards behind locks of their own.
+    fn open(&self, alloc: Global) -> Result<(Journal, Vec<ShardLock>), AllocError>
+        requires opens { open_fault self.now.header (arc_value self.now.calls).items ≡ None }
+        ensures { IfOk result (λ opened. IsJournalOf opened.0 self.now.base.now self.now.header (arc_value self.now.calls).items) }
+    {
+        match open_on(
+            alloc,
+            self.base.try_clone()?,
+            self.header,
+            Arc::try_clone(&self.calls)?,
+        ) {
+            Ok((journal, held)) => {
+                let shards = locked(alloc, held)?;
+                Ok((journal, shards))
+            }
+            Err(Failure::Memory) => Err(AllocError),
+            Err(Failure::Fault(_fault)) => unreachable!(),
         }
-        Err(Failure::Memory) => Err(AllocError),
-        Err(Failure::Fault(_fault)) => unreachable!(),
     }
 }
 

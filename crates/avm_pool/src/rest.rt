@@ -95,11 +95,12 @@ fn commit<G: Gate, R: Wait>(
     shared.gate.pause(number, 0, GateEvent::BeforeCommit);
     let wanted = shards_of(&attempt, &finished);
     let locks = Wanted {
+        rt,
         locks: shared.shards,
         wanted: &wanted,
     };
     let mut work = Work::Commit(attempt, finished);
-    match work_with(rt, &locks, journal, &mut Held::new(), &mut work) {
+    match work_with(&locks, journal, &mut Held::new(), &mut work) {
         Worked::Done => shared.gate.pause(number, 0, GateEvent::Committed),
         Worked::Again(attempt) => abandon(journal, attempt),
         Worked::Memory(attempt) => abandon(journal, attempt),

@@ -63,7 +63,11 @@ impl<'a, O: Op> Worker<'a, O> {
         let Ok(ops) = FullOps::of(ops) else {
             return ThreadEnd::Over;
         };
-        let site = Site { journal, shared };
+        let site = Site {
+            rt,
+            journal,
+            shared,
+        };
         let mut executor = Executor {
             ops: &ops,
             spare: None,
@@ -75,12 +79,12 @@ impl<'a, O: Op> Worker<'a, O> {
             let Some(number) = numbers.draw(rt, &mut pass) else {
                 return ThreadEnd::Over;
             };
-            match site.run_call(rt, &mut executor, &mut held, number) {
+            match site.run_call(&mut executor, &mut held, number) {
                 AttemptEnd::Committed => {
                     commits = commits.saturating_add(1);
                     if commits == next_prune {
                         next_prune = next_prune.saturating_mul(2);
-                        site.prune(rt, &mut held);
+                        site.prune(&mut held);
                     }
                 }
                 AttemptEnd::Left | AttemptEnd::Again => {}
@@ -91,25 +95,25 @@ impl<'a, O: Op> Worker<'a, O> {
     }
 }
 
-/// Where workers run calls: the journal behind its lock, and what all attempts share.
+/// Where workers run calls: the runtime in which they wait, the journal behind its lock, and what all attempts share.
 #[derive(Drop)]
-struct Site<'a, 'b, 'c, G> {
+struct Site<'a, 'b, 'c, G, R> {
+    rt: &'a R,
     journal: &'a Mutex<Journal>,
     shared: &'b Shared<'c, G>,
 }
 
-impl<'a, 'b, 'c, G: Gate> Site<'a, 'b, 'c, G> {
+impl<'a, 'b, 'c, G: Gate, R: Wait> Site<'a, 'b, 'c, G, R> {
     /// Runs a call, in as many attempts as it takes: it does not end with `Again`.
-    fn run_call<R: Wait, O: Op>(
+    fn run_call<O: Op>(
         &self,
-        rt: &R,
         executor: &mut Executor<O>,
         held: &mut Held,
         number: u32,
     ) -> AttemptEnd {
         let mut tries = 1u32;
-        for _ in rt.forever() {
-            match self.run_attempt(rt, executor, held, number, tries) {
+        for _ in self.rt.forever() {
+            match self.run_attempt(executor, held, number, tries) {
                 AttemptEnd::Again => {
                     stand_back(tries);
                     tries = tries.saturating_add(1);
@@ -121,15 +125,14 @@ impl<'a, 'b, 'c, G: Gate> Site<'a, 'b, 'c, G> {
     }
 
     /// One attempt of a call. Each `let` that locks the journal lets it go at its end, so no lock is held at the gate.
-    fn run_attempt<R: Wait, O: Op>(
+    fn run_attempt<O: Op>(
         &self,
-        rt: &R,
         executor: &mut Executor<O>,
         held: &mut Held,
         number: u32,
         tries: u32,
     ) -> AttemptEnd {
-        let begun = lock_soon(rt, self.journal).begin(number);
+        let begun = lock_soon(self.rt, self.journal).begin(number);
         let attempt = match begun {
             Ok(attempt) => attempt,
             Err(Failure::Fault(BeginFault::ClockEnd)) => return AttemptEnd::ClockEnd,
@@ -137,70 +140,60 @@ impl<'a, 'b, 'c, G: Gate> Site<'a, 'b, 'c, G> {
         };
         let mut trial = Trial {
             shared: self.shared,
-            rt,
+            rt: self.rt,
             attempt,
             tries,
         };
         trial.tell(GateEvent::Begun);
         match trial.run(executor) {
             Ok(finished) => self.commit(held, trial, finished),
-            Err(end) => self.abandon(rt, trial.attempt, end),
+            Err(end) => self.abandon(trial.attempt, end),
         }
     }
 
     /// Commits an attempt whose call has ended, or abandons it.
-    fn commit<R: Wait>(
-        &self,
-        held: &mut Held,
-        trial: Trial<G, R>,
-        finished: Finished,
-    ) -> AttemptEnd {
+    fn commit(&self, held: &mut Held, trial: Trial<G, R>, finished: Finished) -> AttemptEnd {
         trial.tell(GateEvent::BeforeCommit);
         let Trial {
             shared: _shared,
-            rt,
+            rt: _rt,
             attempt,
             tries,
         } = trial;
         let number = attempt.number();
         let wanted = shards_of(&attempt, &finished);
         let mut work = Work::Commit(attempt, finished);
-        match self.under_locks(rt, held, &wanted, &mut work) {
+        match self.under_locks(held, &wanted, &mut work) {
             Worked::Done => {
                 self.shared.gate.pause(number, tries, GateEvent::Committed);
                 AttemptEnd::Committed
             }
-            Worked::Again(attempt) => self.abandon(rt, attempt, AttemptEnd::Again),
-            Worked::Memory(attempt) => self.abandon(rt, attempt, AttemptEnd::Left),
+            Worked::Again(attempt) => self.abandon(attempt, AttemptEnd::Again),
+            Worked::Memory(attempt) => self.abandon(attempt, AttemptEnd::Left),
         }
     }
 
     /// Takes the journal's lock, and then those of the shards that are wanted.
-    fn under_locks<R: Wait>(
-        &self,
-        rt: &R,
-        held: &mut Held,
-        wanted: &[bool],
-        work: &mut Work,
-    ) -> Worked {
-        let mut guard = lock_soon(rt, self.journal);
+    fn under_locks(&self, held: &mut Held, wanted: &[bool], work: &mut Work) -> Worked {
+        let mut guard = lock_soon(self.rt, self.journal);
         let locks = Wanted {
+            rt: self.rt,
             locks: self.shared.shards,
             wanted,
         };
-        work_with(rt, &locks, &mut guard, held, work)
+        work_with(&locks, &mut guard, held, work)
     }
 
     /// Ends an attempt without a commit.
-    fn abandon<R: Wait>(&self, rt: &R, attempt: Attempt, end: AttemptEnd) -> AttemptEnd {
-        let _abandoned = lock_soon(rt, self.journal).abandon(attempt);
+    fn abandon(&self, attempt: Attempt, end: AttemptEnd) -> AttemptEnd {
+        let _abandoned = lock_soon(self.rt, self.journal).abandon(attempt);
         end
     }
 
     /// Drops the versions that no attempt can ask for any more.
-    fn prune<R: Wait>(&self, rt: &R, held: &mut Held) {
+    fn prune(&self, held: &mut Held) {
         let all = [true; SHARD_COUNT];
-        self.under_locks(rt, held, &all, &mut Work::Prune);
+        self.under_locks(held, &all, &mut Work::Prune);
     }
 }
 

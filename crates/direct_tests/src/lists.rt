@@ -7,7 +7,7 @@ use avm_ledger::Ledger;
 use avm_ops::Op;
 use avm_replay::{Verdict, replay, state_at};
 use avm_run::FullOps;
-use mv_core::{Event, Store, World, run_events};
+use mv_core::{Event, Store, Tools, World, run_events};
 use mv_parts::Sealed;
 use sample_calls::calls::HEADER;
 use std::alloc::Global;
@@ -77,14 +77,19 @@ impl<'a, O: Op> Bench<'a, O> {
             HEADER,
             Arc::try_clone(calls)?,
         ) {
-            Ok(_store) => Ok(run_events(
-                self.alloc,
-                self.base.clone()?,
-                HEADER,
-                Arc::try_clone(calls)?,
-                self.ops,
-                events,
-            )?),
+            Ok(_store) => {
+                let tools = Tools {
+                    alloc: self.alloc,
+                    ops: self.ops,
+                };
+                Ok(run_events(
+                    &tools,
+                    self.base.clone()?,
+                    HEADER,
+                    Arc::try_clone(calls)?,
+                    events,
+                )?)
+            }
             Err(_) => Err("these calls make a store".into()),
         }
     }

@@ -2,11 +2,12 @@
 
 use crate::cases::CASES;
 use crate::data::{BASE, CALLS, calls_of, ledger_of, programs, some_calls};
-use crate::proposing::{Draft, ThreadSets, wrong};
+use crate::proposing::wrong;
 use crate::random::Random;
 use crate::random_blocks::run_block;
 use crate::sets::filled_ops;
 use avm_ops::BoxedOp;
+use avm_pool::{Draft, ThreadSets};
 use sample_calls::calls::HEADER;
 use std::alloc::Global;
 use std::ops::Range;

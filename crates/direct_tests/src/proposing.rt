@@ -7,10 +7,9 @@ use crate::data::{bytes_of, calls_of, ledger_of, programs, stand_once};
 use crate::script::Script;
 use crate::sets::full_ops;
 use avm_block::{Block, encode};
-use avm_call::Call;
 use avm_ledger::{Header, Ledger};
 use avm_ops::{Op, Ops};
-use avm_pool::{Gate, Proposal, propose};
+use avm_pool::{Draft, Gate, Proposal, ThreadSets, propose};
 use avm_replay::{Verdict, replay};
 use avm_run::FullOps;
 use sample_calls::calls::HEADER;
@@ -20,37 +19,16 @@ use std::sync::Wait;
 use std::test::Fail;
 use std::thread::Threads;
 
-/// The sets of objects of those who propose: each worker's, and the caller's own.
-#[derive(Drop)]
-pub struct ThreadSets<O: Op> {
-    pub workers: Vec<Ops<O>>,
-    pub own: Ops<O>,
-}
-
-/// What is proposed: calls over a ledger, in blocks of a header.
-#[derive(Drop)]
-pub struct Draft<'a> {
-    pub base: &'a Ledger,
-    pub header: Header,
-    pub calls: Vec<Call>,
-}
-
 /// Calls that are proposed whole: none is left, and the number of each stands once.
 pub fn proposed<G: Gate, R: Threads + Wait + Sync, O: Op>(
     rt: &R,
     alloc: Global,
-    draft: Draft,
+    draft: Draft<Ledger>,
     sets: ThreadSets<O>,
     gate: &G,
 ) -> Result<Block, Fail> {
-    let Draft {
-        base,
-        header,
-        calls,
-    } = draft;
-    let ThreadSets { workers, own } = sets;
-    let count = calls.len();
-    match propose(rt, alloc, base, &header, calls, workers, own, gate) {
+    let count = draft.calls.len();
+    match propose(rt, alloc, draft, sets, gate) {
         Ok(proposal) => {
             let Proposal {
                 block,

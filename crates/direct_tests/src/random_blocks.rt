@@ -3,10 +3,11 @@
 
 ghost use Rattle.std.specs.Prelude.{◌≡◌};
 
-use crate::proposing::{Draft, ThreadSets, proposed, replayed};
+use crate::proposing::{proposed, replayed};
 use crate::sets::full_ops;
+use avm_ledger::Ledger;
 use avm_ops::{Op, Ops};
-use avm_pool::OpenGate;
+use avm_pool::{Draft, OpenGate, ThreadSets};
 use std::alloc::Global;
 use std::sync::Wait;
 use std::test::Fail;
@@ -16,7 +17,7 @@ use std::thread::Threads;
 pub fn run_block<R: Threads + Wait + Sync, O: Op>(
     rt: &R,
     alloc: Global,
-    draft: Draft,
+    draft: Draft<Ledger>,
     sets: ThreadSets<O>,
     other: Ops<O>,
 ) -> Result<(), Fail> {

@@ -23,24 +23,30 @@ use teal_value::Failure;
 /// How many workers there are.
 const WORKER_COUNT: usize = 8;
 
+/// What runs go on with, whatever their calls.
+#[derive(Drop)]
+pub struct Tools<'a, O: Op> {
+    pub alloc: Global,
+    pub ops: &'a FullOps<O>,
+}
+
 /// The store and its eight workers after these events, one after another: an event that does not apply where it comes
 /// changes nothing.
 pub fn run_events<O: Op>(
-    alloc: Global,
+    tools: &Tools<O>,
     base: Ledger,
     header: Header,
     calls: Arc<Vec<Call>>,
-    ops: &FullOps<O>,
     events: &[Event],
 ) -> Result<World, AllocError>
     requires opens { open_fault header (arc_value calls).items ≡ None }
     ensures { IfOk result (λ world. IsRun (record { base = base; header = header; calls = (arc_value calls).items }) events.now world) }
 {
-    match Store::open(alloc, base, header, calls) {
+    match Store::open(tools.alloc, base, header, calls) {
         Ok(store) => {
             let mut store = store;
-            let mut workers = idle_workers(alloc)?;
-            run_on(alloc, ops, &mut store, &mut workers, events)?;
+            let mut workers = idle_workers(tools.alloc)?;
+            run_on(tools, &mut store, &mut workers, events)?;
             Ok(World { store, workers })
         }
         Err(Failure::Memory) => Err(AllocError),
@@ -50,8 +56,7 @@ pub fn run_events<O: Op>(
 
 /// All events, from a store in which nothing has begun and idle workers.
 fn run_on<O: Op>(
-    alloc: Global,
-    ops: &FullOps<O>,
+    tools: &Tools<O>,
     store: &mut Store,
     workers: &mut Vec<Worker>,
     events: &[Event],
@@ -60,7 +65,7 @@ fn run_on<O: Op>(
     ensures { OnOk result (IsRunTo (input_of store.old) events.now store.new workers.new.items) }
 {
     for event in events {
-        step(alloc, ops, store, workers, *event)?;
+        step(tools, store, workers, *event)?;
     }
     Ok(())
 }
@@ -78,8 +83,7 @@ fn idle_workers(alloc: Global) -> Result<Vec<Worker>, AllocError>
 
 /// One event.
 fn step<O: Op>(
-    alloc: Global,
-    ops: &FullOps<O>,
+    tools: &Tools<O>,
     store: &mut Store,
     workers: &mut Vec<Worker>,
     event: Event,
@@ -89,10 +93,10 @@ fn step<O: Op>(
     ensures { OnOk result (IsStep event store.old store.new workers.old.items workers.new.items) }
 {
     match event {
-        Event::Begin(worker, _number) => act(alloc, ops, store, workers, worker, event),
-        Event::Read(worker) => act(alloc, ops, store, workers, worker, event),
-        Event::Commit(worker) => act(alloc, ops, store, workers, worker, event),
-        Event::Abandon(worker) => act(alloc, ops, store, workers, worker, event),
+        Event::Begin(worker, _number) => act(tools, store, workers, worker, event),
+        Event::Read(worker) => act(tools, store, workers, worker, event),
+        Event::Commit(worker) => act(tools, store, workers, worker, event),
+        Event::Abandon(worker) => act(tools, store, workers, worker, event),
         Event::Prune(timestamp) => {
             store.prune(timestamp);
             Ok(())
@@ -102,8 +106,7 @@ fn step<O: Op>(
 
 /// A worker's event. There is no worker beyond the last.
 fn act<O: Op>(
-    alloc: Global,
-    ops: &FullOps<O>,
+    tools: &Tools<O>,
     store: &mut Store,
     workers: &mut Vec<Worker>,
     number: u8,
@@ -119,7 +122,7 @@ fn act<O: Op>(
         return Ok(());
     }
     let worker = mem::replace(&mut workers[index], Worker::Idle);
-    match work(alloc, ops, store, worker, event) {
+    match work(tools, store, worker, event) {
         Ok(after) => {
             workers[index] = after;
             Ok(())

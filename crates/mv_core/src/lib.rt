@@ -21,7 +21,7 @@ mod store;
 mod ticket;
 mod world;
 
-pub use event_list::run_events;
+pub use event_list::{Tools, run_events};
 pub use faults::{
     AbandonFault, CommitError, CommitFault, ReadError, ReadFault, RefusedCommit, StateError,
     StateFault,

@@ -4,6 +4,7 @@ ghost use Rattle.std.specs.Prelude.{◌≡◌, Some, IfOk, IsSome};
 ghost use Rattle.mv_core.specs.Worlds.{TicketAsksFor, TicketHasEnded, IsLiveWith, IsSoundWorker, attempt_by, attempt_of, input_of, reads_or_none};
 ghost use Rattle.mv_core.specs.WorkerSteps.{IsAbandonBy, IsAdvanced, IsBegun, IsBegunBy, IsCommit, IsCommitBy, IsGoing, IsLiveIfAny, IsReadByStore, IsReadBy, IsWork, worker_in};
 
+use crate::event_list::Tools;
 use crate::faults::{CommitFault, RefusedCommit};
 use crate::running::Event;
 use crate::store::Store;
@@ -11,14 +12,13 @@ use crate::ticket::Ticket;
 use crate::world::Worker;
 use avm_items::Item;
 use avm_ops::Op;
-use avm_run::{Advance, CallRun, Finished, FullOps, RunFault};
-use std::alloc::{AllocError, Global};
+use avm_run::{Advance, CallRun, Finished, RunFault};
+use std::alloc::AllocError;
 use teal_value::Failure;
 
 /// A worker after its event.
 pub(crate) fn work<O: Op>(
-    alloc: Global,
-    ops: &FullOps<O>,
+    tools: &Tools<O>,
     store: &mut Store,
     worker: Worker,
     event: Event,
@@ -30,8 +30,8 @@ pub(crate) fn work<O: Op>(
     ensures sound { IfOk result (λ after. IsSoundWorker (input_of store.old) after) }
 {
     match event {
-        Event::Begin(_worker, number) => begin_by(alloc, ops, store, worker, number),
-        Event::Read(_worker) => read_by(alloc, ops, store, worker),
+        Event::Begin(_worker, number) => begin_by(tools, store, worker, number),
+        Event::Read(_worker) => read_by(tools, store, worker),
         Event::Commit(_worker) => commit_by(store, worker),
         Event::Abandon(_worker) => {
             abandon_by(store, worker);
@@ -43,8 +43,7 @@ pub(crate) fn work<O: Op>(
 
 /// Begins a call, where the worker is idle.
 fn begin_by<O: Op>(
-    alloc: Global,
-    ops: &FullOps<O>,
+    tools: &Tools<O>,
     store: &mut Store,
     worker: Worker,
     number: u32,
@@ -54,25 +53,20 @@ fn begin_by<O: Op>(
     ensures sound { IfOk result (λ after. IsSoundWorker (input_of store.old) after) }
 {
     match worker {
-        Worker::Idle => begin(alloc, ops, store, number),
+        Worker::Idle => begin(tools, store, number),
         busy => Ok(busy),
     }
 }
 
 /// Reads the item that the worker's run asks for, if it does.
-fn read_by<O: Op>(
-    alloc: Global,
-    ops: &FullOps<O>,
-    store: &mut Store,
-    worker: Worker,
-) -> Result<Worker, AllocError>
+fn read_by<O: Op>(tools: &Tools<O>, store: &mut Store, worker: Worker) -> Result<Worker, AllocError>
     requires sound { IsSoundWorker (input_of store.old) worker }
     requires live { IsLiveIfAny store.old (attempt_of worker) }
     ensures read { IfOk result (λ after. IsReadBy store.old store.new worker (attempt_of after)) }
     ensures sound { IfOk result (λ after. IsSoundWorker (input_of store.old) after) }
 {
     match worker {
-        Worker::Running { ticket, run, asks } => read(alloc, ops, store, ticket, run, asks),
+        Worker::Running { ticket, run, asks } => read(tools, store, ticket, run, asks),
         other => Ok(other),
     }
 }
@@ -104,20 +98,15 @@ fn abandon_by(store: &mut Store, worker: Worker)
 }
 
 /// Begins a call, where it is neither live nor committed, and runs it to the first item that it asks for, or to its end.
-fn begin<O: Op>(
-    alloc: Global,
-    ops: &FullOps<O>,
-    store: &mut Store,
-    number: u32,
-) -> Result<Worker, AllocError>
+fn begin<O: Op>(tools: &Tools<O>, store: &mut Store, number: u32) -> Result<Worker, AllocError>
     ensures begun { IfOk result (λ after. IsBegun store.old store.new number (attempt_of after)) }
     ensures sound { IfOk result (λ after. IsSoundWorker (input_of store.old) after) }
 {
     match store.begin(number) {
         Ok(ticket) => match store.call(number) {
             Some(call) => {
-                let run = CallRun::start(alloc, call, store.header(), None)?;
-                advance(alloc, ops, ticket, run)
+                let run = CallRun::start(tools.alloc, call, store.header(), None)?;
+                advance(tools, ticket, run)
             }
             None => unreachable!(),
         },
@@ -128,8 +117,7 @@ fn begin<O: Op>(
 
 /// Reads the item that a run asks for, and runs on to the next one, or to the end of the call.
 fn read<O: Op>(
-    alloc: Global,
-    ops: &FullOps<O>,
+    tools: &Tools<O>,
     store: &mut Store,
     ticket: Ticket,
     run: CallRun,
@@ -143,7 +131,7 @@ fn read<O: Op>(
     let mut run = run;
     match store.read(&ticket, asks.copied()) {
         Ok(value) => match run.supply(asks, value) {
-            Ok(()) => advance(alloc, ops, ticket, run),
+            Ok(()) => advance(tools, ticket, run),
             Err(RunFault::Memory) => Err(AllocError),
             Err(RunFault::NotAsked) => unreachable!(),
             Err(RunFault::Spent) => unreachable!(),
@@ -154,17 +142,12 @@ fn read<O: Op>(
 }
 
 /// Runs on to the next item that a run asks for, or to the end of its call.
-fn advance<O: Op>(
-    alloc: Global,
-    ops: &FullOps<O>,
-    ticket: Ticket,
-    run: CallRun,
-) -> Result<Worker, AllocError>
+fn advance<O: Op>(tools: &Tools<O>, ticket: Ticket, run: CallRun) -> Result<Worker, AllocError>
     requires runs { IsGoing run }
     ensures { IfOk result (λ after. IsAdvanced ticket run after) }
 {
     let mut run = run;
-    match run.advance(alloc, ops) {
+    match run.advance(tools.alloc, tools.ops) {
         Ok(Advance::Need(asks)) => Ok(Worker::Running { ticket, run, asks }),
         Ok(Advance::Done(finished)) => {
             // What a call that has ended keeps.

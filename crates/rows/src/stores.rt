@@ -10,7 +10,7 @@ use avm_items::Item;
 use avm_ledger::{Header, Ledger};
 use avm_ops::Op;
 use avm_run::{Advance, CallRun, Finished, FullOps, RunContext, call_plain};
-use mv_core::{CommitFault, Event, ReadFault, Store, Ticket, Worker, World, run_events};
+use mv_core::{CommitFault, Event, ReadFault, Store, Ticket, Tools, Worker, World, run_events};
 use mv_parts::{BeginFault, Sealed};
 use sample_calls::calls::HEADER;
 use std::alloc::{AllocError, Global};
@@ -402,7 +402,7 @@ fn world_after<O: Op>(
     let Stored { base, calls } = stored.copied()?;
     // That a store is opened says that there are few calls, each of the header's profile.
     match Store::open(alloc, base.clone()?, HEADER, Arc::try_clone(&calls)?) {
-        Ok(_store) => run_events(alloc, base, HEADER, calls, ops, events),
+        Ok(_store) => run_events(&Tools { alloc, ops }, base, HEADER, calls, events),
         Err(_) => Err(AllocError),
     }
 }
