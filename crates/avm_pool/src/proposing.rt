@@ -43,9 +43,9 @@ pub fn propose<G: Gate, R: Threads + Wait + Sync, O: Op>(
     sets: ThreadSets<O>,
     gate: &G,
 ) -> Result<Proposal, PoolError>
-    ensures proposal { IfOk result (IsProposal draft.base.now draft.header draft.calls.items) }
-    ensures may { OnOk result (MayPropose O.opcode sets.workers.items sets.own draft.header draft.calls.items) }
-    ensures refused { IfErr result (IsRefusal O.opcode sets.workers.items sets.own draft.header draft.calls.items) }
+    ensures proposal { IfOk result (IsProposal draft.entry.base.now draft.entry.header draft.entry.calls.items) }
+    ensures may { OnOk result (MayPropose O.opcode sets.workers.items sets.own draft.entry.header draft.entry.calls.items) }
+    ensures refused { IfErr result (IsRefusal O.opcode sets.workers.items sets.own draft.entry.header draft.entry.calls.items) }
 {
     match pool_fault(&sets.workers, &sets.own, &draft.header, &draft.calls) {
         Some(fault) => Err(Failure::Fault(fault)),
@@ -65,9 +65,9 @@ pub fn propose_on<G: Gate, R: Threads + Wait + Sync, O: Op>(
     sets: ThreadSets<O>,
     gate: &G,
 ) -> Result<Proposal, PoolError>
-    ensures proposal { IfOk result (IsProposal draft.base.now draft.header draft.calls.items) }
-    ensures may { OnOk result (MayPropose O.opcode sets.workers.items sets.own draft.header draft.calls.items) }
-    ensures refused { IfErr result (IsRefusal O.opcode sets.workers.items sets.own draft.header draft.calls.items) }
+    ensures proposal { IfOk result (IsProposal draft.entry.base.now draft.entry.header draft.entry.calls.items) }
+    ensures may { OnOk result (MayPropose O.opcode sets.workers.items sets.own draft.entry.header draft.entry.calls.items) }
+    ensures refused { IfErr result (IsRefusal O.opcode sets.workers.items sets.own draft.entry.header draft.entry.calls.items) }
 {
     match pool_fault(&sets.workers, &sets.own, &draft.header, &draft.calls) {
         Some(fault) => Err(Failure::Fault(fault)),
@@ -88,7 +88,7 @@ fn proposed_over<G: Gate, R: Threads + Wait + Sync, O: Op>(
     gate: &G,
 ) -> Result<Proposal, PoolError>
     requires opens { open_fault draft.header draft.calls.items ≡ None }
-    ensures proposal { IfOk result (IsProposal draft.base.now draft.header draft.calls.items) }
+    ensures proposal { IfOk result (IsProposal draft.entry.base.now draft.entry.header draft.entry.calls.items) }
     ensures want { IfErr result IsWant }
 {
     let Draft {
@@ -114,7 +114,7 @@ fn proposed<G: Gate, R: Threads + Wait + Sync, O: Op>(
     gate: &G,
 ) -> Result<Proposal, PoolError>
     requires opens { open_fault draft.header draft.calls.items ≡ None }
-    ensures proposal { IfOk result (IsProposal draft.base.now draft.header draft.calls.items) }
+    ensures proposal { IfOk result (IsProposal draft.entry.base.now draft.entry.header draft.entry.calls.items) }
     ensures want { IfErr result IsWant }
 {
     let Draft {
