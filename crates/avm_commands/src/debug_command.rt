@@ -22,10 +22,10 @@ pub fn debug_reply<O: Op>(
     alloc: Global,
     entry: u64,
     steps: u64,
-    input: &[u8],
+    input: Vec<u8>,
     ops: &FullOps<O>,
 ) -> Result<Reply, AllocError>
-    ensures { IfOk result (λ reply. IsDebugReply entry steps input.now (reply_shown reply)) }
+    ensures { IfOk result (λ reply. IsDebugReply entry steps input.items (reply_shown reply)) }
 {
     match ledger_and_block(alloc, input) {
         Ok((base, block)) => found_reply(alloc, base.ledger(), &block, entry as usize, steps, ops),
