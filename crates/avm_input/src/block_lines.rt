@@ -17,6 +17,7 @@ use teal_value::Failure;
 
 /// The ledger and the block of the only two lines. The input is given back once its digits are bytes, so that what the bytes
 /// of the block become has the input's room.
+#[tactic(auto, using(crate::proofs::LinesBehind::refused_alike))]
 pub fn ledger_and_block(alloc: Global, input: Vec<u8>) -> Result<(Base, Block), Failure<Refusal>>
     ensures { Gives (λ both. both) result (ledger_and_block (digit_lines input.items)) }
 {
