@@ -10,7 +10,7 @@ use crate::blocks::ledger_and_block;
 use crate::questions::Question;
 use crate::statuses::Status;
 use avm_block::Block;
-use avm_commands::view_found;
+use avm_commands::{DebugPoint, view_found};
 use avm_input::Refusal;
 use avm_ledger::Ledger;
 use avm_ops::{Op, OpSet, Ops};
@@ -41,14 +41,11 @@ impl Question for ViewAfter<'_> {
     fn answer(&self, alloc: Global, ops: OpSet) -> Result<Answer, AllocError> {
         match ledger_and_block(alloc, self.ledger, self.block) {
             Ok((base, block)) => {
-                view_of(
-                    alloc,
-                    base.ledger(),
-                    &block,
-                    self.entry as usize,
-                    self.steps,
-                    ops,
-                )
+                let point = DebugPoint {
+                    number: self.entry as usize,
+                    steps: self.steps,
+                };
+                view_of(alloc, base.ledger(), &block, point, ops)
             }
             Err(failure) => Ok(refusal(alloc, failure.into_fault()?)),
         }
@@ -59,15 +56,14 @@ fn view_of<O: Op>(
     alloc: Global,
     ledger: &Ledger,
     block: &Block,
-    entry: usize,
-    steps: u64,
+    point: DebugPoint,
     ops: Ops<O>,
 ) -> Result<Answer, AllocError>
     requires full { IsFull O.opcode ops }
     ensures { IfOk result (λ answer.
-        IsViewAnswer entry steps (Ok (ledger.now, block.now)) (answer_shown answer)) }
+        IsViewAnswer point.number point.steps (Ok (ledger.now, block.now)) (answer_shown answer)) }
 {
-    match view_found(alloc, ledger, block, entry, steps, &FullOps::from_full(ops)) {
+    match view_found(alloc, ledger, block, point, &FullOps::from_full(ops)) {
         Ok(text) => Ok(done(text.into_bytes())),
         Err(Failure::Fault(why)) => Ok(refusal(alloc, view_status(why))),
         Err(Failure::Memory) => Err(AllocError),

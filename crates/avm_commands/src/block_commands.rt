@@ -22,10 +22,10 @@ use teal_value::Failure;
 /// What `replay` answers to its input: whether the block replays over the ledger, or the first thing that differs.
 pub fn replay_reply<O: Op>(
     alloc: Global,
-    input: &[u8],
+    input: Vec<u8>,
     ops: &FullOps<O>,
 ) -> Result<Reply, AllocError>
-    ensures { IfOk result (λ reply. IsReplayReply input.now (reply_shown reply)) }
+    ensures { IfOk result (λ reply. IsReplayReply input.items (reply_shown reply)) }
 {
     match ledger_and_block(alloc, input) {
         Ok((base, block)) => verdict_on(alloc, base, &block, ops),
@@ -37,10 +37,10 @@ pub fn replay_reply<O: Op>(
 pub fn state_reply<O: Op>(
     alloc: Global,
     timestamp: u64,
-    input: &[u8],
+    input: Vec<u8>,
     ops: &FullOps<O>,
 ) -> Result<Reply, AllocError>
-    ensures { IfOk result (λ reply. reply_shown reply ≡ state_reply timestamp input.now) }
+    ensures { IfOk result (λ reply. reply_shown reply ≡ state_reply timestamp input.items) }
 {
     match past_ledger(alloc, timestamp, input, ops) {
         Ok(ledger) => ledger_reply(alloc, &ledger),
@@ -110,10 +110,10 @@ fn wrong_reply(alloc: Global, text: &str) -> Result<Reply, AllocError>
 fn past_ledger<O: Op>(
     alloc: Global,
     timestamp: u64,
-    input: &[u8],
+    input: Vec<u8>,
     ops: &FullOps<O>,
 ) -> Result<Ledger, Failure<Refusal>>
-    ensures { Gives (λ l. l) result (past_ledger_at timestamp input.now) }
+    ensures { Gives (λ l. l) result (past_ledger_at timestamp input.items) }
 {
     let (base, block) = ledger_and_block(alloc, input)?;
     match state_at_owned(alloc, base, &block, timestamp, ops) {

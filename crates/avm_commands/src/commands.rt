@@ -92,23 +92,23 @@ fn reply_of<R: Read, O: Op>(
     if input.len() > INPUT_LIMIT {
         return Ok(input_refusal(alloc)?);
     }
-    Ok(command_reply(alloc, command, input.as_slice(), ops)?)
+    Ok(command_reply(alloc, command, input, ops)?)
 }
 
 /// What a command answers to an input that is not too long.
 fn command_reply<O: Op>(
     alloc: Global,
     command: NodeCommand,
-    input: &[u8],
+    input: Vec<u8>,
     ops: &FullOps<O>,
 ) -> Result<Reply, AllocError>
     requires other { workers_of (Some command) ≡ None }
-    ensures { IfOk result (λ reply. IsCommandReply command input.now (reply_shown reply)) }
+    ensures { IfOk result (λ reply. IsCommandReply command input.items (reply_shown reply)) }
 {
     match command {
-        NodeCommand::Asm => asm_reply(alloc, input),
-        NodeCommand::Dis => dis_reply(alloc, input),
-        NodeCommand::Check => check_reply(alloc, input),
+        NodeCommand::Asm => asm_reply(alloc, input.as_slice()),
+        NodeCommand::Dis => dis_reply(alloc, input.as_slice()),
+        NodeCommand::Check => check_reply(alloc, input.as_slice()),
         NodeCommand::Replay => replay_reply(alloc, input, ops),
         NodeCommand::Debug { entry, steps } => debug_reply(alloc, entry, steps, input, ops),
         NodeCommand::State(timestamp) => state_reply(alloc, timestamp, input, ops),

@@ -16,19 +16,31 @@ use avm_stepper::{StepFault, Stepper};
 use std::alloc::{AllocError, Global};
 use teal_value::Failure;
 
+/// Where a debugger stands in a block: in the call of an entry, so many steps on.
+#[derive(Clone, Copy, Debug, PartialEq, Eq)]
+pub struct DebugPoint {
+    /// The entry's number, counted from 1.
+    pub number: usize,
+    pub steps: u64,
+}
+
 /// What `debug` answers to its input: what stands where the program of an entry's call is after so many steps. Entries are
 /// numbered from 1. It costs no more steps than the program has.
 pub fn debug_reply<O: Op>(
     alloc: Global,
     entry: u64,
     steps: u64,
-    input: &[u8],
+    input: Vec<u8>,
     ops: &FullOps<O>,
 ) -> Result<Reply, AllocError>
-    ensures { IfOk result (λ reply. IsDebugReply entry steps input.now (reply_shown reply)) }
+    ensures { IfOk result (λ reply. IsDebugReply entry steps input.items (reply_shown reply)) }
 {
+    let point = DebugPoint {
+        number: entry as usize,
+        steps,
+    };
     match ledger_and_block(alloc, input) {
-        Ok((base, block)) => found_reply(alloc, base.ledger(), &block, entry as usize, steps, ops),
+        Ok((base, block)) => found_reply(alloc, base.ledger(), &block, point, ops),
         Err(failure) => refusal_reply(alloc, failure.into_fault()?),
     }
 }
@@ -37,52 +49,49 @@ fn found_reply<O: Op>(
     alloc: Global,
     ledger: &Ledger,
     block: &Block,
-    entry: usize,
-    steps: u64,
+    point: DebugPoint,
     ops: &FullOps<O>,
 ) -> Result<Reply, AllocError>
-    ensures { IfOk result (λ reply. IsFoundReply entry steps (Ok (ledger.now, block.now)) (reply_shown reply)) }
+    ensures { IfOk result (λ reply. IsFoundReply point.number point.steps (Ok (ledger.now, block.now)) (reply_shown reply)) }
 {
-    match view_found(alloc, ledger, block, entry, steps, ops) {
+    match view_found(alloc, ledger, block, point, ops) {
         Ok(text) => Ok(Reply { text, status: DONE }),
         Err(Failure::Fault(refusal)) => refusal_reply(alloc, refusal),
         Err(Failure::Memory) => Err(AllocError),
     }
 }
 
-/// The view of the call of a block's entry after so many steps, in words; or why there is none. Entries are numbered from 1.
+/// The view at a point of a block, in words; or why there is none.
 pub fn view_found<O: Op>(
     alloc: Global,
     ledger: &Ledger,
     block: &Block,
-    entry: usize,
-    steps: u64,
+    point: DebugPoint,
     ops: &FullOps<O>,
 ) -> Result<String, Failure<Refusal>>
-    ensures found { IfOk result (λ text. FindsText (ledger.now, block.now) entry steps (string_bytes text)) }
-    ensures refused { IfErr result (IsDebugRefused ledger.now block.now entry steps) }
+    ensures found { IfOk result (λ text. FindsText (ledger.now, block.now) point.number point.steps (string_bytes text)) }
+    ensures refused { IfErr result (IsDebugRefused ledger.now block.now point.number point.steps) }
 {
-    let stepper = stepper_at(alloc, ledger, block, entry, steps, ops)?;
+    let stepper = stepper_at(alloc, ledger, block, point, ops)?;
     match shown_text(alloc, &stepper) {
         Ok(text) => Ok(text),
         Err(AllocError) => Err(Failure::Memory),
     }
 }
 
-/// The call of an entry, so many steps on.
+/// The call at a point of a block.
 fn stepper_at<O: Op>(
     alloc: Global,
     ledger: &Ledger,
     block: &Block,
-    entry: usize,
-    steps: u64,
+    point: DebugPoint,
     ops: &FullOps<O>,
 ) -> Result<Stepper, Failure<Refusal>>
-    ensures come { IfOk result (λ stepper. HasCome ledger.now block.now entry steps stepper) }
-    ensures refused { IfErr result (IsDebugRefused ledger.now block.now entry steps) }
+    ensures come { IfOk result (λ stepper. HasCome ledger.now block.now point.number point.steps stepper) }
+    ensures refused { IfErr result (IsDebugRefused ledger.now block.now point.number point.steps) }
 {
-    let mut stepper = opened(alloc, ledger, block, entry, ops)?;
-    for _step in 0..steps {
+    let mut stepper = opened(alloc, ledger, block, point.number, ops)?;
+    for _step in 0..point.steps {
         match stepper.step(alloc, ops) {
             Ok(()) => {}
             Err(Failure::Fault(StepFault::Ended)) => return Err(Failure::Fault(Refusal::Ended)),

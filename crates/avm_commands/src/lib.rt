@@ -13,4 +13,4 @@ mod programs;
 mod view_text;
 
 pub use commands::{answer, answer_to};
-pub use debug_command::{one_finding, view_found};
+pub use debug_command::{DebugPoint, one_finding, view_found};

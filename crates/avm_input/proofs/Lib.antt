@@ -5,3 +5,4 @@ pub mod LineReading
 pub mod Inputs
 pub mod Written
 pub mod WrittenDigits
+pub mod LinesBehind

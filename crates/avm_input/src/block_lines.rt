@@ -3,7 +3,9 @@
 ghost use Rattle.std.specs.Prelude.{◌≡◌, IfOk};
 ghost use Rattle.teal_value.specs.Answer.{Gives};
 ghost use Rattle.avm_ledger.specs.LedgerRules.{KeepsRules};
-ghost use Rattle.avm_input.specs.BlockLines.{first_block, first_ledger, ledger_and_block, needed_bytes};
+ghost use Rattle.avm_block.specs.AcceptedCalls.{is_accepted};
+ghost use Rattle.avm_block.specs.BlockReader.{block_at};
+ghost use Rattle.avm_input.specs.BlockLines.{first_ledger, ledger_and_block, needed_bytes, on_block};
 ghost use Rattle.avm_input.specs.DigitLines.{digit_lines};
 
 use crate::digit_lines::DigitLines;
@@ -13,14 +15,19 @@ use avm_replay::Base;
 use std::alloc::Global;
 use teal_value::Failure;
 
-/// The ledger and the block of the only two lines.
-pub fn ledger_and_block(alloc: Global, input: &[u8]) -> Result<(Base, Block), Failure<Refusal>>
-    ensures { Gives (λ both. both) result (ledger_and_block (digit_lines input.now)) }
+/// The ledger and the block of the only two lines. The input is given back once its digits are bytes, so that what the bytes
+/// of the block become has the input's room.
+#[tactic(auto, using(crate::proofs::LinesBehind::refused_alike))]
+pub fn ledger_and_block(alloc: Global, input: Vec<u8>) -> Result<(Base, Block), Failure<Refusal>>
+    ensures { Gives (λ both. both) result (ledger_and_block (digit_lines input.items)) }
 {
-    let mut lines = DigitLines::new(input);
+    let mut lines = DigitLines::new(input.as_slice());
     let base = next_base(alloc, &mut lines)?;
-    let block = next_block(alloc, &mut lines)?;
-    lines.end()?;
+    let bytes = needed_bytes(alloc, &mut lines)?;
+    let ended = lines.end();
+    drop(input);
+    let block = block_of(alloc, bytes.as_slice())?;
+    ended?;
     Ok((base, block))
 }
 
@@ -33,11 +40,10 @@ pub fn next_base(alloc: Global, lines: &mut DigitLines) -> Result<Base, Failure<
     Base::read(alloc, bytes.as_slice()).map_err(|failure| failure.map(Refusal::Ledger))
 }
 
-fn next_block(alloc: Global, lines: &mut DigitLines) -> Result<Block, Failure<Refusal>>
-    ensures { Gives (λ block. (block, lines.new)) result (first_block lines.old) }
+fn block_of(alloc: Global, bytes: &[u8]) -> Result<Block, Failure<Refusal>>
+    ensures { Gives (λ block. block) result (on_block (block_at is_accepted bytes.now)) }
 {
-    let bytes = needed_bytes(alloc, lines)?;
-    decode(alloc, bytes.as_slice()).map_err(|failure| failure.map(Refusal::Block))
+    decode(alloc, bytes).map_err(|failure| failure.map(Refusal::Block))
 }
 
 /// The bytes of the next line, which there has to be.

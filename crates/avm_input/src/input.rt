@@ -38,6 +38,9 @@ impl<R: Read> Read for Uninterrupted<R> {
 pub fn read_input<R: Read>(alloc: Global, reader: &mut R) -> io::Result<Vec<u8>>
     ensures { IfOk result (λ input. IsInput (R.remaining reader.old) input.items) }
 {
+    // glibc maps a large block by itself, and its pages are lost with it, until a mapped block as large was given back
+    // (mallopt(3), M_MMAP_THRESHOLD). This one touches no page. Later ones stand on the heap, whose pages are used again.
+    let _ = Vec::<u8>::with_capacity(alloc, INPUT_LIMIT);
     let mut limited = Uninterrupted { inner: reader }.take(INPUT_LIMIT as u64 + 1);
     let input = read_all(alloc, &mut limited)?;
     Ok(input)

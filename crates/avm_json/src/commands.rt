@@ -128,21 +128,21 @@ fn reply_of<R: Read, O: Op>(
     if input.len() > INPUT_LIMIT {
         return Ok(input_refusal(alloc)?);
     }
-    Ok(command_reply(alloc, command, input.as_slice(), ops)?)
+    Ok(command_reply(alloc, command, input, ops)?)
 }
 
 /// What a command answers to an input that is not too long.
 fn command_reply<O: Op>(
     alloc: Global,
     command: JsonCommand,
-    input: &[u8],
+    input: Vec<u8>,
     ops: &FullOps<O>,
 ) -> Result<Reply, AllocError>
-    ensures { IfOk result (λ reply. IsJsonReply command input.now (reply_shown reply)) }
+    ensures { IfOk result (λ reply. IsJsonReply command input.items (reply_shown reply)) }
 {
     match command {
-        JsonCommand::Lines => lines_reply(alloc, input),
-        JsonCommand::Show => show_reply(alloc, input),
+        JsonCommand::Lines => lines_reply(alloc, input.as_slice()),
+        JsonCommand::Show => show_reply(alloc, input.as_slice()),
         JsonCommand::Trace(entry) => trace_reply(alloc, entry, input, ops),
     }
 }

@@ -21,12 +21,12 @@ use teal_value::Failure;
 pub fn propose_reply<R: Threads + Wait + Sync, O: Op>(
     rt: &R,
     alloc: Global,
-    input: &[u8],
+    input: Vec<u8>,
     sets: Vec<Ops<O>>,
     own: Ops<O>,
 ) -> Result<Reply, AllocError>
     requires sets { AreWorkerSets O.opcode sets.items own }
-    ensures { IfOk result (λ reply. IsProposeReply input.now (reply_shown reply)) }
+    ensures { IfOk result (λ reply. IsProposeReply input.items (reply_shown reply)) }
 {
     match propose_input(rt, alloc, sets.len(), input) {
         Ok(read) => pool_answer(rt, alloc, read, sets, own),

@@ -30,12 +30,12 @@ pub fn propose_input<R: Threads + Sync>(
     rt: &R,
     alloc: Global,
     workers: usize,
-    input: &[u8],
+    input: Vec<u8>,
 ) -> Result<ProposeInput, Failure<Refusal>>
-    ensures exact { Gives input_shown result (propose_input (digit_lines input.now)) }
+    ensures exact { Gives input_shown result (propose_input (digit_lines input.items)) }
     ensures profile { IfOk result (λ read. read.header.profile ≡ Three) }
 {
-    let mut lines = DigitLines::new(input);
+    let mut lines = DigitLines::new(input.as_slice());
     let base = next_base(alloc, &mut lines)?;
     let header = next_header(alloc, &mut lines)?;
     let lines = lines.into_lines(alloc)?;

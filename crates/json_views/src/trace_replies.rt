@@ -19,10 +19,10 @@ use teal_value::Failure;
 pub fn trace_reply<O: Op>(
     alloc: Global,
     entry: u64,
-    input: &[u8],
+    input: Vec<u8>,
     ops: &FullOps<O>,
 ) -> Result<Reply, AllocError>
-    ensures { IfOk result (λ reply. IsTraceReply entry input.now (reply_shown reply)) }
+    ensures { IfOk result (λ reply. IsTraceReply entry input.items (reply_shown reply)) }
 {
     match ledger_and_block(alloc, input) {
         Ok((base, block)) => found_reply(alloc, base.ledger(), &block, entry as usize, ops),

@@ -12,5 +12,5 @@ pub returns : goal.returns
 returns g c = (
   c.in_ok-input.input.items,
   c.in_ok-input.ensures,
-  record { long = λ far. absurd (omega (arith, far, c.len.ensures, c.if-len-gt-INPUT_LIMIT.false)); other = λ _. rw c.as_slice.ensures.value at c.in_ok-propose_reply.ensures },
+  record { long = λ far. absurd (omega (arith, far, c.len.ensures, c.if-len-gt-INPUT_LIMIT.false)); other = λ _. c.in_ok-propose_reply.ensures },
 )
