@@ -124,11 +124,11 @@ fn push_account(
     changes: &mut Vec<LocalChange>,
     before: &OpenLedger,
     id: u64,
-    local: (&(Address, u64), &State),
+    place: &(Address, u64),
+    state: &State,
 ) -> Result<(), AllocError>
-    ensures { OnOk result (local_seen changes.new.items ≡ local_seen changes.old.items ++ account_changes before.now id (local.0.now, local.1.now)) }
+    ensures { OnOk result (local_seen changes.new.items ≡ local_seen changes.old.items ++ account_changes before.now id (place.now, state.now)) }
 {
-    let (place, state) = local;
     let (account, application) = *place;
     if application != id {
         return Ok(());
@@ -151,8 +151,8 @@ pub(crate) fn local_changes(
     ensures { IfOk result (λ changes. local_seen changes.items ≡ local_changes_along before.now id after.now.local_states) }
 {
     let mut changes = Vec::new(alloc);
-    for local in after.local_states() {
-        push_account(alloc, &mut changes, before, id, local)?;
+    for (place, state) in after.local_states() {
+        push_account(alloc, &mut changes, before, id, place, state)?;
     }
     Ok(changes)
 }
