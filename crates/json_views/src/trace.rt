@@ -28,6 +28,7 @@ use avm_stepper::{Stepper, entry_of};
 use json::Pretty;
 use std::alloc::{AllocError, Global};
 use teal_check::Program;
+use teal_dis::line_numbers;
 use teal_value::Failure;
 
 /// The text of the trace of a block's entry over the ledger before the block, or why there is none. Entries are numbered
@@ -138,8 +139,9 @@ fn put_run<O: Op>(
     ensures refused { IfErr result (IsStatesFailure stepper.old) }
 {
     let program = program_of(stepper)?;
+    let lines = line_numbers(alloc, &program)?;
     put_name(out, "app-call-trace")?;
-    put_states(alloc, out, &program, stepper, ops)?;
+    put_states(alloc, out, &program, &lines, stepper, ops)?;
     put_name(out, "disassembly")?;
     put_disassembly(alloc, out, &program)?;
     Ok(())

@@ -15,7 +15,6 @@ use avm_stepper::{Next, Stepper};
 use json::Pretty;
 use std::alloc::{AllocError, Global};
 use teal_check::Program;
-use teal_dis::line_numbers;
 use teal_value::Failure;
 
 /// How many bytes the text of a trace may have: 64 MiB.
@@ -38,18 +37,19 @@ pub(crate) fn put_states<O: Op>(
     alloc: Global,
     out: &mut Pretty,
     program: &Program,
+    lines: &[u16],
     stepper: &mut Stepper,
     ops: &FullOps<O>,
 ) -> Result<(), Failure<TraceRefusal>>
+    requires lines { AreLineNumbers program.now.placed lines.now }
     requires start { IsAtStart stepper.old }
     ensures written { OnOk result (AddsStates program.now stepper.old stepper.new out.old out.new) }
     ensures refused { IfErr result (IsStatesFailure stepper.old) }
 {
-    let lines = line_numbers(alloc, program)?;
     begin_array(out)?;
     let mut total = 0u64;
     for _step in 0..MOST_STATES {
-        let written = put_current(alloc, out, program, &lines, stepper)?;
+        let written = put_current(alloc, out, program, lines, stepper)?;
         total = total.saturating_add(written.weight);
         if total > TEXT_LIMIT {
             return Err(Failure::Fault(TraceRefusal::TooLong));
