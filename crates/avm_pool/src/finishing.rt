@@ -54,13 +54,14 @@ fn block_of<R: Threads + Sync>(
     ensures own { IsTrue result.0 ↔ IsJournalOf journal.now draft.now.base.now draft.now.header (arc_value draft.now.calls).items }
     ensures sealed { IfOk result.1 (λ sealed. IsSealed journal.now sealed.block sealed.numbers.items) }
 {
+    let (base, header, calls) = (draft.base.ledger(), &draft.header, draft.calls.as_slice());
     join(
         rt,
         move || -> bool
-            ensures { IsTrue result ↔ IsJournalOf journal.entry.now draft.entry.now.base.now draft.entry.now.header (arc_value draft.entry.now.calls).items }
+            ensures { IsTrue result ↔ IsJournalOf journal.entry.now base.entry.now header.entry.now calls.entry.now }
         {
             free_shards(shards);
-            journal.is_of(draft.base.ledger(), &draft.header, &draft.calls)
+            journal.is_of(base, header, calls)
         },
         || -> Result<Sealed, AllocError>
             ensures { IfOk result (λ sealed. IsSealed journal.entry.now sealed.block sealed.numbers.items) }
