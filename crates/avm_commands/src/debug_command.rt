@@ -72,26 +72,28 @@ pub fn view_found<O: Op>(
     ensures found { IfOk result (λ text. FindsText (ledger.now, block.now) point.number point.steps (string_bytes text)) }
     ensures refused { IfErr result (IsDebugRefused ledger.now block.now point.number point.steps) }
 {
-    let stepper = stepper_at(alloc, ledger, block, point, ops)?;
+    let DebugPoint { number, steps } = point;
+    let stepper = stepper_at(alloc, ledger, block, number, steps, ops)?;
     match shown_text(alloc, &stepper) {
         Ok(text) => Ok(text),
         Err(AllocError) => Err(Failure::Memory),
     }
 }
 
-/// The call at a point of a block.
+/// The call of an entry, so many steps on.
 fn stepper_at<O: Op>(
     alloc: Global,
     ledger: &Ledger,
     block: &Block,
-    point: DebugPoint,
+    entry: usize,
+    steps: u64,
     ops: &FullOps<O>,
 ) -> Result<Stepper, Failure<Refusal>>
-    ensures come { IfOk result (λ stepper. HasCome ledger.now block.now point.number point.steps stepper) }
-    ensures refused { IfErr result (IsDebugRefused ledger.now block.now point.number point.steps) }
+    ensures come { IfOk result (λ stepper. HasCome ledger.now block.now entry steps stepper) }
+    ensures refused { IfErr result (IsDebugRefused ledger.now block.now entry steps) }
 {
-    let mut stepper = opened(alloc, ledger, block, point.number, ops)?;
-    for _step in 0..point.steps {
+    let mut stepper = opened(alloc, ledger, block, entry, ops)?;
+    for _step in 0..steps {
         match stepper.step(alloc, ops) {
             Ok(()) => {}
             Err(Failure::Fault(StepFault::Ended)) => return Err(Failure::Fault(Refusal::Ended)),
