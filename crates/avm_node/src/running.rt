@@ -4,9 +4,9 @@ ghost use Rattle.std.specs.Prelude.{◌≡◌, IfOk, None, map};
 ghost use Rattle.avm_input.specs.Answers.{CommandAnswers, CommandFails, IsReply};
 ghost use Rattle.avm_input.specs.Replies.{failed, usage_reply};
 ghost use Rattle.avm_input.specs.CommandLine.{command_in};
+ghost use Rattle.avm_input.specs.declared.command_line.NodeCommand.TheVariants.{Propose};
 ghost use Rattle.avm_input.specs.Shown.{reply_shown};
 ghost use Rattle.avm_node.specs.Answers.{IsNodeReply};
-ghost use Rattle.avm_node.specs.ProposeCommands.{IsProposeReply};
 ghost use Rattle.avm_node.specs.WorkerSets.{AreSets, AreWorkerSets};
 
 use crate::propose_command::propose_reply;
@@ -48,7 +48,7 @@ pub fn run<'a, T: Threads + Wait + Sync, R: Read, W: Write, O: Op>(
         Ok(command) => match workers_of(command) {
             Some(workers) => {
                 sets.truncate(usize::from(workers));
-                match proposed(rt, alloc, reader, sets, own) {
+                match proposed(rt, alloc, workers, reader, sets, own) {
                     Ok(reply) => write_reply(writer, reply.text.as_str(), reply.status),
                     Err(_) => FAILED,
                 }
@@ -63,12 +63,13 @@ pub fn run<'a, T: Threads + Wait + Sync, R: Read, W: Write, O: Op>(
 fn proposed<T: Threads + Wait + Sync, R: Read, O: Op>(
     rt: &T,
     alloc: Global,
+    workers: u8,
     reader: &mut R,
     sets: Vec<Ops<O>>,
     own: Ops<O>,
 ) -> io::Result<Reply>
     requires sets { AreWorkerSets O.opcode sets.items own }
-    ensures { IfOk result (λ reply. IsReply IsProposeReply (R.remaining reader.old) (reply_shown reply)) }
+    ensures { IfOk result (λ reply. IsReply (IsNodeReply (Propose workers)) (R.remaining reader.old) (reply_shown reply)) }
 {
     let input = read_input(alloc, reader)?;
     if input.len() > INPUT_LIMIT {
