@@ -1,9 +1,52 @@
 //! The opcodes of versions 2 and 3.
 
-ghost use Rattle.std.specs.Prelude.{◌≡◌, Some, IfSome};
-ghost use Rattle.teal_table.specs.Table.{opcode_at, code_of, name_of, row_of};
+ghost use Rattle.std.specs.Prelude.{◌≡◌, ◌==◌, Some, IfSome, length};
+ghost use Rattle.std.specs.List.{filter};
+ghost use Rattle.teal_table.specs.Table.{opcodes, opcode_at, code_of, name_of, row_of};
+ghost use Rattle.teal_table.specs.Shown.{shown};
 
-use crate::shape::{Shape, Version};
+use crate::shape::{Shape, ValueKind, Version};
+use crate::table_row::Row;
+
+// The types of operands and results, one letter each: uint64, bytes, any value.
+const NONE: &[ValueKind] = &[];
+
+const B: &[ValueKind] = &[ValueKind::Bytes];
+
+const UU: &[ValueKind] = &[ValueKind::Uint, ValueKind::Uint];
+
+const U: &[ValueKind] = &[ValueKind::Uint];
+
+const XX: &[ValueKind] = &[ValueKind::Any, ValueKind::Any];
+
+const X: &[ValueKind] = &[ValueKind::Any];
+
+const XXXX: &[ValueKind] = &[
+    ValueKind::Any,
+    ValueKind::Any,
+    ValueKind::Any,
+    ValueKind::Any,
+];
+
+const XXU: &[ValueKind] = &[ValueKind::Any, ValueKind::Any, ValueKind::Uint];
+
+const BB: &[ValueKind] = &[ValueKind::Bytes, ValueKind::Bytes];
+
+const BUU: &[ValueKind] = &[ValueKind::Bytes, ValueKind::Uint, ValueKind::Uint];
+
+const XU: &[ValueKind] = &[ValueKind::Any, ValueKind::Uint];
+
+const XUU: &[ValueKind] = &[ValueKind::Any, ValueKind::Uint, ValueKind::Uint];
+
+const BU: &[ValueKind] = &[ValueKind::Bytes, ValueKind::Uint];
+
+const UB: &[ValueKind] = &[ValueKind::Uint, ValueKind::Bytes];
+
+const UUB: &[ValueKind] = &[ValueKind::Uint, ValueKind::Uint, ValueKind::Bytes];
+
+const UBX: &[ValueKind] = &[ValueKind::Uint, ValueKind::Bytes, ValueKind::Any];
+
+const BX: &[ValueKind] = &[ValueKind::Bytes, ValueKind::Any];
 
 /// An instruction of the opcode table (AVM specification, version 2 and 3 opcodes, application mode), in the order of
 /// the codes. What an opcode means is in its [`Row`], and what it does in the crates above.
@@ -325,6 +368,147 @@ impl Opcode {
             _ => Version::Two,
         }
     }
+
+    /// The types of its operands, as its row says, the deepest first.
+    #[tactic(auto, unfolding(crate::specs::Table::row_of))]
+    pub fn pops(self) -> &'static [ValueKind]
+        ensures { result.now ≡ (row_of self).pops }
+    {
+        match self {
+            Opcode::Sha256
+            | Opcode::Sha512_256
+            | Opcode::Len
+            | Opcode::Btoi
+            | Opcode::Substring
+            | Opcode::AppGlobalGet
+            | Opcode::AppGlobalDel => B,
+            Opcode::Not
+            | Opcode::Itob
+            | Opcode::BitNot
+            | Opcode::Gtxns
+            | Opcode::Gtxnsa
+            | Opcode::Bnz
+            | Opcode::Bz
+            | Opcode::Return
+            | Opcode::Assert => U,
+            Opcode::Store | Opcode::Pop | Opcode::Dup => X,
+            Opcode::Concat => BB,
+            Opcode::Getbyte => BU,
+            Opcode::AppGlobalPut => BX,
+            Opcode::AppLocalGet | Opcode::AppGlobalGetEx | Opcode::AppLocalDel => UB,
+            Opcode::Add
+            | Opcode::Subtract
+            | Opcode::Divide
+            | Opcode::Multiply
+            | Opcode::Less
+            | Opcode::Greater
+            | Opcode::LessOrEqual
+            | Opcode::GreaterOrEqual
+            | Opcode::And
+            | Opcode::Or
+            | Opcode::Remainder
+            | Opcode::BitOr
+            | Opcode::BitAnd
+            | Opcode::BitXor
+            | Opcode::Mulw
+            | Opcode::Addw
+            | Opcode::AppOptedIn => UU,
+            Opcode::Getbit => XU,
+            Opcode::Equal | Opcode::NotEqual | Opcode::Dup2 | Opcode::Swap => XX,
+            Opcode::Substring3 | Opcode::Setbyte => BUU,
+            Opcode::AppLocalPut => UBX,
+            Opcode::AppLocalGetEx => UUB,
+            Opcode::Setbit => XUU,
+            Opcode::Select => XXU,
+            _ => NONE,
+        }
+    }
+
+    /// The types of what it leaves in their place, as its row says, the deepest first.
+    #[tactic(auto, unfolding(crate::specs::Table::row_of))]
+    pub fn pushes(self) -> &'static [ValueKind]
+        ensures { result.now ≡ (row_of self).pushes }
+    {
+        match self {
+            Opcode::Sha256
+            | Opcode::Sha512_256
+            | Opcode::Itob
+            | Opcode::Bytec
+            | Opcode::Bytec0
+            | Opcode::Bytec1
+            | Opcode::Bytec2
+            | Opcode::Bytec3
+            | Opcode::Concat
+            | Opcode::Substring
+            | Opcode::Substring3
+            | Opcode::Setbyte
+            | Opcode::Pushbytes => B,
+            // What computes with numbers, and what else leaves one.
+            Opcode::Add
+            | Opcode::Subtract
+            | Opcode::Divide
+            | Opcode::Multiply
+            | Opcode::Less
+            | Opcode::Greater
+            | Opcode::LessOrEqual
+            | Opcode::GreaterOrEqual
+            | Opcode::And
+            | Opcode::Or
+            | Opcode::Equal
+            | Opcode::NotEqual
+            | Opcode::Not
+            | Opcode::Remainder
+            | Opcode::BitOr
+            | Opcode::BitAnd
+            | Opcode::BitXor
+            | Opcode::BitNot => U,
+            Opcode::Len
+            | Opcode::Btoi
+            | Opcode::Intc
+            | Opcode::Intc0
+            | Opcode::Intc1
+            | Opcode::Intc2
+            | Opcode::Intc3
+            | Opcode::Getbit
+            | Opcode::Getbyte
+            | Opcode::AppOptedIn
+            | Opcode::Pushint => U,
+            Opcode::Txn
+            | Opcode::Global
+            | Opcode::Gtxn
+            | Opcode::Load
+            | Opcode::Txna
+            | Opcode::Gtxna
+            | Opcode::Gtxns
+            | Opcode::Gtxnsa
+            | Opcode::Dig
+            | Opcode::Select
+            | Opcode::Setbit
+            | Opcode::AppLocalGet
+            | Opcode::AppGlobalGet => X,
+            Opcode::Mulw | Opcode::Addw => UU,
+            Opcode::AppLocalGetEx | Opcode::AppGlobalGetEx => XU,
+            Opcode::Dup | Opcode::Swap => XX,
+            Opcode::Dup2 => XXXX,
+            _ => NONE,
+        }
+    }
+
+    /// Its row of the table.
+    pub fn row(self) -> Row
+        ensures { shown result ≡ row_of self }
+    {
+        Row {
+            opcode: self,
+            code: self.code(),
+            name: self.name(),
+            immediates: self.immediates(),
+            cost: self.cost(),
+            version: self.version(),
+            pops: self.pops(),
+            pushes: self.pushes(),
+        }
+    }
 }
 
 #[tactic(auto, unfolding(crate::specs::Table::row_of))]
@@ -410,5 +594,100 @@ fn opcode_of(code: u8) -> Option<Opcode>
         0x80 => Some(Opcode::Pushbytes),
         0x81 => Some(Opcode::Pushint),
         _ => None,
+    }
+}
+
+// The opcodes whose names have so many bytes, by rising code.
+#[tactic(auto, unfolding(crate::specs::Table::row_of, crate::specs::Table::opcodes))]
+pub(crate) fn named_in(len: usize) -> &'static [Opcode]
+    ensures { result.now ≡ filter (λ o. length (name_of o) == len) opcodes }
+{
+    match len {
+        1 => &[
+            Opcode::Add,
+            Opcode::Subtract,
+            Opcode::Divide,
+            Opcode::Multiply,
+            Opcode::Less,
+            Opcode::Greater,
+            Opcode::Not,
+            Opcode::Remainder,
+            Opcode::BitOr,
+            Opcode::BitAnd,
+            Opcode::BitXor,
+            Opcode::BitNot,
+            Opcode::B,
+        ],
+        2 => &[
+            Opcode::LessOrEqual,
+            Opcode::GreaterOrEqual,
+            Opcode::And,
+            Opcode::Or,
+            Opcode::Equal,
+            Opcode::NotEqual,
+            Opcode::Bz,
+        ],
+        3 => &[
+            Opcode::Err,
+            Opcode::Len,
+            Opcode::Txn,
+            Opcode::Bnz,
+            Opcode::Pop,
+            Opcode::Dup,
+            Opcode::Dig,
+        ],
+        4 => &[
+            Opcode::Itob,
+            Opcode::Btoi,
+            Opcode::Mulw,
+            Opcode::Addw,
+            Opcode::Intc,
+            Opcode::Gtxn,
+            Opcode::Load,
+            Opcode::Txna,
+            Opcode::Dup2,
+            Opcode::Swap,
+        ],
+        5 => &[Opcode::Bytec, Opcode::Store, Opcode::Gtxna, Opcode::Gtxns],
+        6 => &[
+            Opcode::Sha256,
+            Opcode::Intc0,
+            Opcode::Intc1,
+            Opcode::Intc2,
+            Opcode::Intc3,
+            Opcode::Global,
+            Opcode::Gtxnsa,
+            Opcode::Return,
+            Opcode::Assert,
+            Opcode::Select,
+            Opcode::Concat,
+            Opcode::Getbit,
+            Opcode::Setbit,
+        ],
+        7 => &[
+            Opcode::Bytec0,
+            Opcode::Bytec1,
+            Opcode::Bytec2,
+            Opcode::Bytec3,
+            Opcode::Getbyte,
+            Opcode::Setbyte,
+            Opcode::Pushint,
+        ],
+        9 => &[Opcode::Intcblock, Opcode::Substring, Opcode::Pushbytes],
+        10 => &[Opcode::Sha512_256, Opcode::Bytecblock, Opcode::Substring3],
+        12 => &[Opcode::AppOptedIn],
+        13 => &[
+            Opcode::AppLocalGet,
+            Opcode::AppLocalPut,
+            Opcode::AppLocalDel,
+        ],
+        14 => &[
+            Opcode::AppGlobalGet,
+            Opcode::AppGlobalPut,
+            Opcode::AppGlobalDel,
+        ],
+        16 => &[Opcode::AppLocalGetEx],
+        17 => &[Opcode::AppGlobalGetEx],
+        _ => &[],
     }
 }
