@@ -17,6 +17,7 @@ use avm_ledger::Header;
 use avm_states::State;
 use std::alloc::{AllocError, Global};
 use std::marker::Model;
+use std::mem;
 use std::sync::Arc;
 use teal_value::{Address, StateKey, Value};
 
@@ -47,20 +48,6 @@ impl Model for Env {
 }
 
 impl Env {
-    /// What a call knows that has read and written nothing. It takes no memory.
-    pub fn new(alloc: Global, call: Arc<CallData>, header: Header, current: u64) -> Env
-        ensures { result ≡ record { call = arc_value call; header = header; current = current; reads = []; writes = [] } }
-    {
-        Env {
-            call,
-            header,
-            current,
-            reads: ItemMap::new(alloc),
-            writes: ItemMap::new(alloc),
-            absent: ItemValue::Absent,
-        }
-    }
-
     /// What a call knows that has read and written these items. It takes no memory.
     pub fn from_items(
         call: Arc<CallData>,
@@ -209,10 +196,13 @@ impl Env {
         self.writes.insert(item, ItemValue::Local(copy))
     }
 
-    /// The items that the call was given and those that it has written.
-    pub fn into_items(self) -> (ItemMap, ItemMap)
-        ensures { result ≡ (self.reads, self.writes) }
+    /// Takes out the items that the call was given and those that it has written. It takes no memory.
+    pub fn take_items(&mut self, alloc: Global) -> (ItemMap, ItemMap)
+        ensures taken { result ≡ (self.old.reads, self.old.writes) }
+        ensures left { self.new ≡ record self.old { reads = []; writes = [] } }
     {
-        (self.reads, self.writes)
+        let reads = mem::replace(&mut self.reads, ItemMap::new(alloc));
+        let writes = mem::replace(&mut self.writes, ItemMap::new(alloc));
+        (reads, writes)
     }
 }

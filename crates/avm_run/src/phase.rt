@@ -16,7 +16,7 @@ use crate::ending::{cleared, end_call};
 use crate::executions::Executions;
 use crate::running::{Callee, Running, Spare, StepsOutcome, make_steps, start_program};
 use avm_call::{Call, Cause, Ended, Outcome};
-use avm_items::{Env, Item, ItemMap, ItemValue};
+use avm_items::{Item, ItemMap, ItemValue};
 use avm_ops::Op;
 use std::alloc::AllocError;
 use std::mem;
@@ -298,9 +298,7 @@ fn ended_run<O: Op>(
     ensures outcome { IfOk result (λ closed. closed.outcome ≡ outcome_of call.now.completion ended) }
 {
     let id = running.env.current();
-    let empty = Env::new(context.alloc, call.shared_fields()?, *context.header, id);
-    let env = mem::replace(&mut running.env, empty);
-    let (reads, writes) = env.into_items();
+    let (reads, writes) = running.env.take_items(context.alloc);
     let end = end_call(context.alloc, call, id, running.row.get(), writes, ended)?;
     Ok(EndedRun {
         reads,
