@@ -78,7 +78,8 @@ impl Binary {
     #[tactic(auto, unfolding(avm_ops::specs::Effect::effect))]
     #[inline(always)]
     fn execute(&self, _alloc: Global, _instr: &Instr, cpu: &mut Cpu, _env: &mut Env) -> Executed
-        ensures { Executes (binary_opcode self.now) _instr.now.immediates cpu.old _env.old result cpu.new _env.new }
+        ensures { Executes (binary_opcode self.now)
+            _instr.now.immediates cpu.old _env.old result cpu.new _env.new }
     {
         let (a, b) = cpu.two_uints()?;
         let value = self.value(a, b)?;

@@ -73,7 +73,8 @@ impl Comparison {
     #[tactic(auto, unfolding(avm_ops::specs::Effect::effect))]
     #[inline(always)]
     fn execute(&self, _alloc: Global, _instr: &Instr, cpu: &mut Cpu, _env: &mut Env) -> Executed
-        ensures { Executes (comparison_opcode self.now) _instr.now.immediates cpu.old _env.old result cpu.new _env.new }
+        ensures { Executes (comparison_opcode self.now)
+            _instr.now.immediates cpu.old _env.old result cpu.new _env.new }
     {
         let (a, b) = cpu.two_uints()?;
         let holds = self.holds(a, b);
@@ -140,7 +141,8 @@ impl Equality {
     #[tactic(auto, unfolding(avm_ops::specs::Effect::effect))]
     #[inline(always)]
     fn execute(&self, _alloc: Global, _instr: &Instr, cpu: &mut Cpu, _env: &mut Env) -> Executed
-        ensures { Executes (equality_opcode self.now) _instr.now.immediates cpu.old _env.old result cpu.new _env.new }
+        ensures { Executes (equality_opcode self.now)
+            _instr.now.immediates cpu.old _env.old result cpu.new _env.new }
     {
         let (a, b) = cpu.two_values()?;
         let same = are_equal(a, b)?;

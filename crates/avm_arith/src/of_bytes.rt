@@ -84,7 +84,8 @@ impl OfBytes {
     #[tactic(auto, unfolding(avm_ops::specs::Effect::effect))]
     #[inline(always)]
     fn execute(&self, alloc: Global, instr: &Instr, cpu: &mut Cpu, _env: &mut Env) -> Executed
-        ensures { Executes (of_bytes_opcode self.now) instr.now.immediates cpu.old _env.old result cpu.new _env.new }
+        ensures { Executes (of_bytes_opcode self.now)
+            instr.now.immediates cpu.old _env.old result cpu.new _env.new }
     {
         let bytes = cpu.one_bytes()?;
         let value = self.value(alloc, &instr.immediates, bytes)?;

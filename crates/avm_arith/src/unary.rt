@@ -59,7 +59,8 @@ impl Unary {
     #[tactic(auto, unfolding(avm_ops::specs::Effect::effect))]
     #[inline(always)]
     fn execute(&self, alloc: Global, _instr: &Instr, cpu: &mut Cpu, _env: &mut Env) -> Executed
-        ensures { Executes (unary_opcode self.now) _instr.now.immediates cpu.old _env.old result cpu.new _env.new }
+        ensures { Executes (unary_opcode self.now)
+            _instr.now.immediates cpu.old _env.old result cpu.new _env.new }
     {
         let a = cpu.one_uint()?;
         let value = self.value(alloc, a)?;

@@ -56,7 +56,8 @@ impl Wide {
     #[tactic(auto, unfolding(avm_ops::specs::Effect::effect))]
     #[inline(always)]
     fn execute(&self, _alloc: Global, _instr: &Instr, cpu: &mut Cpu, _env: &mut Env) -> Executed
-        ensures { Executes (wide_opcode self.now) _instr.now.immediates cpu.old _env.old result cpu.new _env.new }
+        ensures { Executes (wide_opcode self.now)
+            _instr.now.immediates cpu.old _env.old result cpu.new _env.new }
     {
         let (a, b) = cpu.two_uints()?;
         let (high, low) = words(self.value(a, b));

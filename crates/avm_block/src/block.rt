@@ -54,7 +54,8 @@ impl Block {
         requires rising { RisesAbove 0 entries.items }
         requires calls { All (λ e. is_accepted header.profile e.call ≡ true) entries.items }
         requires places { All (λ e. HasPlace e.outcome) entries.items }
-        ensures { result ≡ record { base = base; header = header; entries = entries.items; after = after } }
+        ensures { result
+            ≡ record { base = base; header = header; entries = entries.items; after = after } }
     {
         entries_fit(&entries);
         Block {
@@ -67,8 +68,18 @@ impl Block {
 
     // The block of these parts.
     pub(crate) fn from_parts(parts: Parts) -> Block
-        requires { IsBlock is_accepted (record { base = parts.base; header = parts.header; entries = parts.entries.items; after = parts.after }) }
-        ensures { result ≡ record { base = parts.base; header = parts.header; entries = parts.entries.items; after = parts.after } }
+        requires { IsBlock is_accepted (record {
+          base = parts.base;
+          header = parts.header;
+          entries = parts.entries.items;
+          after = parts.after;
+        }) }
+        ensures { result ≡ record {
+          base = parts.base;
+          header = parts.header;
+          entries = parts.entries.items;
+          after = parts.after;
+        } }
     {
         let Parts {
             base,

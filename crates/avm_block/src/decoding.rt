@@ -35,7 +35,8 @@ pub fn decode(alloc: Global, bytes: &[u8]) -> Result<Block, BlockError>
     // What is read is spelled by those very bytes.
     ensures spelled { IfOk result (λ block. block_bytes block ≡ bytes.now) }
     // A block is read from its spelling, unless memory runs out.
-    ensures only { (block : BlockRecord) → IsBlock is_accepted block → bytes.now ≡ block_bytes block → Gives (λ x. x) result (Ok block) }
+    ensures only { (block : BlockRecord) → IsBlock is_accepted block
+        → bytes.now ≡ block_bytes block → Gives (λ x. x) result (Ok block) }
 {
     block_of(alloc, bytes)
 }
@@ -49,7 +50,13 @@ fn block_of(alloc: Global, bytes: &[u8]) -> Result<Block, BlockError>
 
 /// The parts of the block that the bytes are.
 fn parts_of(alloc: Global, bytes: &[u8]) -> Result<Parts, BlockError>
-    ensures { Gives (λ parts. record { base = parts.base; header = parts.header; entries = parts.entries.items; after = parts.after }) result (block_at is_accepted bytes.now) }
+    ensures { Gives (λ parts. record {
+      base = parts.base;
+      header = parts.header;
+      entries
+          = parts.entries.items;
+      after = parts.after;
+    }) result (block_at is_accepted bytes.now) }
 {
     let (parts, rest) = body_of(alloc, Fields::new(bytes))?;
     let (body, _) = bytes.split_at(bytes.len() - rest.len());
@@ -65,7 +72,16 @@ fn parts_of(alloc: Global, bytes: &[u8]) -> Result<Parts, BlockError>
 
 /// All up to the last digest.
 fn body_of(alloc: Global, fields: Fields<'_>) -> Result<(Parts, Fields<'_>), BlockError>
-    ensures { Gives (λ x. (record { base = x.0.base; header = x.0.header; entries = x.0.entries.items; after = x.0.after }, x.1)) result (body_at is_accepted fields.entry) }
+    ensures { Gives (λ x. (
+      record {
+        base = x.0.base;
+        header = x.0.header;
+        entries
+            = x.0.entries.items;
+        after = x.0.after;
+      },
+      x.1,
+    )) result (body_at is_accepted fields.entry) }
 {
     let rest = behind_magic(fields)?;
     let (profile, rest) = profile_of(rest)?;
@@ -112,7 +128,8 @@ fn entries_of(
     count: u32,
     fields: Fields<'_>,
 ) -> Result<(Vec<Entry>, Fields<'_>), BlockError>
-    ensures { Gives (λ x. (x.0.items, x.1)) result (block_entries_at (is_accepted profile) count 0 fields.entry) }
+    ensures { Gives (λ x. (x.0.items, x.1)) result
+        (block_entries_at (is_accepted profile) count 0 fields.entry) }
 {
     let mut entries = Vec::new(alloc);
     let mut before = 0;
@@ -198,7 +215,8 @@ fn block_fault_of(fault: CallDataFault) -> BlockFault
 
 /// The call of these fields, where a block of this profile may have it.
 fn accepted(alloc: Global, profile: Profile, fields: Arc<CallData>) -> Result<Call, BlockError>
-    ensures { Gives (λ call. call) result (if is_accepted profile (arc_value fields) then Ok (arc_value fields) else Err Field) }
+    ensures { Gives (λ call. call) result
+        (if is_accepted profile (arc_value fields) then Ok (arc_value fields) else Err Field) }
 {
     match Call::of_shared(alloc, fields) {
         Ok(call) => {

@@ -46,7 +46,8 @@ fn put_body(bytes: &mut Vec<u8>, block: &Block) -> Result<(), AllocError>
 }
 
 fn put_entries(bytes: &mut Vec<u8>, entries: &[Entry]) -> Result<(), AllocError>
-    ensures { OnOk result (bytes.new.items ≡ bytes.old.items ++ counted_bytes u32_bytes block_entry_bytes entries.now) }
+    ensures { OnOk result (bytes.new.items
+        ≡ bytes.old.items ++ counted_bytes u32_bytes block_entry_bytes entries.now) }
 {
     put_long_count(bytes, entries.len())?;
     for entry in entries {

@@ -32,7 +32,8 @@ pub fn none_begins_another()
 pub fn worked_outcomes()
     ensures faulted { outcome_at (2 ∷ 0x18 ∷ 0 ∷ 7 ∷ []) ≡ Ok (outcome.Faulted fault.Assert 7, []) }
     ensures refused { outcome_at (3 ∷ 4 ∷ 9 ∷ []) ≡ Ok (outcome.Refused why.IdsEnd, 9 ∷ []) }
-    ensures cleared { outcome_at (4 ∷ 2 ∷ 1 ∷ 4 ∷ 0 ∷ []) ≡ Ok (outcome.ClearedAnyway (cause.Faulted fault.Err 1024), []) }
+    ensures cleared { outcome_at (4 ∷ 2 ∷ 1 ∷ 4 ∷ 0 ∷ [])
+        ≡ Ok (outcome.ClearedAnyway (cause.Faulted fault.Err 1024), []) }
     ensures place_behind_all { outcome_at (2 ∷ 1 ∷ 4 ∷ 1 ∷ []) ≡ Err Field }
     ensures no_fault { outcome_at (2 ∷ 25 ∷ []) ≡ Err Field }
     ensures no_why { outcome_at (3 ∷ 5 ∷ []) ≡ Err Field }
@@ -48,5 +49,6 @@ pub fn worked_blocks()
     ensures other_profile { block_at any_call (magic ++ 2 ∷ 4 ∷ []) ≡ Err Field }
     ensures end_in_the_base { block_at any_call (magic ++ 1 ∷ zeros 31) ≡ Err Truncated }
     ensures many_entries { block_at any_call (up_to_count ++ 0 ∷ 0 ∷ 0x10 ∷ 1 ∷ []) ≡ Err Field }
-    ensures timestamp_zero { block_at any_call (up_to_count ++ 0 ∷ 0 ∷ 0 ∷ 1 ∷ zeros 8) ≡ Err Order }
+    ensures timestamp_zero { block_at any_call
+        (up_to_count ++ 0 ∷ 0 ∷ 0 ∷ 1 ∷ zeros 8) ≡ Err Order }
 {}

@@ -120,7 +120,8 @@ fn past_ledger<O: Op>(
     ops: Ops<O>,
 ) -> Result<Ledger, Failure<Status>>
     requires full { IsFull O.opcode ops }
-    ensures { Gives (λ l. l) result (past_ledger timestamp (ledger_and_block ledger.now block.now)) }
+    ensures { Gives (λ l. l) result
+        (past_ledger timestamp (ledger_and_block ledger.now block.now)) }
 {
     let (base, block) = ledger_and_block(alloc, ledger, block)?;
     match state_at_owned(alloc, base, &block, timestamp, &FullOps::from_full(ops)) {

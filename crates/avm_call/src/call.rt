@@ -82,7 +82,8 @@ impl Call {
 
     /// The fields as a call that shares them, or the first rule that they break.
     pub fn of_shared(alloc: Global, fields: Arc<CallData>) -> Result<Call, CallError>
-        ensures ok { IfOk result (λ call. (call ≡ arc_value fields) × (call_fault (arc_value fields) ≡ None)) }
+        ensures ok { IfOk result (λ call. (call ≡ arc_value fields)
+            × (call_fault (arc_value fields) ≡ None)) }
         ensures refused { IfErr result (λ e. IsFaultOf (call_fault (arc_value fields)) e) }
     {
         match tested_programs(alloc, &fields) {
@@ -187,7 +188,8 @@ fn is_three(program: &StoredProgram) -> bool
 
 /// The programs that the fields bring, or the first rule that the fields break.
 fn tested_programs(alloc: Global, fields: &CallData) -> Result<Option<Programs>, CallError>
-    ensures ok { IfOk result (λ programs. (call_fault fields.now ≡ None) × (programs ≡ program_pair fields.now)) }
+    ensures ok { IfOk result (λ programs. (call_fault fields.now ≡ None)
+        × (programs ≡ program_pair fields.now)) }
     ensures fault { IfErr result (λ e. IsFaultOf (call_fault fields.now) e) }
 {
     match field_fault(fields) {
@@ -198,7 +200,8 @@ fn tested_programs(alloc: Global, fields: &CallData) -> Result<Option<Programs>,
 
 /// The programs that the fields bring, or the fault of the first that is none.
 fn brought_programs(alloc: Global, fields: &CallData) -> Result<Option<Programs>, CallError>
-    ensures ok { IfOk result (λ programs. (programs_fault fields.now ≡ None) × (programs ≡ program_pair fields.now)) }
+    ensures ok { IfOk result (λ programs. (programs_fault fields.now ≡ None)
+        × (programs ≡ program_pair fields.now)) }
     ensures fault { IfErr result (λ e. IsFaultOf (programs_fault fields.now) e) }
 {
     if !brings_programs(fields) {
@@ -211,7 +214,8 @@ fn brought_programs(alloc: Global, fields: &CallData) -> Result<Option<Programs>
 
 /// The program of these bytes.
 fn program_of(alloc: Global, bytes: &[u8]) -> Result<StoredProgram, CallError>
-    ensures ok { IfOk result (λ program. (program ≡ bytes.now) × (program_fault (checked bytes.now) ≡ None)) }
+    ensures ok { IfOk result (λ program. (program ≡ bytes.now)
+        × (program_fault (checked bytes.now) ≡ None)) }
     ensures fault { IfErr result (λ e. IsFaultOf (program_fault (checked bytes.now)) e) }
 {
     match check(alloc, bytes) {

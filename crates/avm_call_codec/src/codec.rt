@@ -49,7 +49,8 @@ impl CallCodec for CallData {
         // What is read is spelled by those very bytes.
         ensures spelled { IfOk result (λ call. call_bytes call ≡ bytes.now) }
         // A call is read from its spelling, unless memory runs out.
-        ensures only { (call : CallFields) → HasFields call → bytes.now ≡ call_bytes call → Gives (λ x. x) result (Ok call) }
+        ensures only { (call : CallFields)
+            → HasFields call → bytes.now ≡ call_bytes call → Gives (λ x. x) result (Ok call) }
     {
         call_alone(alloc, bytes)
     }
@@ -69,7 +70,8 @@ impl CallCodec for CallData {
     fn shared_read(alloc: Global, bytes: &[u8]) -> Result<Arc<CallData>, CallDataError>
         ensures exact { Gives (λ call. arc_value call) result (call_at bytes.now) }
         ensures spelled { IfOk result (λ call. call_bytes (arc_value call) ≡ bytes.now) }
-        ensures only { (call : CallFields) → HasFields call → bytes.now ≡ call_bytes call → Gives (λ x. arc_value x) result (Ok call) }
+        ensures only { (call : CallFields) → HasFields call
+            → bytes.now ≡ call_bytes call → Gives (λ x. arc_value x) result (Ok call) }
     {
         shared_alone(alloc, bytes)
     }

@@ -196,7 +196,8 @@ fn many_strings(
     count: u8,
     fields: Fields<'_>,
 ) -> Result<(Vec<ByteString>, Fields<'_>), CallDataError>
-    ensures { Gives (λ x. (x.0.items, x.1)) result (many_at (string_at Truncated) count fields.entry) }
+    ensures { Gives (λ x. (x.0.items, x.1)) result
+        (many_at (string_at Truncated) count fields.entry) }
 {
     let mut strings = Vec::new(alloc);
     let mut rest = fields;
@@ -221,7 +222,8 @@ fn many_addresses(
     count: u8,
     fields: Fields<'_>,
 ) -> Result<(Vec<Address>, Fields<'_>), CallDataError>
-    ensures { Gives (λ x. (x.0.items, x.1)) result (many_at (address_at Truncated) count fields.entry) }
+    ensures { Gives (λ x. (x.0.items, x.1)) result
+        (many_at (address_at Truncated) count fields.entry) }
 {
     let mut addresses = Vec::new(alloc);
     let mut rest = fields;
@@ -246,7 +248,8 @@ fn many_uints(
     count: u8,
     fields: Fields<'_>,
 ) -> Result<(Vec<u64>, Fields<'_>), CallDataError>
-    ensures { Gives (λ x. (x.0.items, x.1)) result (many_at (number_at Truncated w64) count fields.entry) }
+    ensures { Gives (λ x. (x.0.items, x.1)) result
+        (many_at (number_at Truncated w64) count fields.entry) }
 {
     let mut numbers = Vec::new(alloc);
     let mut rest = fields;

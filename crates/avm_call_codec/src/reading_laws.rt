@@ -31,7 +31,8 @@ pub fn none_begins_another()
 pub fn worked_calls()
     ensures read { call_at (up_to_completion ++ 2 ∷ behind_completion) ≡ Ok worked_call }
     ensures spelled { call_bytes worked_call ≡ up_to_completion ++ 2 ∷ behind_completion }
-    ensures at_a_place { call_from (7 ∷ 7 ∷ 7 ∷ up_to_completion ++ 2 ∷ behind_completion ++ 9 ∷ []) 3 ≡ Ok (worked_call, 190) }
+    ensures at_a_place { call_from (7
+        ∷ 7 ∷ 7 ∷ up_to_completion ++ 2 ∷ behind_completion ++ 9 ∷ []) 3 ≡ Ok (worked_call, 190) }
     ensures no_completion { call_at (up_to_completion ++ 6 ∷ []) ≡ Err Field }
     ensures nothing { call_at [] ≡ Err Truncated }
     ensures end_in_the_note { call_at (zeros 56 ++ 0 ∷ 2 ∷ 0x61 ∷ []) ≡ Err Truncated }

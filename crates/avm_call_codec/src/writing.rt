@@ -74,7 +74,8 @@ fn push_programs(bytes: &mut Vec<u8>, call: &CallData) -> Result<(), AllocError>
 }
 
 fn push_strings(bytes: &mut Vec<u8>, strings: &[ByteString]) -> Result<(), AllocError>
-    ensures written { OnOk result (bytes.new.items ≡ bytes.old.items ++ counted_bytes u8_bytes string_bytes strings.now) }
+    ensures written { OnOk result
+        (bytes.new.items ≡ bytes.old.items ++ counted_bytes u8_bytes string_bytes strings.now) }
     ensures kept { Continues bytes.old.items bytes.new.items }
 {
     put_short_count(bytes, strings.len())?;
@@ -85,7 +86,8 @@ fn push_strings(bytes: &mut Vec<u8>, strings: &[ByteString]) -> Result<(), Alloc
 }
 
 fn push_addresses(bytes: &mut Vec<u8>, addresses: &[Address]) -> Result<(), AllocError>
-    ensures written { OnOk result (bytes.new.items ≡ bytes.old.items ++ counted_bytes u8_bytes address_bytes addresses.now) }
+    ensures written { OnOk result
+        (bytes.new.items ≡ bytes.old.items ++ counted_bytes u8_bytes address_bytes addresses.now) }
     ensures kept { Continues bytes.old.items bytes.new.items }
 {
     put_short_count(bytes, addresses.len())?;
@@ -96,7 +98,8 @@ fn push_addresses(bytes: &mut Vec<u8>, addresses: &[Address]) -> Result<(), Allo
 }
 
 fn push_uints(bytes: &mut Vec<u8>, numbers: &[u64]) -> Result<(), AllocError>
-    ensures written { OnOk result (bytes.new.items ≡ bytes.old.items ++ counted_bytes u8_bytes u64_bytes numbers.now) }
+    ensures written { OnOk result
+        (bytes.new.items ≡ bytes.old.items ++ counted_bytes u8_bytes u64_bytes numbers.now) }
     ensures kept { Continues bytes.old.items bytes.new.items }
 {
     put_short_count(bytes, numbers.len())?;

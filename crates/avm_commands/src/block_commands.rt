@@ -86,7 +86,8 @@ fn agrees_reply(alloc: Global, digest: &[u8; 32]) -> Result<Reply, AllocError>
 }
 
 fn wrong_outcome_reply(alloc: Global, entry: usize, found: Outcome) -> Result<Reply, AllocError>
-    ensures { IfOk result (λ reply. reply_shown reply ≡ verdict_reply (verdict.WrongOutcome entry found)) }
+    ensures { IfOk result
+        (λ reply. reply_shown reply ≡ verdict_reply (verdict.WrongOutcome entry found)) }
 {
     let found = outcome_text(alloc, found)?;
     let text = format!(in alloc; "wrong outcome {entry} {found}\n")?;
@@ -97,7 +98,8 @@ fn wrong_outcome_reply(alloc: Global, entry: usize, found: Outcome) -> Result<Re
 }
 
 fn wrong_reply(alloc: Global, text: &str) -> Result<Reply, AllocError>
-    ensures { IfOk result (λ reply. reply_shown reply ≡ record { text = text.now; status = refused }) }
+    ensures { IfOk result
+        (λ reply. reply_shown reply ≡ record { text = text.now; status = refused }) }
 {
     let text = String::from_str(alloc, text)?;
     Ok(Reply {

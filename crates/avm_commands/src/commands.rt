@@ -38,12 +38,16 @@ pub fn answer<'a, R: Read, W: Write, O: Op>(
     ensures answers { IfSome result (CommandAnswers usage_reply IsCommandReply
         (command_in (map (λ word. word.now) words.now))
         (R.remaining reader.old) (W.contents writer.old) (W.contents writer.new)) }
-    ensures fails { IfSome result (λ status. status ≡ failed → CommandFails usage_reply IsCommandReply
-        (command_in (map (λ word. word.now) words.now))
-        (R.remaining reader.old) (W.contents writer.old) (W.contents writer.new) writer.old writer.new) }
-    ensures other { IfSome result (λ status. IsSome (workers_of (command_in (map (λ word. word.now) words.now))) → status ≡ failed) }
-    ensures propose { result ≡ None → IsSome (workers_of (command_in (map (λ word. word.now) words.now))) × (reader.new ≡ reader.old) × (writer.new ≡ writer.old) }
-    ensures reads_nothing { command_in (map (λ word. word.now) words.now) ≡ None → reader.new ≡ reader.old }
+    ensures fails { IfSome result (λ status. status ≡ failed → CommandFails usage_reply
+        IsCommandReply (command_in (map (λ word. word.now) words.now)) (R.remaining reader.old)
+        (W.contents writer.old) (W.contents writer.new) writer.old writer.new) }
+    ensures other { IfSome result (λ status.
+        IsSome (workers_of (command_in (map (λ word. word.now) words.now))) → status ≡ failed) }
+    ensures propose { result ≡ None
+        → IsSome (workers_of (command_in (map (λ word. word.now) words.now)))
+        × (reader.new ≡ reader.old) × (writer.new ≡ writer.old) }
+    ensures reads_nothing { command_in (map (λ word. word.now) words.now) ≡ None
+        → reader.new ≡ reader.old }
 {
     match command_in(alloc, words) {
         Ok(command) => match workers_of(command) {
@@ -65,8 +69,9 @@ pub fn answer_to<R: Read, W: Write, O: Op>(
     requires other { workers_of command ≡ None }
     ensures answers { CommandAnswers usage_reply IsCommandReply command
         (R.remaining reader.old) (W.contents writer.old) (W.contents writer.new) result }
-    ensures fails { result ≡ failed → CommandFails usage_reply IsCommandReply command
-        (R.remaining reader.old) (W.contents writer.old) (W.contents writer.new) writer.old writer.new }
+    ensures fails { result ≡ failed
+        → CommandFails usage_reply IsCommandReply command (R.remaining reader.old)
+        (W.contents writer.old) (W.contents writer.new) writer.old writer.new }
     ensures reads_nothing { command ≡ None → reader.new ≡ reader.old }
 {
     match command {
@@ -86,7 +91,8 @@ fn reply_of<R: Read, O: Op>(
     ops: &FullOps<O>,
 ) -> io::Result<Reply>
     requires other { workers_of (Some command) ≡ None }
-    ensures { IfOk result (λ reply. IsReply (IsCommandReply command) (R.remaining reader.old) (reply_shown reply)) }
+    ensures { IfOk result
+        (λ reply. IsReply (IsCommandReply command) (R.remaining reader.old) (reply_shown reply)) }
 {
     let input = read_input(alloc, reader)?;
     if input.len() > INPUT_LIMIT {

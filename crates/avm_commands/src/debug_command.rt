@@ -52,7 +52,8 @@ fn found_reply<O: Op>(
     point: DebugPoint,
     ops: &FullOps<O>,
 ) -> Result<Reply, AllocError>
-    ensures { IfOk result (λ reply. IsFoundReply point.number point.steps (Ok (ledger.now, block.now)) (reply_shown reply)) }
+    ensures { IfOk result (λ reply.
+        IsFoundReply point.number point.steps (Ok (ledger.now, block.now)) (reply_shown reply)) }
 {
     match view_found(alloc, ledger, block, point, ops) {
         Ok(text) => Ok(Reply { text, status: DONE }),
@@ -69,7 +70,8 @@ pub fn view_found<O: Op>(
     point: DebugPoint,
     ops: &FullOps<O>,
 ) -> Result<String, Failure<Refusal>>
-    ensures found { IfOk result (λ text. FindsText (ledger.now, block.now) point.number point.steps (string_bytes text)) }
+    ensures found { IfOk result
+        (λ text. FindsText (ledger.now, block.now) point.number point.steps (string_bytes text)) }
     ensures refused { IfErr result (IsDebugRefused ledger.now block.now point.number point.steps) }
 {
     let DebugPoint { number, steps } = point;

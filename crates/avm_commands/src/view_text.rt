@@ -59,7 +59,8 @@ fn push_part(
     name: &str,
     lines: &[String],
 ) -> Result<(), AllocError>
-    ensures { OnOk result (string_bytes text.new ≡ string_bytes text.old ++ part_text name.now (texts lines.now)) }
+    ensures { OnOk result
+        (string_bytes text.new ≡ string_bytes text.old ++ part_text name.now (texts lines.now)) }
 {
     let count = lines.len();
     let heading = format!(in alloc; "{name} {count}\n")?;
@@ -68,7 +69,8 @@ fn push_part(
 }
 
 fn push_lines(text: &mut String, lines: &[String]) -> Result<(), AllocError>
-    ensures { OnOk result (string_bytes text.new ≡ string_bytes text.old ++ lines_text (texts lines.now)) }
+    ensures { OnOk result
+        (string_bytes text.new ≡ string_bytes text.old ++ lines_text (texts lines.now)) }
 {
     for line in lines {
         text.push_str(line)?;
@@ -122,7 +124,8 @@ fn change_lines(
     globals: &[KeyChange],
     locals: &[LocalChange],
 ) -> Result<Vec<String>, AllocError>
-    ensures { IfOk result (λ lines. texts lines.items ≡ change_texts (changes_seen globals.now) (local_seen locals.now)) }
+    ensures { IfOk result (λ lines.
+        texts lines.items ≡ change_texts (changes_seen globals.now) (local_seen locals.now)) }
 {
     let mut lines = Vec::new(alloc);
     push_globals(alloc, &mut lines, globals)?;
@@ -135,7 +138,8 @@ fn push_globals(
     lines: &mut Vec<String>,
     changes: &[KeyChange],
 ) -> Result<(), AllocError>
-    ensures { OnOk result (texts lines.new.items ≡ texts lines.old.items ++ map global_text (changes_seen changes.now)) }
+    ensures { OnOk result (texts lines.new.items
+        ≡ texts lines.old.items ++ map global_text (changes_seen changes.now)) }
 {
     for change in changes {
         lines.push(global_text(alloc, change)?)?;
@@ -148,7 +152,8 @@ fn push_locals(
     lines: &mut Vec<String>,
     changes: &[LocalChange],
 ) -> Result<(), AllocError>
-    ensures { OnOk result (texts lines.new.items ≡ texts lines.old.items ++ map local_text (local_seen changes.now)) }
+    ensures { OnOk result
+        (texts lines.new.items ≡ texts lines.old.items ++ map local_text (local_seen changes.now)) }
 {
     for change in changes {
         lines.push(local_text(alloc, change)?)?;
@@ -157,7 +162,8 @@ fn push_locals(
 }
 
 fn scratch_text(alloc: Global, place: &ScratchPlace) -> Result<String, AllocError>
-    ensures { IfOk result (λ text. string_bytes text ≡ scratch_text (place.now.index, place.now.value)) }
+    ensures { IfOk result
+        (λ text. string_bytes text ≡ scratch_text (place.now.index, place.now.value)) }
 {
     let index = place.index;
     let value = value_text(alloc, &place.value)?;
@@ -172,7 +178,8 @@ fn global_text(alloc: Global, change: &KeyChange) -> Result<String, AllocError>
 }
 
 fn local_text(alloc: Global, change: &LocalChange) -> Result<String, AllocError>
-    ensures { IfOk result (λ text. string_bytes text ≡ local_text (local_change_seen change.entry.now)) }
+    ensures { IfOk result
+        (λ text. string_bytes text ≡ local_text (local_change_seen change.entry.now)) }
 {
     let account = address_text(alloc, &change.account)?;
     let key = key_text(alloc, &change.key, &change.now)?;

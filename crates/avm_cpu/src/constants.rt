@@ -15,7 +15,8 @@ fn write_at(
     string: &ByteString,
 ) -> Result<(), AllocError>
     requires { place ≤ length list.old.items }
-    ensures written { IfOk result (λ _. take (place + 1) list.new.items ≡ take place list.old.items ++ string.now ∷ []) }
+    ensures written { IfOk result
+        (λ _. take (place + 1) list.new.items ≡ take place list.old.items ++ string.now ∷ []) }
     ensures there { OnOk result (place < length list.new.items) }
 {
     if place < list.len() {

@@ -114,7 +114,8 @@ impl Cpu {
 
     /// The value on top.
     pub fn peek(&self) -> Result<&Value, Fault>
-        ensures { MatchResult result (λ a. one_value self.now.stack ≡ Ok a.now) (λ f. one_value self.now.stack ≡ Err f) }
+        ensures { MatchResult result
+            (λ a. one_value self.now.stack ≡ Ok a.now) (λ f. one_value self.now.stack ≡ Err f) }
     {
         self.one_value()
     }
@@ -122,7 +123,8 @@ impl Cpu {
     /// The value so many below the top.
     #[inline]
     pub fn value_below(&self, depth: u8) -> Result<&Value, Fault>
-        ensures { MatchResult result (λ a. value_below depth self.now.stack ≡ Ok a.now) (λ f. value_below depth self.now.stack ≡ Err f) }
+        ensures { MatchResult result (λ a. value_below depth self.now.stack ≡ Ok a.now)
+            (λ f. value_below depth self.now.stack ≡ Err f) }
     {
         self.value_at(usize::from(depth)).ok_or(Fault::Underflow)
     }
@@ -141,7 +143,8 @@ impl Cpu {
 
     /// The byte string on top.
     pub fn one_bytes(&self) -> Result<&[u8], Fault>
-        ensures { MatchResult result (λ a. one_bytes self.now.stack ≡ Ok a.now) (λ f. one_bytes self.now.stack ≡ Err f) }
+        ensures { MatchResult result
+            (λ a. one_bytes self.now.stack ≡ Ok a.now) (λ f. one_bytes self.now.stack ≡ Err f) }
     {
         match self.value_at(0) {
             Some(Value::Bytes(a)) => Ok(a.as_slice()),
@@ -153,7 +156,8 @@ impl Cpu {
     /// The value on top.
     #[inline]
     pub fn one_value(&self) -> Result<&Value, Fault>
-        ensures { MatchResult result (λ a. one_value self.now.stack ≡ Ok a.now) (λ f. one_value self.now.stack ≡ Err f) }
+        ensures { MatchResult result
+            (λ a. one_value self.now.stack ≡ Ok a.now) (λ f. one_value self.now.stack ≡ Err f) }
     {
         match self.value_at(0) {
             Some(a) => Ok(a),
@@ -175,7 +179,8 @@ impl Cpu {
 
     /// The two byte strings on top, the deeper one first.
     pub fn two_bytes(&self) -> Result<(&[u8], &[u8]), Fault>
-        ensures { MatchResult result (λ p. two_bytes self.now.stack ≡ Ok (p.0.now, p.1.now)) (λ f. two_bytes self.now.stack ≡ Err f) }
+        ensures { MatchResult result (λ p. two_bytes self.now.stack ≡ Ok (p.0.now, p.1.now))
+            (λ f. two_bytes self.now.stack ≡ Err f) }
     {
         match (self.value_at(1), self.value_at(0)) {
             (Some(Value::Bytes(a)), Some(Value::Bytes(b))) => Ok((a.as_slice(), b.as_slice())),
@@ -187,7 +192,8 @@ impl Cpu {
     /// The two values on top, the deeper one first.
     #[inline]
     pub fn two_values(&self) -> Result<(&Value, &Value), Fault>
-        ensures { MatchResult result (λ p. two_values self.now.stack ≡ Ok (p.0.now, p.1.now)) (λ f. two_values self.now.stack ≡ Err f) }
+        ensures { MatchResult result (λ p. two_values self.now.stack ≡ Ok (p.0.now, p.1.now))
+            (λ f. two_values self.now.stack ≡ Err f) }
     {
         match (self.value_at(1), self.value_at(0)) {
             (Some(a), Some(b)) => Ok((a, b)),
@@ -197,7 +203,8 @@ impl Cpu {
 
     /// A number, and a byte string on top.
     pub fn uint_and_bytes(&self) -> Result<(u64, &[u8]), Fault>
-        ensures { MatchResult result (λ p. uint_and_bytes self.now.stack ≡ Ok (p.0, p.1.now)) (λ f. uint_and_bytes self.now.stack ≡ Err f) }
+        ensures { MatchResult result (λ p. uint_and_bytes self.now.stack ≡ Ok (p.0, p.1.now))
+            (λ f. uint_and_bytes self.now.stack ≡ Err f) }
     {
         match (self.value_at(1), self.value_at(0)) {
             (Some(Value::Uint(a)), Some(Value::Bytes(b))) => Ok((*a, b.as_slice())),
@@ -208,7 +215,8 @@ impl Cpu {
 
     /// A byte string, and a number on top.
     pub fn bytes_and_uint(&self) -> Result<(&[u8], u64), Fault>
-        ensures { MatchResult result (λ p. bytes_and_uint self.now.stack ≡ Ok (p.0.now, p.1)) (λ f. bytes_and_uint self.now.stack ≡ Err f) }
+        ensures { MatchResult result (λ p. bytes_and_uint self.now.stack ≡ Ok (p.0.now, p.1))
+            (λ f. bytes_and_uint self.now.stack ≡ Err f) }
     {
         match (self.value_at(1), self.value_at(0)) {
             (Some(Value::Bytes(a)), Some(Value::Uint(b))) => Ok((a.as_slice(), *b)),
@@ -219,7 +227,8 @@ impl Cpu {
 
     /// A byte string, and a value on top.
     pub fn bytes_and_value(&self) -> Result<(&[u8], &Value), Fault>
-        ensures { MatchResult result (λ p. bytes_and_value self.now.stack ≡ Ok (p.0.now, p.1.now)) (λ f. bytes_and_value self.now.stack ≡ Err f) }
+        ensures { MatchResult result (λ p. bytes_and_value self.now.stack ≡ Ok (p.0.now, p.1.now))
+            (λ f. bytes_and_value self.now.stack ≡ Err f) }
     {
         match (self.value_at(1), self.value_at(0)) {
             (Some(Value::Bytes(a)), Some(b)) => Ok((a.as_slice(), b)),
@@ -230,7 +239,8 @@ impl Cpu {
 
     /// A value, and a number on top.
     pub fn value_and_uint(&self) -> Result<(&Value, u64), Fault>
-        ensures { MatchResult result (λ p. value_and_uint self.now.stack ≡ Ok (p.0.now, p.1)) (λ f. value_and_uint self.now.stack ≡ Err f) }
+        ensures { MatchResult result (λ p. value_and_uint self.now.stack ≡ Ok (p.0.now, p.1))
+            (λ f. value_and_uint self.now.stack ≡ Err f) }
     {
         match (self.value_at(1), self.value_at(0)) {
             (Some(a), Some(Value::Uint(b))) => Ok((a, *b)),
@@ -241,7 +251,8 @@ impl Cpu {
 
     /// A byte string, and two numbers on top.
     pub fn bytes_and_two_uints(&self) -> Result<(&[u8], u64, u64), Fault>
-        ensures { MatchResult result (λ p. bytes_and_two_uints self.now.stack ≡ Ok (p.0.now, p.1, p.2)) (λ f. bytes_and_two_uints self.now.stack ≡ Err f) }
+        ensures { MatchResult result (λ p. bytes_and_two_uints self.now.stack
+            ≡ Ok (p.0.now, p.1, p.2)) (λ f. bytes_and_two_uints self.now.stack ≡ Err f) }
     {
         match (self.value_at(2), self.value_at(1), self.value_at(0)) {
             (Some(Value::Bytes(a)), Some(Value::Uint(b)), Some(Value::Uint(c))) => Ok((
@@ -256,7 +267,8 @@ impl Cpu {
 
     /// A value, and two numbers on top.
     pub fn value_and_two_uints(&self) -> Result<(&Value, u64, u64), Fault>
-        ensures { MatchResult result (λ p. value_and_two_uints self.now.stack ≡ Ok (p.0.now, p.1, p.2)) (λ f. value_and_two_uints self.now.stack ≡ Err f) }
+        ensures { MatchResult result (λ p. value_and_two_uints self.now.stack
+            ≡ Ok (p.0.now, p.1, p.2)) (λ f. value_and_two_uints self.now.stack ≡ Err f) }
     {
         match (self.value_at(2), self.value_at(1), self.value_at(0)) {
             (Some(a), Some(Value::Uint(b)), Some(Value::Uint(c))) => Ok((a, *b, *c)),
@@ -267,7 +279,8 @@ impl Cpu {
 
     /// Two values, and a number on top.
     pub fn two_values_and_uint(&self) -> Result<(&Value, &Value, u64), Fault>
-        ensures { MatchResult result (λ p. two_values_and_uint self.now.stack ≡ Ok (p.0.now, p.1.now, p.2)) (λ f. two_values_and_uint self.now.stack ≡ Err f) }
+        ensures { MatchResult result (λ p. two_values_and_uint self.now.stack
+            ≡ Ok (p.0.now, p.1.now, p.2)) (λ f. two_values_and_uint self.now.stack ≡ Err f) }
     {
         match (self.value_at(2), self.value_at(1), self.value_at(0)) {
             (Some(a), Some(b), Some(Value::Uint(c))) => Ok((a, b, *c)),
@@ -278,7 +291,8 @@ impl Cpu {
 
     /// Two numbers, and a byte string on top.
     pub fn two_uints_and_bytes(&self) -> Result<(u64, u64, &[u8]), Fault>
-        ensures { MatchResult result (λ p. two_uints_and_bytes self.now.stack ≡ Ok (p.0, p.1, p.2.now)) (λ f. two_uints_and_bytes self.now.stack ≡ Err f) }
+        ensures { MatchResult result (λ p. two_uints_and_bytes self.now.stack
+            ≡ Ok (p.0, p.1, p.2.now)) (λ f. two_uints_and_bytes self.now.stack ≡ Err f) }
     {
         match (self.value_at(2), self.value_at(1), self.value_at(0)) {
             (Some(Value::Uint(a)), Some(Value::Uint(b)), Some(Value::Bytes(c))) => Ok((
@@ -293,7 +307,8 @@ impl Cpu {
 
     /// A number, a byte string, and a value on top.
     pub fn uint_bytes_and_value(&self) -> Result<(u64, &[u8], &Value), Fault>
-        ensures { MatchResult result (λ p. uint_bytes_and_value self.now.stack ≡ Ok (p.0, p.1.now, p.2.now)) (λ f. uint_bytes_and_value self.now.stack ≡ Err f) }
+        ensures { MatchResult result (λ p. uint_bytes_and_value self.now.stack
+            ≡ Ok (p.0, p.1.now, p.2.now)) (λ f. uint_bytes_and_value self.now.stack ≡ Err f) }
     {
         match (self.value_at(2), self.value_at(1), self.value_at(0)) {
             (Some(Value::Uint(a)), Some(Value::Bytes(b)), Some(c)) => Ok((*a, b.as_slice(), c)),
@@ -305,8 +320,8 @@ impl Cpu {
     /// Removes the number on top.
     #[inline]
     pub fn pop_uint(&mut self) -> Result<u64, Fault>
-        ensures { MatchResult result
-            (λ n. (one_uint self.old.stack ≡ Ok n) × (self.new ≡ with_stack self.old (drop 1 self.old.stack)))
+        ensures { MatchResult result (λ n. (one_uint self.old.stack ≡ Ok n)
+            × (self.new ≡ with_stack self.old (drop 1 self.old.stack)))
             (λ f. (one_uint self.old.stack ≡ Err f) × (self.new ≡ self.old)) }
     {
         let number = self.one_uint()?;
@@ -316,8 +331,8 @@ impl Cpu {
 
     /// Removes the byte string on top, without a copy.
     pub fn pop_bytes(&mut self) -> Result<ByteString, Fault>
-        ensures { MatchResult result
-            (λ b. (one_bytes self.old.stack ≡ Ok b) × (self.new ≡ with_stack self.old (drop 1 self.old.stack)))
+        ensures { MatchResult result (λ b. (one_bytes self.old.stack ≡ Ok b)
+            × (self.new ≡ with_stack self.old (drop 1 self.old.stack)))
             (λ f. (one_bytes self.old.stack ≡ Err f) × (self.new ≡ self.old)) }
     {
         let _bytes = self.one_bytes()?;
@@ -381,9 +396,9 @@ impl Cpu {
 
     /// Puts a value on top, where there is room.
     pub fn push(&mut self, value: Value) -> Result<(), Fault>
-        ensures { MatchResult result
-            (λ _. (length self.old.stack < most_values) × (self.new ≡ with_stack self.old (value ∷ self.old.stack)))
-            (λ f. (most_values ≤ length self.old.stack) × (f ≡ StackFull) × (self.new ≡ self.old)) }
+        ensures { MatchResult result (λ _. (length self.old.stack < most_values)
+            × (self.new ≡ with_stack self.old (value ∷ self.old.stack))) (λ f.
+            (most_values ≤ length self.old.stack) × (f ≡ StackFull) × (self.new ≡ self.old)) }
     {
         if self.depth() == MAX_VALUES {
             return Err(Fault::StackFull);
@@ -395,9 +410,9 @@ impl Cpu {
     /// Puts a number on top, where there is room.
     #[inline]
     pub fn push_uint(&mut self, number: u64) -> Result<(), Fault>
-        ensures { MatchResult result
-            (λ _. (length self.old.stack < most_values) × (self.new ≡ with_stack self.old (Uint number ∷ self.old.stack)))
-            (λ f. (most_values ≤ length self.old.stack) × (f ≡ StackFull) × (self.new ≡ self.old)) }
+        ensures { MatchResult result (λ _. (length self.old.stack < most_values)
+            × (self.new ≡ with_stack self.old (Uint number ∷ self.old.stack))) (λ f.
+            (most_values ≤ length self.old.stack) × (f ≡ StackFull) × (self.new ≡ self.old)) }
     {
         if self.depth() == MAX_VALUES {
             return Err(Fault::StackFull);
@@ -408,9 +423,9 @@ impl Cpu {
 
     /// Puts two values on top, where there is room for both; the second becomes the top.
     pub fn push_pair(&mut self, below: Value, top: Value) -> Result<(), Fault>
-        ensures { MatchResult result
-            (λ _. (length self.old.stack + 2 ≤ most_values) × (self.new ≡ with_stack self.old (top ∷ below ∷ self.old.stack)))
-            (λ f. (most_values < length self.old.stack + 2) × (f ≡ StackFull) × (self.new ≡ self.old)) }
+        ensures { MatchResult result (λ _. (length self.old.stack + 2 ≤ most_values)
+            × (self.new ≡ with_stack self.old (top ∷ below ∷ self.old.stack))) (λ f.
+            (most_values < length self.old.stack + 2) × (f ≡ StackFull) × (self.new ≡ self.old)) }
     {
         if self.depth() + 2 > MAX_VALUES {
             return Err(Fault::StackFull);
@@ -424,9 +439,9 @@ impl Cpu {
     /// calls it has nothing to keep between the two.
     #[inline(never)]
     pub fn push_uints(&mut self, below: u64, top: u64) -> Result<(), Fault>
-        ensures { MatchResult result
-            (λ _. (length self.old.stack + 2 ≤ most_values) × (self.new ≡ with_stack self.old (Uint top ∷ Uint below ∷ self.old.stack)))
-            (λ f. (most_values < length self.old.stack + 2) × (f ≡ StackFull) × (self.new ≡ self.old)) }
+        ensures { MatchResult result (λ _. (length self.old.stack + 2 ≤ most_values)
+            × (self.new ≡ with_stack self.old (Uint top ∷ Uint below ∷ self.old.stack))) (λ f.
+            (most_values < length self.old.stack + 2) × (f ≡ StackFull) × (self.new ≡ self.old)) }
     {
         if self.depth() + 2 > MAX_VALUES {
             return Err(Fault::StackFull);
@@ -509,7 +524,8 @@ impl Cpu {
     pub fn set_uints(&mut self, count: usize, below: u64, top: u64)
         requires some { 2 ≤ count }
         requires there { count ≤ length self.old.stack }
-        ensures { self.new ≡ with_stack self.old (Uint top ∷ Uint below ∷ drop count self.old.stack) }
+        ensures { self.new
+            ≡ with_stack self.old (Uint top ∷ Uint below ∷ drop count self.old.stack) }
     {
         let _depth = self.depth();
         self.put_uint_over(count, below);
@@ -520,7 +536,8 @@ impl Cpu {
     #[inline(never)]
     pub fn drop_second(&mut self)
         requires { 2 ≤ length self.old.stack }
-        ensures { IfOk (one_value self.old.stack) (λ a. self.new ≡ with_stack self.old (a ∷ drop 2 self.old.stack)) }
+        ensures { IfOk (one_value self.old.stack)
+            (λ a. self.new ≡ with_stack self.old (a ∷ drop 2 self.old.stack)) }
     {
         let top = self.take_top();
         self.replace(1, top);
@@ -530,7 +547,8 @@ impl Cpu {
     #[inline]
     pub fn swap(&mut self)
         requires { 2 ≤ length self.old.stack }
-        ensures { IfOk (two_values self.old.stack) (λ p. self.new ≡ with_stack self.old (p.0 ∷ p.1 ∷ drop 2 self.old.stack)) }
+        ensures { IfOk (two_values self.old.stack)
+            (λ p. self.new ≡ with_stack self.old (p.0 ∷ p.1 ∷ drop 2 self.old.stack)) }
     {
         match self.two_uints() {
             Ok((below, top)) => self.set_uints(2, top, below),
@@ -542,7 +560,8 @@ impl Cpu {
     #[inline(never)]
     fn swap_values(&mut self)
         requires { 2 ≤ length self.old.stack }
-        ensures { IfOk (two_values self.old.stack) (λ p. self.new ≡ with_stack self.old (p.0 ∷ p.1 ∷ drop 2 self.old.stack)) }
+        ensures { IfOk (two_values self.old.stack)
+            (λ p. self.new ≡ with_stack self.old (p.0 ∷ p.1 ∷ drop 2 self.old.stack)) }
     {
         swap_last(&mut self.stack, self.depth);
     }
@@ -581,7 +600,8 @@ impl Cpu {
     #[inline]
     pub fn store(&mut self, index: u8)
         requires { 0 < length self.old.stack }
-        ensures { IfOk (one_value self.old.stack) (λ v. self.new ≡ record self.old { stack = drop 1 self.old.stack; scratch = slice_set self.old.scratch index v }) }
+        ensures { IfOk (one_value self.old.stack) (λ v. self.new ≡ record self.old
+            { stack = drop 1 self.old.stack; scratch = slice_set self.old.scratch index v }) }
     {
         match self.one_uint() {
             Ok(number) => {
@@ -596,7 +616,8 @@ impl Cpu {
     #[inline(never)]
     fn store_bytes(&mut self, index: u8)
         requires { 0 < length self.old.stack }
-        ensures { IfOk (one_value self.old.stack) (λ v. self.new ≡ record self.old { stack = drop 1 self.old.stack; scratch = slice_set self.old.scratch index v }) }
+        ensures { IfOk (one_value self.old.stack) (λ v. self.new ≡ record self.old
+            { stack = drop 1 self.old.stack; scratch = slice_set self.old.scratch index v }) }
     {
         let value = self.take_top();
         self.write(index, value);
@@ -614,7 +635,8 @@ impl Cpu {
     /// Writes a number to an index of the scratch space.
     #[inline]
     fn write_uint(&mut self, index: u8, number: u64)
-        ensures { self.new ≡ record self.old { scratch = slice_set self.old.scratch index (Uint number) } }
+        ensures { self.new
+            ≡ record self.old { scratch = slice_set self.old.scratch index (Uint number) } }
     {
         let place = usize::from(index);
         if self.used <= place {
@@ -644,7 +666,8 @@ impl Cpu {
     /// Puts other uint constants in force, and takes memory only where the machine has not held as many before. At want of
     /// memory those of before stay.
     pub fn set_uint_constants(&mut self, numbers: &[u64]) -> Result<(), AllocError>
-        ensures { MatchResult result (λ _. self.new ≡ record self.old { uint_constants = numbers.now }) (λ _. self.new ≡ self.old) }
+        ensures { MatchResult result (λ _. self.new
+            ≡ record self.old { uint_constants = numbers.now }) (λ _. self.new ≡ self.old) }
     {
         write_over(&mut self.uint_constants, numbers)
     }
@@ -658,7 +681,8 @@ impl Cpu {
 
     /// The byte constant of that number in force, if there is one.
     pub fn byte_constant(&self, index: u8) -> Option<&[u8]>
-        ensures { MatchOption result (slice_get self.now.byte_constants index ≡ None) (λ b. slice_get self.now.byte_constants index ≡ Some b.now) }
+        ensures { MatchOption result (slice_get self.now.byte_constants index ≡ None) (λ b.
+            slice_get self.now.byte_constants index ≡ Some b.now) }
     {
         match self.byte_constants.as_slice().get(usize::from(index)) {
             Some(bytes) => Some(bytes.as_slice()),
@@ -673,7 +697,8 @@ impl Cpu {
         alloc: Global,
         strings: &[ByteString],
     ) -> Result<(), AllocError>
-        ensures { MatchResult result (λ _. self.new ≡ record self.old { byte_constants = strings.now }) (λ _. self.new ≡ self.old) }
+        ensures { MatchResult result (λ _. self.new
+            ≡ record self.old { byte_constants = strings.now }) (λ _. self.new ≡ self.old) }
     {
         self.byte_constants.set(alloc, strings)
     }

@@ -95,7 +95,8 @@ pub(crate) fn put_zeros<const N: usize>(values: &mut ArrayVec<Value, N>, count: 
 pub(crate) fn swap_last<const N: usize>(values: &mut ArrayVec<Value, N>, count: usize)
     requires two { 2 ≤ count }
     requires there { count ≤ length values.old.items }
-    ensures swapped { IfOk (two_values (reverse (take count values.old.items))) (λ p. reverse (take count values.new.items) ≡ p.0 ∷ p.1 ∷ drop 2 (reverse (take count values.old.items))) }
+    ensures swapped { IfOk (two_values (reverse (take count values.old.items))) (λ p. reverse (take
+        count values.new.items) ≡ p.0 ∷ p.1 ∷ drop 2 (reverse (take count values.old.items))) }
     ensures len { length values.new.items ≡ length values.old.items }
 {
     values.as_mut_slice().swap(count - 2, count - 1);

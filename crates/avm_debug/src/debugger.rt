@@ -44,7 +44,8 @@ impl<'a> Debugger<'a> {
         ops: &FullOps<O>,
     ) -> Result<Debugger<'a>, OpenError>
         ensures source { IfOk result (λ debugger. debugger.source ≡ source.entry) }
-        ensures opened { IfOk result (λ debugger. IsOpenedFrom source.entry entry debugger.stepper) }
+        ensures opened { IfOk result
+            (λ debugger. IsOpenedFrom source.entry entry debugger.stepper) }
         ensures refused { IfErr result (IsRefusedFrom source.entry entry) }
     {
         let opened = match source {

@@ -44,7 +44,8 @@ impl Block {
     #[tactic(auto, unfolding(avm_ops::specs::Effect::effect))]
     #[inline(always)]
     fn execute(&self, alloc: Global, instr: &Instr, cpu: &mut Cpu, _env: &mut Env) -> Executed
-        ensures { Executes (block_opcode self.now) instr.now.immediates cpu.old _env.old result cpu.new _env.new }
+        ensures { Executes (block_opcode self.now)
+            instr.now.immediates cpu.old _env.old result cpu.new _env.new }
     {
         match self {
             Block::Intcblock => cpu.set_uint_constants(uints_of(&instr.immediates))?,

@@ -78,7 +78,8 @@ impl Intc {
     #[tactic(auto, unfolding(avm_ops::specs::Effect::effect))]
     #[inline(always)]
     fn execute(&self, _alloc: Global, instr: &Instr, cpu: &mut Cpu, _env: &mut Env) -> Executed
-        ensures { Executes (intc_opcode self.now) instr.now.immediates cpu.old _env.old result cpu.new _env.new }
+        ensures { Executes (intc_opcode self.now)
+            instr.now.immediates cpu.old _env.old result cpu.new _env.new }
     {
         let index = self.index(&instr.immediates);
         let number = cpu.uint_constant(index).ok_or(Fault::NoConstant)?;
@@ -146,7 +147,8 @@ impl Bytec {
     #[tactic(auto, unfolding(avm_ops::specs::Effect::effect))]
     #[inline(always)]
     fn execute(&self, alloc: Global, instr: &Instr, cpu: &mut Cpu, _env: &mut Env) -> Executed
-        ensures { Executes (bytec_opcode self.now) instr.now.immediates cpu.old _env.old result cpu.new _env.new }
+        ensures { Executes (bytec_opcode self.now)
+            instr.now.immediates cpu.old _env.old result cpu.new _env.new }
     {
         let index = self.index(&instr.immediates);
         let bytes = cpu.byte_constant(index).ok_or(Fault::NoConstant)?;

@@ -45,7 +45,8 @@ impl Literal {
     #[tactic(auto, unfolding(avm_ops::specs::Effect::effect))]
     #[inline(always)]
     fn execute(&self, alloc: Global, instr: &Instr, cpu: &mut Cpu, _env: &mut Env) -> Executed
-        ensures { Executes (literal_opcode self.now) instr.now.immediates cpu.old _env.old result cpu.new _env.new }
+        ensures { Executes (literal_opcode self.now)
+            instr.now.immediates cpu.old _env.old result cpu.new _env.new }
     {
         match self {
             Literal::Pushbytes => {

@@ -48,7 +48,8 @@ impl Scratch {
     #[tactic(auto, unfolding(avm_ops::specs::Effect::effect))]
     #[inline(always)]
     fn execute(self, instr: &Instr, cpu: &mut Cpu, _env: &mut Env) -> Executed
-        ensures { Executes (scratch_opcode self) instr.now.immediates cpu.old _env.old result cpu.new _env.new }
+        ensures { Executes (scratch_opcode self)
+            instr.now.immediates cpu.old _env.old result cpu.new _env.new }
     {
         let index = index_of(&instr.immediates);
         match self {

@@ -63,7 +63,8 @@ impl Stack {
     #[tactic(auto, unfolding(avm_ops::specs::Effect::effect))]
     #[inline(always)]
     fn execute(&self, _alloc: Global, instr: &Instr, cpu: &mut Cpu, _env: &mut Env) -> Executed
-        ensures { Executes (stack_opcode self.now) instr.now.immediates cpu.old _env.old result cpu.new _env.new }
+        ensures { Executes (stack_opcode self.now)
+            instr.now.immediates cpu.old _env.old result cpu.new _env.new }
     {
         match self {
             Stack::Pop => {

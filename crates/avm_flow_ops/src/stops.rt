@@ -50,7 +50,8 @@ impl Stops {
     #[tactic(auto, unfolding(avm_ops::specs::Effect::effect))]
     #[inline(always)]
     fn execute(&self, _alloc: Global, _instr: &Instr, cpu: &mut Cpu, _env: &mut Env) -> Executed
-        ensures { Executes (stops_opcode self.now) _instr.now.immediates cpu.old _env.old result cpu.new _env.new }
+        ensures { Executes (stops_opcode self.now)
+            _instr.now.immediates cpu.old _env.old result cpu.new _env.new }
     {
         match self {
             Stops::Err => Err(Stop::Fault(Fault::Err)),

@@ -52,7 +52,8 @@ fn call_fields(alloc: Global, bytes: &[u8]) -> Result<Arc<CallData>, Failure<Cal
 }
 
 fn call_of_fields(alloc: Global, fields: Arc<CallData>) -> Result<Call, Failure<CallLineFault>>
-    ensures { Gives (λ call. call) result (unless_broken (arc_value fields) (call_fault (arc_value fields))) }
+    ensures { Gives (λ call. call) result
+        (unless_broken (arc_value fields) (call_fault (arc_value fields))) }
 {
     Call::of_shared(alloc, fields).map_err(|failure| failure.map(CallLineFault::Rule))
 }

@@ -39,7 +39,8 @@ pub fn command_in<'a>(
     alloc: Global,
     words: &'a [&'a str],
 ) -> Result<Option<NodeCommand>, AllocError>
-    ensures command { IfOk result (λ command. command ≡ command_in (map (λ word. word.now) words.now)) }
+    ensures command { IfOk result
+        (λ command. command ≡ command_in (map (λ word. word.now) words.now)) }
     ensures workers { IfOk result (λ command. AreOneToEight (workers_of command)) }
 {
     match command_line(alloc)?.try_get_matches_from(words) {
@@ -137,7 +138,8 @@ fn bare_line<'a>(alloc: Global) -> Command<'a>
 
 /// The command `state` and its option.
 fn state_line<'a>(alloc: Global) -> Result<Command<'a>, AllocError>
-    ensures app { IfOk result (λ command. app_of command ≡ with_rule (new_app (codes "state")) (number_rule (codes "at"))) }
+    ensures app { IfOk result (λ command.
+        app_of command ≡ with_rule (new_app (codes "state")) (number_rule (codes "at"))) }
     ensures local { IfOk result (λ command. (out-Command command).has_globals ≡ false) }
 {
     let at = number_option(alloc, "at");
@@ -146,7 +148,8 @@ fn state_line<'a>(alloc: Global) -> Result<Command<'a>, AllocError>
 
 /// The command `propose` and its option.
 fn propose_line<'a>(alloc: Global) -> Result<Command<'a>, AllocError>
-    ensures app { IfOk result (λ command. app_of command ≡ with_rule (new_app (codes "propose")) (number_rule (codes "workers"))) }
+    ensures app { IfOk result (λ command.
+        app_of command ≡ with_rule (new_app (codes "propose")) (number_rule (codes "workers"))) }
     ensures local { IfOk result (λ command. (out-Command command).has_globals ≡ false) }
 {
     let workers = number_option(alloc, "workers");
@@ -155,7 +158,8 @@ fn propose_line<'a>(alloc: Global) -> Result<Command<'a>, AllocError>
 
 /// The command `debug` and its options.
 fn debug_line<'a>(alloc: Global) -> Result<Command<'a>, AllocError>
-    ensures app { IfOk result (λ command. app_of command ≡ with_rule (with_rule (new_app (codes "debug")) (number_rule (codes "entry"))) (number_rule (codes "steps"))) }
+    ensures app { IfOk result (λ command. app_of command ≡ with_rule (with_rule
+        (new_app (codes "debug")) (number_rule (codes "entry"))) (number_rule (codes "steps"))) }
     ensures local { IfOk result (λ command. (out-Command command).has_globals ≡ false) }
 {
     let entry = number_option(alloc, "entry");
@@ -183,23 +187,31 @@ pub fn words_of_commands()
     ensures dis { command_in (codes "dis" ∷ []) ≡ Some Dis }
     ensures check { command_in (codes "check" ∷ []) ≡ Some Check }
     ensures replay { command_in (codes "replay" ∷ []) ≡ Some Replay }
-    ensures debug { command_in (codes "debug" ∷ codes "--entry" ∷ codes "1" ∷ codes "--steps" ∷ codes "0" ∷ []) ≡ Some (Debug 1 0) }
-    ensures debug_steps_first { command_in (codes "debug" ∷ codes "--steps=18446744073709551615" ∷ codes "--entry=2" ∷ []) ≡ Some (Debug 2 18446744073709551615) }
+    ensures debug { command_in (codes "debug"
+        ∷ codes "--entry" ∷ codes "1" ∷ codes "--steps" ∷ codes "0" ∷ []) ≡ Some (Debug 1 0) }
+    ensures debug_steps_first { command_in (codes "debug" ∷ codes "--steps=18446744073709551615"
+        ∷ codes "--entry=2" ∷ []) ≡ Some (Debug 2 18446744073709551615) }
     ensures debug_no_steps { command_in (codes "debug" ∷ codes "--entry" ∷ codes "1" ∷ []) ≡ None }
     ensures debug_no_entry { command_in (codes "debug" ∷ codes "--steps" ∷ codes "1" ∷ []) ≡ None }
     ensures state { command_in (codes "state" ∷ codes "--at" ∷ codes "2" ∷ []) ≡ Some (State 2) }
-    ensures state_in_one { command_in (codes "state" ∷ codes "--at=18446744073709551615" ∷ []) ≡ Some (State 18446744073709551615) }
+    ensures state_in_one { command_in (codes "state" ∷ codes "--at=18446744073709551615" ∷ [])
+        ≡ Some (State 18446744073709551615) }
     ensures no_timestamp { command_in (codes "state" ∷ []) ≡ None }
-    ensures high_timestamp { command_in (codes "state" ∷ codes "--at" ∷ codes "18446744073709551616" ∷ []) ≡ None }
+    ensures high_timestamp { command_in (codes "state"
+        ∷ codes "--at" ∷ codes "18446744073709551616" ∷ []) ≡ None }
     ensures other_timestamp { command_in (codes "state" ∷ codes "--at" ∷ codes "x" ∷ []) ≡ None }
-    ensures two_timestamps { command_in (codes "state" ∷ codes "--at=1" ∷ codes "--at=2" ∷ []) ≡ None }
+    ensures two_timestamps { command_in (codes "state"
+        ∷ codes "--at=1" ∷ codes "--at=2" ∷ []) ≡ None }
     ensures option_of_another { command_in (codes "replay" ∷ codes "--at=1" ∷ []) ≡ None }
-    ensures propose { command_in (codes "propose" ∷ codes "--workers" ∷ codes "2" ∷ []) ≡ Some (Propose 2) }
-    ensures propose_in_one { command_in (codes "propose" ∷ codes "--workers=+08" ∷ []) ≡ Some (Propose 8) }
+    ensures propose { command_in (codes "propose" ∷ codes "--workers" ∷ codes "2" ∷ [])
+        ≡ Some (Propose 2) }
+    ensures propose_in_one { command_in (codes "propose" ∷ codes "--workers=+08" ∷ [])
+        ≡ Some (Propose 8) }
     ensures no_count { command_in (codes "propose" ∷ []) ≡ None }
     ensures no_workers { command_in (codes "propose" ∷ codes "--workers=0" ∷ []) ≡ None }
     ensures nine_workers { command_in (codes "propose" ∷ codes "--workers=9" ∷ []) ≡ None }
-    ensures two_counts { command_in (codes "propose" ∷ codes "--workers=1" ∷ codes "--workers=1" ∷ []) ≡ None }
+    ensures two_counts { command_in (codes "propose"
+        ∷ codes "--workers=1" ∷ codes "--workers=1" ∷ []) ≡ None }
     ensures no_word { command_in [] ≡ None }
     ensures abbreviation { command_in (codes "as" ∷ []) ≡ None }
     ensures upper_case { command_in (codes "ASM" ∷ []) ≡ None }

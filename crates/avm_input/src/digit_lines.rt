@@ -54,7 +54,8 @@ impl<'a> DigitLines<'a> {
 
     /// The bytes of the next line, if there is one.
     pub fn next_bytes(&mut self, alloc: Global) -> Result<Option<Vec<u8>>, Failure<Refusal>>
-        ensures { Gives (λ bytes. (option_map (λ v. v.items) bytes, self.new)) result (first_bytes self.old) }
+        ensures { Gives (λ bytes. (option_map (λ v. v.items) bytes, self.new)) result
+            (first_bytes self.old) }
     {
         match self.next_line() {
             Some((number, digits)) => {
@@ -122,7 +123,8 @@ fn is_blank(byte: u8) -> bool
 /// The bytes of a line's digits, which may be of either case.
 #[tactic(auto, using(crate::proofs::LineReading::line_read, crate::proofs::LineReading::line_refused))]
 pub fn line_bytes(alloc: Global, number: usize, digits: &[u8]) -> Result<Vec<u8>, Failure<Refusal>>
-    ensures { Gives (λ bytes. bytes.items) result (line_bytes (record { number = number; digits = digits.now })) }
+    ensures { Gives (λ bytes. bytes.items) result
+        (line_bytes (record { number = number; digits = digits.now })) }
 {
     match decode_digits(alloc, digits)? {
         Some(bytes) => Ok(bytes),

@@ -15,7 +15,8 @@ const BLOCK: usize = 32;
 
 /// The bytes that digits of either case spell, where they are an even number of such digits.
 pub fn decode_digits(alloc: Global, digits: &[u8]) -> Result<Option<Vec<u8>>, AllocError>
-    ensures { IfOk result (λ bytes. option_map (λ v. v.items) bytes ≡ result_ok (decode_of digits.now)) }
+    ensures { IfOk result
+        (λ bytes. option_map (λ v. v.items) bytes ≡ result_ok (decode_of digits.now)) }
 {
     if digits.len() % 2 != 0 {
         return Ok(None);
@@ -49,7 +50,8 @@ fn put_pair(digits: &[u8], bytes: &mut [u8], i: usize, before: u8) -> u8
     requires even { length digits.now ≡ 2 * length bytes.old }
     requires there { i < length bytes.old }
     ensures len { length bytes.new ≡ length bytes.old }
-    ensures read { AreRead digits.now bytes.old i before → AreRead digits.now bytes.new (i + 1) result }
+    ensures read { AreRead digits.now bytes.old i before
+        → AreRead digits.now bytes.new (i + 1) result }
 {
     let high = digit_number(digits[2 * i]);
     let low = digit_number(digits[2 * i + 1]);
@@ -62,7 +64,8 @@ fn put_block(digits: &[u8], bytes: &mut [u8], start: usize, before: u8) -> u8
     requires even { length digits.now ≡ 2 * length bytes.old }
     requires there { start + 32 ≤ length bytes.old }
     ensures len { length bytes.new ≡ length bytes.old }
-    ensures read { AreRead digits.now bytes.old start before → AreRead digits.now bytes.new (start + 32) result }
+    ensures read { AreRead digits.now bytes.old start before
+        → AreRead digits.now bytes.new (start + 32) result }
 {
     let (numbers, most) = block_numbers(digits, 2 * start, before);
     put_pairs(&numbers, bytes, start);

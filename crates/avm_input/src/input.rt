@@ -48,7 +48,8 @@ pub fn read_input<R: Read>(alloc: Global, reader: &mut R) -> io::Result<Vec<u8>>
 
 /// The bytes of a reader to its end. They are put behind one another as they come, so that no room is zeroed for them.
 fn read_all<R: Read>(alloc: Global, reader: &mut R) -> io::Result<Vec<u8>>
-    ensures { IfOk result (λ input. IfSome (R.remaining reader.old) (λ bytes. input.items ≡ bytes)) }
+    ensures { IfOk result
+        (λ input. IfSome (R.remaining reader.old) (λ bytes. input.items ≡ bytes)) }
 {
     let mut input = Vec::with_capacity(alloc, FIRST_ROOM)?;
     let mut chunk = [0u8; CHUNK];

@@ -56,7 +56,8 @@ pub fn write_reply<W: Write>(writer: &mut W, text: &str, status: u8) -> u8
 
 /// Writes a text, or a beginning of it, and says whether all of it was written.
 fn write_text<W: Write>(writer: &mut W, text: &[u8]) -> bool
-    ensures written { IsTrue result → Appends (W.contents writer.old) (W.contents writer.new) text.now }
+    ensures written { IsTrue result
+        → Appends (W.contents writer.old) (W.contents writer.new) text.now }
     ensures begun { HasBeginning text.now (W.contents writer.old) (W.contents writer.new) }
 {
     let mut rest = text;
@@ -77,7 +78,8 @@ fn write_text<W: Write>(writer: &mut W, text: &[u8]) -> bool
 #[tactic(auto, using(crate::proofs::Written::kept_appends))]
 fn write_some<W: Write>(writer: &mut W, part: &[u8]) -> Option<usize>
     ensures some { IfSome result (λ count. count ≤ length part.now) }
-    ensures written { IfSome result (λ count. Appends (W.contents writer.old) (W.contents writer.new) (take count part.now)) }
+    ensures written { IfSome result
+        (λ count. Appends (W.contents writer.old) (W.contents writer.new) (take count part.now)) }
     ensures failed { result ≡ None → Keeps (W.contents writer.old) (W.contents writer.new) }
 {
     match writer.write(part) {

@@ -151,7 +151,8 @@ impl CallData {
 
     /// Whether the programs that they bring are the same.
     fn has_same_programs(&self, other: &CallData) -> bool
-        ensures { IsTrue result ↔ ((self.now.approval ≡ other.now.approval) × (self.now.clear ≡ other.now.clear)) }
+        ensures { IsTrue result
+            ↔ ((self.now.approval ≡ other.now.approval) × (self.now.clear ≡ other.now.clear)) }
     {
         self.approval.as_slice() == other.approval.as_slice()
             && self.clear.as_slice() == other.clear.as_slice()

@@ -56,7 +56,13 @@ impl Env {
         reads: ItemMap,
         writes: ItemMap,
     ) -> Env
-        ensures { result ≡ record { call = arc_value call; header = header; current = current; reads = reads; writes = writes } }
+        ensures { result ≡ record {
+          call = arc_value call;
+          header = header;
+          current = current;
+          reads = reads;
+          writes = writes;
+        } }
     {
         Env {
             call,
@@ -131,7 +137,8 @@ impl Env {
 
     /// Gives the call the value of an item.
     pub fn read(&mut self, item: Item, value: ItemValue) -> Result<(), AllocError>
-        ensures ok { IfOk result (λ _. self.new ≡ record self.old { reads = with_item self.old.reads item value }) }
+        ensures ok { IfOk result
+            (λ _. self.new ≡ record self.old { reads = with_item self.old.reads item value }) }
         ensures memory { IfErr result (λ _. self.new ≡ self.old) }
     {
         self.reads.insert(item, value)
@@ -139,7 +146,8 @@ impl Env {
 
     /// Writes an item.
     pub fn write(&mut self, item: Item, value: ItemValue) -> Result<(), AllocError>
-        ensures ok { IfOk result (λ _. self.new ≡ record self.old { writes = with_item self.old.writes item value }) }
+        ensures ok { IfOk result
+            (λ _. self.new ≡ record self.old { writes = with_item self.old.writes item value }) }
         ensures memory { IfErr result (λ _. self.new ≡ self.old) }
     {
         self.writes.insert(item, value)
@@ -164,7 +172,8 @@ impl Env {
         key: StateKey,
         value: Value,
     ) -> Result<(), AllocError>
-        ensures ok { IfOk result (λ _. self.new ≡ with_state_written (λ state. with_entry state key value) self.old (Local who id) (known_to self.old (Local who id))) }
+        ensures ok { IfOk result (λ _. self.new ≡ with_state_written (λ state. with_entry state
+            key value) self.old (Local who id) (known_to self.old (Local who id))) }
         ensures memory { IfErr result (λ _. self.new ≡ self.old) }
     {
         let item = Item::Local(who, id);
@@ -181,7 +190,8 @@ impl Env {
     /// Takes a key out of an account's local state of an application, if the state is known: out of the one that the call
     /// has written, in place; else out of a copy, which it writes.
     pub fn remove_entry(&mut self, who: Address, id: u64, key: &StateKey) -> Result<(), AllocError>
-        ensures ok { IfOk result (λ _. self.new ≡ with_state_written (λ state. without_entry state key.now) self.old (Local who id) (known_to self.old (Local who id))) }
+        ensures ok { IfOk result (λ _. self.new ≡ with_state_written (λ state. without_entry state
+            key.now) self.old (Local who id) (known_to self.old (Local who id))) }
         ensures memory { IfErr result (λ _. self.new ≡ self.old) }
     {
         let item = Item::Local(who, id);

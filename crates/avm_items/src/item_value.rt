@@ -86,7 +86,8 @@ impl ItemValue {
     /// Puts an entry into a local state, in place. Any other value stays. Only a new key can be refused, as by
     /// [`State::insert`].
     pub(crate) fn put_entry(&mut self, key: StateKey, value: Value) -> Result<(), AllocError>
-        ensures ok { IfOk result (λ _. self.new ≡ local_changed (λ state. with_entry state key value) self.old) }
+        ensures ok { IfOk result
+            (λ _. self.new ≡ local_changed (λ state. with_entry state key value) self.old) }
         ensures memory { IfErr result (λ _. self.new ≡ self.old) }
     {
         if let ItemValue::Local(state) = self {

@@ -84,7 +84,8 @@ fn put_back(alloc: Global, ledger: &mut OpenLedger, item: &Item, old: ItemValue)
 
 /// Puts the old values of items back, the last one first.
 fn put_all_back(alloc: Global, ledger: &mut OpenLedger, changes: Vec<(Item, ItemValue)>)
-    ensures { (before : LedgerMaps) → AllPutBack ledger.old changes.items before → ledger.new ≡ before }
+    ensures { (before : LedgerMaps)
+        → AllPutBack ledger.old changes.items before → ledger.new ≡ before }
 {
     let mut changes = changes;
     while let Some((item, old)) = changes.pop() {
@@ -110,7 +111,8 @@ fn change(
     absent: &mut Vec<Item>,
 ) -> Result<(), AllocError>
     ensures set { IfOk result (λ _. ledger.new ≡ set_one ledger.old entry.old) }
-    ensures absent { IfOk result (λ _. absent.new.items ≡ absent.old.items ++ absent_one entry.old []) }
+    ensures absent { IfOk result
+        (λ _. absent.new.items ≡ absent.old.items ++ absent_one entry.old []) }
     ensures back { IfOk result (λ _. PutsBack ledger.new ledger.old entry.new) }
     ensures unchanged { IfErr result (λ _. ledger.new ≡ ledger.old) }
 {
@@ -136,7 +138,8 @@ fn change_all(
     absent: &mut Vec<Item>,
 ) -> Result<(), AllocError>
     ensures set { IfOk result (λ _. ledger.new ≡ set_all ledger.old entries.old.items) }
-    ensures absent { IfOk result (λ _. absent.new.items ≡ absent.old.items ++ absent_items entries.old.items) }
+    ensures absent { IfOk result
+        (λ _. absent.new.items ≡ absent.old.items ++ absent_items entries.old.items) }
     ensures back { IfErr result (λ _. AllPutBack ledger.new entries.new.items ledger.old) }
 {
     for index in 0..entries.len() {

@@ -28,7 +28,8 @@ impl Ledger {
         ensures rules { IfOk result (λ l. KeepsRules l) }
         ensures spelled { IfOk result (λ l. ledger_bytes l ≡ bytes.now) }
         // What keeps the rules is read from its spelling, unless memory runs out.
-        ensures only { (l : LedgerMaps) → KeepsRules l → IsCountable l → bytes.now ≡ ledger_bytes l → Gives (λ x. x) result (Ok l) }
+        ensures only { (l : LedgerMaps) → KeepsRules l
+            → IsCountable l → bytes.now ≡ ledger_bytes l → Gives (λ x. x) result (Ok l) }
     {
         ledger_of(alloc, bytes)
     }
@@ -62,7 +63,8 @@ fn ledger_of(alloc: Global, bytes: &[u8]) -> Result<Ledger, LedgerError>
 }
 
 fn put_applications(bytes: &mut Vec<u8>, ledger: &Ledger) -> Result<(), AllocError>
-    ensures { OnOk result (bytes.new.items ≡ bytes.old.items ++ counted_bytes u32_bytes application_bytes ledger.now.applications) }
+    ensures { OnOk result (bytes.new.items
+        ≡ bytes.old.items ++ counted_bytes u32_bytes application_bytes ledger.now.applications) }
 {
     put_long_count(bytes, ledger.application_count())?;
     for (id, application) in ledger.applications() {
@@ -76,7 +78,8 @@ fn put_application(
     id: u64,
     application: &StoredApplication,
 ) -> Result<(), AllocError>
-    ensures { OnOk result (bytes.new.items ≡ bytes.old.items ++ application_bytes (id, application.now)) }
+    ensures { OnOk result
+        (bytes.new.items ≡ bytes.old.items ++ application_bytes (id, application.now)) }
 {
     let row = application.row.get();
     put_u64(bytes, id)?;
@@ -89,7 +92,8 @@ fn put_application(
 }
 
 fn put_local_states(bytes: &mut Vec<u8>, ledger: &Ledger) -> Result<(), AllocError>
-    ensures { OnOk result (bytes.new.items ≡ bytes.old.items ++ counted_bytes u32_bytes local_state_bytes ledger.now.local_states) }
+    ensures { OnOk result (bytes.new.items
+        ≡ bytes.old.items ++ counted_bytes u32_bytes local_state_bytes ledger.now.local_states) }
 {
     put_long_count(bytes, ledger.local_state_count())?;
     for (key, state) in ledger.local_states() {
@@ -103,7 +107,8 @@ fn put_local_state(
     key: &(Address, u64),
     state: &State,
 ) -> Result<(), AllocError>
-    ensures { OnOk result (bytes.new.items ≡ bytes.old.items ++ local_state_bytes (key.now, state.now)) }
+    ensures { OnOk result
+        (bytes.new.items ≡ bytes.old.items ++ local_state_bytes (key.now, state.now)) }
 {
     let (who, id) = *key;
     bytes.extend_from_slice(&who.0)?;

@@ -60,8 +60,16 @@ impl Ledger {
         applications: BTreeMap<u64, StoredApplication>,
         local_states: BTreeMap<(Address, u64), State>,
     ) -> Ledger
-        requires { IsOrderly (record { next_id = next_id; applications = applications.entries; local_states = local_states.entries }) }
-        ensures { result ≡ record { next_id = next_id; applications = applications.entries; local_states = local_states.entries } }
+        requires { IsOrderly (record {
+          next_id = next_id;
+          applications = applications.entries;
+          local_states = local_states.entries;
+        }) }
+        ensures { result ≡ record {
+          next_id = next_id;
+          applications = applications.entries;
+          local_states = local_states.entries;
+        } }
     {
         Ledger {
             next_id,
@@ -178,7 +186,8 @@ impl Ledger {
 
     /// The global state of an application.
     pub fn global_state(&self, id: u64) -> Option<&State>
-        ensures { option_copied result ≡ option_map (λ app. app.state) (application_at self.now id) }
+        ensures { option_copied result
+            ≡ option_map (λ app. app.state) (application_at self.now id) }
     {
         match self.applications.get(&id) {
             Some(app) => Some(&app.state),

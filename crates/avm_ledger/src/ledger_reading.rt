@@ -29,7 +29,11 @@ pub(crate) struct Parts {
 
 /// The parts of the ledger that the bytes are.
 pub(crate) fn parts_of(alloc: Global, bytes: &[u8]) -> Result<Parts, LedgerError>
-    ensures { Gives (λ l. record { next_id = l.next_id; applications = l.applications.entries; local_states = l.local_states.entries }) result (ledger_at bytes.now) }
+    ensures { Gives (λ l. record {
+      next_id = l.next_id;
+      applications = l.applications.entries;
+      local_states = l.local_states.entries;
+    }) result (ledger_at bytes.now) }
 {
     let (next_id, rest) = next_id_of(Fields::new(bytes))?;
     let (count, rest) = rest.u32(LedgerFault::Truncated)?;
@@ -65,7 +69,8 @@ fn applications_of(
     next_id: u64,
     fields: Fields<'_>,
 ) -> Result<(BTreeMap<u64, StoredApplication>, Fields<'_>), LedgerError>
-    ensures { Gives (λ x. (x.0.entries, x.1)) result (applications_at count 0 next_id fields.entry) }
+    ensures { Gives (λ x. (x.0.entries, x.1)) result
+        (applications_at count 0 next_id fields.entry) }
 {
     let mut applications = BTreeMap::new(alloc);
     let mut before = 0;
@@ -166,7 +171,8 @@ fn local_states_of<'a>(
     applications: &BTreeMap<u64, StoredApplication>,
     fields: Fields<'a>,
 ) -> Result<(Vec<((Address, u64), State)>, Fields<'a>), LedgerError>
-    ensures { Gives (λ x. (x.0.items, x.1)) result (local_states_at count None next_id applications.now.entries fields.entry) }
+    ensures { Gives (λ x. (x.0.items, x.1)) result
+        (local_states_at count None next_id applications.now.entries fields.entry) }
 {
     let mut local_states = Vec::new(alloc);
     let mut before = None;
@@ -233,7 +239,8 @@ fn rises_from(before: Option<(Address, u64)>, who: Address, id: u64) -> bool
 
 /// How many entries a local state may have in all, and of each kind.
 fn room_of(application: Option<&StoredApplication>) -> (u16, Schema)
-    ensures { record { entries = result.0; kinds = result.1 } ≡ local_room (option_copied application.entry) }
+    ensures { record { entries = result.0; kinds = result.1 }
+        ≡ local_room (option_copied application.entry) }
 {
     match application {
         Some(application) => {

@@ -56,7 +56,8 @@ impl OpenLedger {
 
     /// The global state of an application.
     pub fn global_state(&self, id: u64) -> Option<&State>
-        ensures { option_copied result ≡ option_map (λ app. app.state) (application_at self.now id) }
+        ensures { option_copied result
+            ≡ option_map (λ app. app.state) (application_at self.now id) }
     {
         match self.applications.get(&id) {
             Some(app) => Some(&app.state),
@@ -94,8 +95,10 @@ impl OpenLedger {
         id: u64,
         row: SharedApplication,
     ) -> Result<Option<SharedApplication>, AllocError>
-        ensures old { IfOk result (λ old. old ≡ option_map (λ app. app.row) (application_at self.old id)) }
-        ensures set { IfOk result (λ _. self.new ≡ with_application self.old id (with_row (application_at self.old id) row)) }
+        ensures old { IfOk result
+            (λ old. old ≡ option_map (λ app. app.row) (application_at self.old id)) }
+        ensures set { IfOk result (λ _.
+            self.new ≡ with_application self.old id (with_row (application_at self.old id) row)) }
         ensures unchanged { IfErr result (λ _. self.new ≡ self.old) }
         ensures only_new { IfErr result (λ _. application_at self.old id ≡ None) }
     {
@@ -126,7 +129,8 @@ impl OpenLedger {
         value: Value,
     ) -> Result<Option<Value>, AllocError>
         ensures old { IfOk result (λ old. old ≡ global_value self.old id key) }
-        ensures set { IfOk result (λ _. self.new ≡ with_state self.old id (λ state. with_entry state key value) (application_at self.old id)) }
+        ensures set { IfOk result (λ _. self.new ≡ with_state self.old id
+            (λ state. with_entry state key value) (application_at self.old id)) }
         ensures unchanged { IfErr result (λ _. self.new ≡ self.old) }
         ensures only_new { IfErr result (λ _. global_value self.old id key ≡ None) }
         ensures only_there { IfErr result (λ _. IsSome (application_at self.old id)) }
@@ -140,7 +144,8 @@ impl OpenLedger {
     /// Takes a key out of the global state of an application, and answers the value that it had.
     pub fn remove_key(&mut self, id: u64, key: &StateKey) -> Option<Value>
         ensures old { result ≡ global_value self.old id key.now }
-        ensures removed { self.new ≡ with_state self.old id (λ state. without_entry state key.now) (application_at self.old id) }
+        ensures removed { self.new ≡ with_state self.old id
+            (λ state. without_entry state key.now) (application_at self.old id) }
     {
         let app = self.applications.get_mut(&id)?;
         app.state.remove(key)

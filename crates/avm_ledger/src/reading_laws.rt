@@ -39,5 +39,6 @@ pub fn worked_ledgers()
     ensures second_uint { ledger_at (up_to_state ++ two_uint_entries) ≡ Err Malformed }
     ensures end_in_a_key { ledger_at (up_to_state ++ 1 ∷ 65 ∷ zeros 64) ≡ Err Truncated }
     ensures long_key { ledger_at (up_to_state ++ 1 ∷ 65 ∷ zeros 65) ≡ Err Malformed }
-    ensures id_of_the_next { ledger_at (zeros 7 ++ 1 ∷ 0 ∷ 0 ∷ 0 ∷ 1 ∷ zeros 7 ++ 1 ∷ []) ≡ Err Malformed }
+    ensures id_of_the_next { ledger_at (zeros 7 ++ 1 ∷ 0 ∷ 0 ∷ 0 ∷ 1 ∷ zeros 7 ++ 1 ∷ [])
+        ≡ Err Malformed }
 {}

@@ -42,7 +42,8 @@ pub fn put_u64(bytes: &mut Vec<u8>, number: u64) -> Result<(), AllocError>
 
 /// Appends a byte string behind its length of one byte.
 pub fn put_short_string(bytes: &mut Vec<u8>, string: &[u8]) -> Result<(), AllocError>
-    ensures written { OnOk result (bytes.new.items ≡ bytes.old.items ++ short_string_bytes string.now) }
+    ensures written { OnOk result
+        (bytes.new.items ≡ bytes.old.items ++ short_string_bytes string.now) }
     ensures unchanged { OnErr result (bytes.new.items ≡ bytes.old.items) }
 {
     let start = bytes.len();
@@ -109,7 +110,8 @@ fn push_state(bytes: &mut Vec<u8>, state: &State) -> Result<(), AllocError>
 }
 
 fn push_entry(bytes: &mut Vec<u8>, key: &StateKey, value: &Value) -> Result<(), AllocError>
-    ensures written { OnOk result (bytes.new.items ≡ bytes.old.items ++ entry_bytes (key.now, value.now)) }
+    ensures written { OnOk result
+        (bytes.new.items ≡ bytes.old.items ++ entry_bytes (key.now, value.now)) }
     ensures kept { Continues bytes.old.items bytes.new.items }
 {
     put_short_string(bytes, key.as_slice())?;

@@ -20,7 +20,8 @@ pub(crate) fn state_of(
     kinds: Schema,
     fields: Fields<'_>,
 ) -> Result<(State, Fields<'_>), LedgerError>
-    ensures { Gives (λ x. x) result (state_at (record { entries = most; kinds = kinds }) fields.entry) }
+    ensures { Gives (λ x. x) result
+        (state_at (record { entries = most; kinds = kinds }) fields.entry) }
 {
     let (count, rest) = fields.u8(LedgerFault::Truncated)?;
     if u16::from(count) > most {
@@ -61,7 +62,8 @@ fn key_of<'a>(
     before: Option<&[u8]>,
     fields: Fields<'a>,
 ) -> Result<(&'a [u8], Fields<'a>), LedgerError>
-    ensures { Gives (λ x. (x.0.now, x.1)) result (key_at (option_copied before.entry) fields.entry) }
+    ensures { Gives (λ x. (x.0.now, x.1)) result
+        (key_at (option_copied before.entry) fields.entry) }
 {
     let (key, rest) = fields.short_string(LedgerFault::Truncated)?;
     if key.len() > MAX_KEY_BYTES || !rises_from(before, key) {

@@ -54,11 +54,13 @@ fn by_four<R: Threads + Sync>(
         rt,
         || -> Calls
             requires { number + length front.now < 2 ^ 64 }
-            ensures { Gives (λ calls. calls.items) result (calls_on_lines number (lines_shown front.entry.now)) }
+            ensures { Gives (λ calls. calls.items) result
+                (calls_on_lines number (lines_shown front.entry.now)) }
         { by_two(rt, alloc, number, front) },
         || -> Calls
             requires { behind + length back.now < 2 ^ 64 }
-            ensures { Gives (λ calls. calls.items) result (calls_on_lines behind (lines_shown back.entry.now)) }
+            ensures { Gives (λ calls. calls.items) result
+                (calls_on_lines behind (lines_shown back.entry.now)) }
         { by_two(rt, alloc, behind, back) },
     );
     together(first, second)
@@ -80,11 +82,13 @@ fn by_two<R: Threads + Sync>(
         rt,
         || -> Calls
             requires { number + length front.now < 2 ^ 64 }
-            ensures { Gives (λ calls. calls.items) result (calls_on_lines number (lines_shown front.entry.now)) }
+            ensures { Gives (λ calls. calls.items) result
+                (calls_on_lines number (lines_shown front.entry.now)) }
         { calls_on(alloc, number, front) },
         || -> Calls
             requires { behind + length back.now < 2 ^ 64 }
-            ensures { Gives (λ calls. calls.items) result (calls_on_lines behind (lines_shown back.entry.now)) }
+            ensures { Gives (λ calls. calls.items) result
+                (calls_on_lines behind (lines_shown back.entry.now)) }
         { calls_on(alloc, behind, back) },
     );
     together(first, second)

@@ -77,7 +77,8 @@ fn proposal_reply(alloc: Global, proposal: &Proposal) -> Result<Reply, AllocErro
 
 /// Adds a line for each call that is left.
 fn add_left(alloc: Global, text: &mut String, left: &[u32]) -> Result<(), AllocError>
-    ensures { OnOk result (string_bytes text.new ≡ string_bytes text.old ++ flat_map left_line left.now) }
+    ensures { OnOk result
+        (string_bytes text.new ≡ string_bytes text.old ++ flat_map left_line left.now) }
 {
     for number in left {
         let line = format!(in alloc; "left {number}\n")?;

@@ -34,12 +34,14 @@ pub fn run<'a, T: Threads + Wait + Sync, R: Read, W: Write, O: Op>(
     mut sets: Vec<Ops<O>>,
 ) -> u8
     requires sets { AreSets O.opcode sets.items }
-    ensures answers { CommandAnswers usage_reply IsNodeReply (command_in (map (λ word. word.now) words.now))
+    ensures answers { CommandAnswers usage_reply IsNodeReply
+        (command_in (map (λ word. word.now) words.now))
         (R.remaining reader.old) (W.contents writer.old) (W.contents writer.new) result }
     ensures fails { result ≡ failed → CommandFails usage_reply IsNodeReply
-        (command_in (map (λ word. word.now) words.now))
-        (R.remaining reader.old) (W.contents writer.old) (W.contents writer.new) writer.old writer.new }
-    ensures reads_nothing { command_in (map (λ word. word.now) words.now) ≡ None → reader.new ≡ reader.old }
+        (command_in (map (λ word. word.now) words.now)) (R.remaining reader.old)
+        (W.contents writer.old) (W.contents writer.new) writer.old writer.new }
+    ensures reads_nothing { command_in (map (λ word. word.now) words.now) ≡ None
+        → reader.new ≡ reader.old }
 {
     let Some(own) = sets.pop() else {
         unreachable!()
@@ -69,7 +71,8 @@ fn proposed<T: Threads + Wait + Sync, R: Read, O: Op>(
     own: Ops<O>,
 ) -> io::Result<Reply>
     requires sets { AreWorkerSets O.opcode sets.items own }
-    ensures { IfOk result (λ reply. IsReply (IsNodeReply (Propose workers)) (R.remaining reader.old) (reply_shown reply)) }
+    ensures { IfOk result (λ reply.
+        IsReply (IsNodeReply (Propose workers)) (R.remaining reader.old) (reply_shown reply)) }
 {
     let input = read_input(alloc, reader)?;
     if input.len() > INPUT_LIMIT {

@@ -133,7 +133,8 @@ pub trait Op: Send + Drop {
         requires opcode { instr.now.opcode ≡ opcode self.now }
         requires ready { IsReady cpu.old.place (opcode self.now) instr.now.immediates }
         // What the opcode table says: the flow, the machine and the writes; or the fault; or the first item that isn't known.
-        ensures row { Does result cpu.new env.new (known_effect cpu.old env.old (opcode self.now) instr.now.immediates) }
+        ensures row { Does result cpu.new env.new
+            (known_effect cpu.old env.old (opcode self.now) instr.now.immediates) }
         // Only writes change in what the call knows.
         ensures writes { env.new ≡ record env.old { writes = env.new.writes } }
         // At a fault, and at an item that isn't known, nothing changes.
@@ -144,7 +145,8 @@ pub trait Op: Send + Drop {
     fn carry_out(&self, alloc: Global, instr: &Instr, cpu: &mut Cpu, env: &mut Env) -> Way
         requires opcode { instr.now.opcode ≡ opcode self.now }
         requires ready { IsReady cpu.old.place (opcode self.now) instr.now.immediates }
-        ensures row { CarriesOut result cpu.new env.new (known_effect cpu.old env.old (opcode self.now) instr.now.immediates) }
+        ensures row { CarriesOut result cpu.new env.new
+            (known_effect cpu.old env.old (opcode self.now) instr.now.immediates) }
         ensures writes { env.new ≡ record env.old { writes = env.new.writes } }
         ensures unchanged { IfHeld result ((cpu.new ≡ cpu.old) × (env.new ≡ env.old)) }
     {

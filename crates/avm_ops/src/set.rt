@@ -63,8 +63,10 @@ impl<O: Op> Ops<O> {
 
     /// Adds an object, or hands it back where one of its code is there. It takes no memory.
     pub fn push(&mut self, op: O) -> Result<(), (PushFault, O)>
-        ensures ok { IfOk result (λ _. (object_at self.old (code_of (O.opcode op)) ≡ None) × (self.new ≡ with_object self.old (code_of (O.opcode op)) op)) }
-        ensures twice { IfErr result (λ e. IsSome (object_at self.old (code_of (O.opcode op))) × (e.1 ≡ op) × (self.new ≡ self.old)) }
+        ensures ok { IfOk result (λ _. (object_at self.old (code_of (O.opcode op)) ≡ None)
+            × (self.new ≡ with_object self.old (code_of (O.opcode op)) op)) }
+        ensures twice { IfErr result (λ e. IsSome (object_at self.old (code_of (O.opcode op)))
+            × (e.1 ≡ op) × (self.new ≡ self.old)) }
     {
         let code = usize::from(op.code());
         if self.slots[code].is_some() {

@@ -115,7 +115,9 @@ impl Numbers {
         requires queue { IsWith self.now pass.old }
         requires next { ((view pass.old).puts ≡ true) × (number ≡ (view pass.old).put + 1) }
         ensures queue { IsWith self.now pass.new }
-        ensures rule { MatchResult result (λ _. view pass.new ≡ hand true number (view pass.old).drawn) (λ back. (back ≡ number) × (view pass.new ≡ view pass.old) × WasMoment ROOM (view pass.old)) }
+        ensures rule { MatchResult result
+            (λ _. view pass.new ≡ hand true number (view pass.old).drawn) (λ back. (back ≡ number)
+            × (view pass.new ≡ view pass.old) × WasMoment ROOM (view pass.old)) }
         ensures room { OnErr result (ROOM ≤ (view pass.old).put) }
     {
         self.queue.push_as::<Puts, R>(rt, pass, number)
@@ -125,7 +127,9 @@ impl Numbers {
     pub fn draw<R: Wait>(&self, rt: &R, pass: &mut NumberPass) -> Option<u32>
         requires { IsWith self.now pass.old }
         ensures queue { IsWith self.now pass.new }
-        ensures rule { MatchOption result ((view pass.new ≡ view pass.old) × WasMoment 0 (view pass.old)) (λ number. view pass.new ≡ hand (view pass.old).puts (view pass.old).put ((view pass.old).drawn ++ number ∷ [])) }
+        ensures rule { MatchOption result ((view pass.new ≡ view pass.old)
+            × WasMoment 0 (view pass.old)) (λ number. view pass.new ≡ hand (view pass.old).puts
+            (view pass.old).put ((view pass.old).drawn ++ number ∷ [])) }
     {
         self.queue.pop_as::<Draws, R>(rt, pass)
     }

@@ -24,8 +24,10 @@ pub(crate) fn proposal_of<R: Threads + Sync>(
     shards: Vec<ShardLock>,
     draft: &SharedDraft,
 ) -> Result<Option<Proposal>, AllocError>
-    ensures proposal { IfOk result (λ made. IfSome made (IsProposal draft.now.base.now draft.now.header (arc_value draft.now.calls).items)) }
-    ensures none { IfOk result (λ made. IfNone made (IsJournalOf journal draft.now.base.now draft.now.header (arc_value draft.now.calls).items → ⊥)) }
+    ensures proposal { IfOk result (λ made. IfSome made
+        (IsProposal draft.now.base.now draft.now.header (arc_value draft.now.calls).items)) }
+    ensures none { IfOk result (λ made. IfNone made (IsJournalOf journal
+        draft.now.base.now draft.now.header (arc_value draft.now.calls).items → ⊥)) }
 {
     let (is_own, sealed) = block_of(rt, alloc, &journal, shards, draft);
     if !is_own {
@@ -51,20 +53,24 @@ fn block_of<R: Threads + Sync>(
     shards: Vec<ShardLock>,
     draft: &SharedDraft,
 ) -> (bool, Result<Sealed, AllocError>)
-    ensures own { IsTrue result.0 ↔ IsJournalOf journal.now draft.now.base.now draft.now.header (arc_value draft.now.calls).items }
-    ensures sealed { IfOk result.1 (λ sealed. IsSealed journal.now sealed.block sealed.numbers.items) }
+    ensures own { IsTrue result.0 ↔ IsJournalOf journal.now draft.now.base.now draft.now.header
+        (arc_value draft.now.calls).items }
+    ensures sealed { IfOk result.1
+        (λ sealed. IsSealed journal.now sealed.block sealed.numbers.items) }
 {
     let (base, header, calls) = (draft.base.ledger(), &draft.header, draft.calls.as_slice());
     join(
         rt,
         move || -> bool
-            ensures { IsTrue result ↔ IsJournalOf journal.entry.now base.entry.now header.entry.now calls.entry.now }
+            ensures { IsTrue result
+                ↔ IsJournalOf journal.entry.now base.entry.now header.entry.now calls.entry.now }
         {
             free_shards(shards);
             journal.is_of(base, header, calls)
         },
         || -> Result<Sealed, AllocError>
-            ensures { IfOk result (λ sealed. IsSealed journal.entry.now sealed.block sealed.numbers.items) }
+            ensures { IfOk result
+                (λ sealed. IsSealed journal.entry.now sealed.block sealed.numbers.items) }
         { journal.to_block(alloc) },
     )
 }

@@ -43,9 +43,12 @@ pub fn propose<G: Gate, R: Threads + Wait + Sync, O: Op>(
     sets: ThreadSets<O>,
     gate: &G,
 ) -> Result<Proposal, PoolError>
-    ensures proposal { IfOk result (IsProposal draft.entry.base.now draft.entry.header draft.entry.calls.items) }
-    ensures may { OnOk result (MayPropose O.opcode sets.workers.items sets.own draft.entry.header draft.entry.calls.items) }
-    ensures refused { IfErr result (IsRefusal O.opcode sets.workers.items sets.own draft.entry.header draft.entry.calls.items) }
+    ensures proposal { IfOk result
+        (IsProposal draft.entry.base.now draft.entry.header draft.entry.calls.items) }
+    ensures may { OnOk result (MayPropose O.opcode
+        sets.workers.items sets.own draft.entry.header draft.entry.calls.items) }
+    ensures refused { IfErr result (IsRefusal O.opcode
+        sets.workers.items sets.own draft.entry.header draft.entry.calls.items) }
 {
     match pool_fault(&sets.workers, &sets.own, &draft.header, &draft.calls) {
         Some(fault) => Err(Failure::Fault(fault)),
@@ -65,9 +68,12 @@ pub fn propose_on<G: Gate, R: Threads + Wait + Sync, O: Op>(
     sets: ThreadSets<O>,
     gate: &G,
 ) -> Result<Proposal, PoolError>
-    ensures proposal { IfOk result (IsProposal draft.entry.base.now draft.entry.header draft.entry.calls.items) }
-    ensures may { OnOk result (MayPropose O.opcode sets.workers.items sets.own draft.entry.header draft.entry.calls.items) }
-    ensures refused { IfErr result (IsRefusal O.opcode sets.workers.items sets.own draft.entry.header draft.entry.calls.items) }
+    ensures proposal { IfOk result
+        (IsProposal draft.entry.base.now draft.entry.header draft.entry.calls.items) }
+    ensures may { OnOk result (MayPropose O.opcode
+        sets.workers.items sets.own draft.entry.header draft.entry.calls.items) }
+    ensures refused { IfErr result (IsRefusal O.opcode
+        sets.workers.items sets.own draft.entry.header draft.entry.calls.items) }
 {
     match pool_fault(&sets.workers, &sets.own, &draft.header, &draft.calls) {
         Some(fault) => Err(Failure::Fault(fault)),
@@ -88,7 +94,8 @@ fn proposed_over<G: Gate, R: Threads + Wait + Sync, O: Op>(
     gate: &G,
 ) -> Result<Proposal, PoolError>
     requires opens { open_fault draft.header draft.calls.items ≡ None }
-    ensures proposal { IfOk result (IsProposal draft.entry.base.now draft.entry.header draft.entry.calls.items) }
+    ensures proposal { IfOk result
+        (IsProposal draft.entry.base.now draft.entry.header draft.entry.calls.items) }
     ensures want { IfErr result IsWant }
 {
     let Draft {
@@ -114,7 +121,8 @@ fn proposed<G: Gate, R: Threads + Wait + Sync, O: Op>(
     gate: &G,
 ) -> Result<Proposal, PoolError>
     requires opens { open_fault draft.header draft.calls.items ≡ None }
-    ensures proposal { IfOk result (IsProposal draft.entry.base.now draft.entry.header draft.entry.calls.items) }
+    ensures proposal { IfOk result
+        (IsProposal draft.entry.base.now draft.entry.header draft.entry.calls.items) }
     ensures want { IfErr result IsWant }
 {
     let Draft {
@@ -169,7 +177,8 @@ fn proposed_anew<G: Gate, R: Threads + Wait + Sync, O: Op>(
     gate: &G,
 ) -> Result<Proposal, PoolError>
     requires opens { open_fault draft.now.header (arc_value draft.now.calls).items ≡ None }
-    ensures proposal { IfOk result (IsProposal draft.now.base.now draft.now.header (arc_value draft.now.calls).items) }
+    ensures proposal { IfOk result
+        (IsProposal draft.now.base.now draft.now.header (arc_value draft.now.calls).items) }
     ensures want { IfErr result IsWant }
 {
     let (journal, shards) = draft.open(alloc)?;
@@ -194,7 +203,8 @@ impl<'a> SharedDraft<'a> {
     /// A journal of which no call has begun, and its shards behind locks of their own.
     fn open(&self, alloc: Global) -> Result<(Journal, Vec<ShardLock>), AllocError>
         requires opens { open_fault self.now.header (arc_value self.now.calls).items ≡ None }
-        ensures { IfOk result (λ opened. IsJournalOf opened.0 self.now.base.now self.now.header (arc_value self.now.calls).items) }
+        ensures { IfOk result (λ opened. IsJournalOf opened.0 self.now.base.now self.now.header
+            (arc_value self.now.calls).items) }
     {
         match open_on(
             alloc,

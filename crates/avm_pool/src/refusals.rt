@@ -19,7 +19,8 @@ pub(crate) fn pool_fault<O: Op>(
     header: &Header,
     calls: &[Call],
 ) -> Option<PoolFault>
-    ensures some { IfSome result (IsPoolTestRefusal O.opcode sets.now own.now header.now calls.now) }
+    ensures some { IfSome result
+        (IsPoolTestRefusal O.opcode sets.now own.now header.now calls.now) }
     ensures none { IfNone result (MayPropose O.opcode sets.now own.now header.now calls.now) }
 {
     if sets.is_empty() || sets.len() > MAX_WORKERS || calls.len() > MAX_ENTRIES {

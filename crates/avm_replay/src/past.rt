@@ -88,7 +88,8 @@ fn make_until<O: Op>(
     timestamp: u64,
 ) -> Result<(), AllocError>
     requires rising { RisesAbove 0 entries.now }
-    ensures { IfOk result (λ _. ledger.new ≡ replayed ledger.old context.now.header.now (calls_in (entries_until timestamp entries.now))) }
+    ensures { IfOk result (λ _. ledger.new ≡ replayed ledger.old context.now.header.now
+        (calls_in (entries_until timestamp entries.now))) }
 {
     let mut spare = None;
     for entry in entries {

@@ -71,7 +71,8 @@ fn entries_of<O: Op>(
     calls: &[Call],
 ) -> Result<Vec<Entry>, AllocError>
     requires few { length calls.now ≤ MAX_ENTRIES }
-    ensures { IfOk result (λ entries. AreMade ledger.old context.now.header.now calls.now entries.items ledger.new) }
+    ensures { IfOk result
+        (λ entries. AreMade ledger.old context.now.header.now calls.now entries.items ledger.new) }
 {
     let mut spare = None;
     let mut entries = Vec::new(context.alloc);

@@ -10,6 +10,8 @@ ghost use Rattle.avm_replay.specs.WorkedVerdicts.{block_of_creation, ledger_afte
 /// The block of one approved creation over the ledger without applications agrees; the block that says of it that it was
 /// rejected is wrong at its first entry.
 pub fn verdicts()
-    ensures agrees { Judges empty_ledger (block_of_creation outcome.Approved) (verdict.Agrees ledger_after_creation) }
-    ensures wrong_outcome { Judges empty_ledger (block_of_creation outcome.Rejected) (verdict.WrongOutcome 1 outcome.Approved) }
+    ensures agrees { Judges empty_ledger
+        (block_of_creation outcome.Approved) (verdict.Agrees ledger_after_creation) }
+    ensures wrong_outcome { Judges empty_ledger
+        (block_of_creation outcome.Rejected) (verdict.WrongOutcome 1 outcome.Approved) }
 {}

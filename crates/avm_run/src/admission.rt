@@ -46,7 +46,8 @@ pub(crate) struct Admitted {
 
 /// The item that a call asks for first.
 pub(crate) fn first_item(call: &Call) -> Item
-    ensures { (header : Header) → answer_from (value_in []) (call_result call.now header) ≡ Err result }
+    ensures { (header : Header)
+        → answer_from (value_in []) (call_result call.now header) ≡ Err result }
 {
     match call.fields().application {
         0 => Item::NextApp,

@@ -111,7 +111,8 @@ impl Live {
 
 /// A run that has not asked for an item since it was supplied with the last one.
 fn going(call: Call, header: Header, phase: Phase) -> State
-    ensures { result ≡ state.Live (record { call = call; header = header; phase = phase; asked = None }) }
+    ensures { result
+        ≡ state.Live (record { call = call; header = header; phase = phase; asked = None }) }
 {
     State::Live(Live {
         call,
@@ -123,7 +124,12 @@ fn going(call: Call, header: Header, phase: Phase) -> State
 
 /// A run that asks for this item.
 fn asking(call: Call, header: Header, phase: Phase, item: &Item) -> State
-    ensures { result ≡ state.Live (record { call = call; header = header; phase = phase; asked = Some item.now }) }
+    ensures { result ≡ state.Live (record {
+      call = call;
+      header = header;
+      phase = phase;
+      asked = Some item.now;
+    }) }
 {
     State::Live(Live {
         call,
@@ -135,7 +141,8 @@ fn asking(call: Call, header: Header, phase: Phase, item: &Item) -> State
 
 /// The finished call: what it writes without what has the value of before.
 pub(crate) fn finished(call: Call, header: Header, closed: EndedRun) -> Finished
-    requires result { answer_from (value_in closed.reads) (call_result call header) ≡ Ok (closed.outcome, closed.writes) }
+    requires result { answer_from (value_in closed.reads) (call_result call header)
+        ≡ Ok (closed.outcome, closed.writes) }
     requires asked { AreAskedFor closed.reads call header }
     ensures same { (result.call ≡ call) × (result.header ≡ header) × (result.reads ≡ closed.reads) }
     ensures outcome { result.outcome ≡ closed.outcome }
@@ -179,7 +186,13 @@ impl CallRun {
         header: &Header,
         spare: Option<Spare>,
     ) -> Result<CallRun, AllocError>
-        ensures { IfOk result (λ run. run ≡ Some (record { call = call.now; header = header.now; reads = []; asked = None; steps = None })) }
+        ensures { IfOk result (λ run. run ≡ Some (record {
+          call = call.now;
+          header = header.now;
+          reads = [];
+          asked = None;
+          steps = None;
+        })) }
     {
         let call = call.clone()?;
         // That it keeps the rules of calls, its type says.

@@ -81,7 +81,8 @@ pub(crate) fn end_call(
     writes: ItemMap,
     ended: Ended,
 ) -> Result<Ending, AllocError>
-    ensures { IfOk result (λ e. (e.outcome, e.writes) ≡ ending call.now id row.now (writes, ended)) }
+    ensures { IfOk result
+        (λ e. (e.outcome, e.writes) ≡ ending call.now id row.now (writes, ended)) }
 {
     let clears = call.fields().completion == Completion::ClearState;
     match ended {

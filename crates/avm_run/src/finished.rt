@@ -44,7 +44,13 @@ impl Finished {
     ) -> Finished
         requires result { IsResult call header reads outcome writes }
         requires asked { AreAskedFor reads call header }
-        ensures { result ≡ record { call = call; header = header; reads = reads; writes = writes; outcome = outcome } }
+        ensures { result ≡ record {
+          call = call;
+          header = header;
+          reads = reads;
+          writes = writes;
+          outcome = outcome;
+        } }
     {
         Finished {
             call,
@@ -101,7 +107,8 @@ impl Finished {
     /// taken out: over the items read, over all that is known beside them, and on every ledger that agrees with them. The
     /// call asks for each item that it was given.
     pub fn holds(&self)
-        ensures over_reads { IsResult self.now.call self.now.header self.now.reads self.now.outcome self.now.writes }
+        ensures over_reads { IsResult self.now.call
+            self.now.header self.now.reads self.now.outcome self.now.writes }
         ensures over_more { ResultOverMore self.now }
         ensures on_ledgers { ResultOnLedgers self.now }
         ensures asked { AreAskedFor self.now.reads self.now.call self.now.header }

@@ -15,7 +15,8 @@ impl Running {
     /// The value of an item, if it is known.
     pub(crate) fn value(&self, item: &Item) -> Option<&ItemValue>
         requires stands { StandsIn self.now }
-        ensures { KnowsAt self.now.env.call self.now.env.header self.now.env.reads self.now.steps item.now (option_copied result) }
+        ensures { KnowsAt self.now.env.call
+            self.now.env.header self.now.env.reads self.now.steps item.now (option_copied result) }
     {
         runs_know_the_ledger();
         self.env.value(item)
@@ -26,7 +27,8 @@ impl Live {
     /// The value of an item, if the program has begun and it is known.
     pub(crate) fn value(&self, item: &Item) -> Option<&ItemValue>
         requires follows { Follows self.now.call self.now.header self.now.phase }
-        ensures { KnowsIn self.now.call self.now.header (reads_of self.now.phase) (steps_of self.now.phase) item.now (option_copied result) }
+        ensures { KnowsIn self.now.call self.now.header
+            (reads_of self.now.phase) (steps_of self.now.phase) item.now (option_copied result) }
     {
         match &self.phase {
             Phase::Tests(_) => None,

@@ -36,8 +36,10 @@ pub fn call_on<O: Op>(
     call: &Call,
     spare: &mut Option<Spare>,
 ) -> Result<Outcome, AllocError>
-    ensures outcome { IfOk result (λ outcome. outcome ≡ outcome_on ledger.old call.now context.now.header.now) }
-    ensures after { IfOk result (λ _. ledger.new ≡ ledger_after ledger.old call.now context.now.header.now) }
+    ensures outcome { IfOk result
+        (λ outcome. outcome ≡ outcome_on ledger.old call.now context.now.header.now) }
+    ensures after { IfOk result
+        (λ _. ledger.new ≡ ledger_after ledger.old call.now context.now.header.now) }
     ensures unchanged { IfErr result (λ _. ledger.new ≡ ledger.old) }
 {
     call_on_blank::<Brand, O>(context, ledger, call, spare, Blank::new(2))
@@ -55,8 +57,10 @@ fn call_on_blank<L: ledger::Ledger, O: Op>(
     requires name { blank.name ≡ L.name }
     requires two { blank.parts ≡ 2 }
     requires parts { blank.parts ≡ L.parts }
-    ensures outcome { IfOk result (λ outcome. outcome ≡ outcome_on ledger.old call.now context.now.header.now) }
-    ensures after { IfOk result (λ _. ledger.new ≡ ledger_after ledger.old call.now context.now.header.now) }
+    ensures outcome { IfOk result
+        (λ outcome. outcome ≡ outcome_on ledger.old call.now context.now.header.now) }
+    ensures after { IfOk result
+        (λ _. ledger.new ≡ ledger_after ledger.old call.now context.now.header.now) }
     ensures unchanged { IfErr result (λ _. ledger.new ≡ ledger.old) }
 {
     let mut executions = Executions::<L>::new(blank);
@@ -73,11 +77,15 @@ pub fn call_on_counted<L: ledger::Ledger, O: Op>(
     spare: &mut Option<Spare>,
     executions: &mut Executions<L>,
 ) -> Result<Outcome, AllocError>
-    ensures outcome { IfOk result (λ outcome. outcome ≡ outcome_on ledger.old call.now context.now.header.now) }
-    ensures after { IfOk result (λ _. ledger.new ≡ ledger_after ledger.old call.now context.now.header.now) }
+    ensures outcome { IfOk result
+        (λ outcome. outcome ≡ outcome_on ledger.old call.now context.now.header.now) }
+    ensures after { IfOk result
+        (λ _. ledger.new ≡ ledger_after ledger.old call.now context.now.header.now) }
     ensures unchanged { IfErr result (λ _. ledger.new ≡ ledger.old) }
-    ensures executes { IfOk result (λ outcome. CallExecutes ledger.old call.now context.now.header.now outcome executions.old executions.new) }
-    ensures few { IfErr result (λ _. ExecutesAtMost most_program_bytes (most_items + 1) executions.old executions.new) }
+    ensures executes { IfOk result (λ outcome. CallExecutes ledger.old
+        call.now context.now.header.now outcome executions.old executions.new) }
+    ensures few { IfErr result
+        (λ _. ExecutesAtMost most_program_bytes (most_items + 1) executions.old executions.new) }
 {
     let closed = run_over(context, ledger, call, spare, executions)?;
     // What the call leaves is a ledger. All that it writes is put, also what is there already, which changes nothing.
@@ -94,8 +102,10 @@ pub fn call_plain<O: Op>(
     ledger: &Ledger,
     call: &Call,
 ) -> Result<(Outcome, Ledger), AllocError>
-    ensures outcome { IfOk result (λ r. r.0 ≡ outcome_on ledger.now call.now context.now.header.now) }
-    ensures after { IfOk result (λ r. r.1 ≡ ledger_after ledger.now call.now context.now.header.now) }
+    ensures outcome { IfOk result
+        (λ r. r.0 ≡ outcome_on ledger.now call.now context.now.header.now) }
+    ensures after { IfOk result
+        (λ r. r.1 ≡ ledger_after ledger.now call.now context.now.header.now) }
 {
     let mut after = ledger.clone()?;
     let mut spare = None;
@@ -111,9 +121,12 @@ fn run_over<L: ledger::Ledger, O: Op>(
     spare: &mut Option<Spare>,
     executions: &mut Executions<L>,
 ) -> Result<EndedRun, AllocError>
-    ensures result { IfOk result (λ closed. (closed.outcome, closed.writes) ≡ result_over (at ledger.now) (call_result call.now context.now.header.now)) }
-    ensures executes { IfOk result (λ closed. CallExecutes ledger.now call.now context.now.header.now closed.outcome executions.old executions.new) }
-    ensures few { IfErr result (λ _. ExecutesAtMost most_program_bytes (most_items + 1) executions.old executions.new) }
+    ensures result { IfOk result (λ closed. (closed.outcome, closed.writes)
+        ≡ result_over (at ledger.now) (call_result call.now context.now.header.now)) }
+    ensures executes { IfOk result (λ closed. CallExecutes ledger.now
+        call.now context.now.header.now closed.outcome executions.old executions.new) }
+    ensures few { IfErr result
+        (λ _. ExecutesAtMost most_program_bytes (most_items + 1) executions.old executions.new) }
 {
     // That the call keeps the rules of calls, its type says.
     let _fields = call.fields();

@@ -119,9 +119,12 @@ pub(crate) fn run_on<L: Ledger, O: Op>(
     executions: &mut Executions<L>,
 ) -> Result<RunOutcome, AllocError>
     requires follows { Follows call.now context.now.header.now phase }
-    ensures runs { IfOk result (λ ran. RunsTo call.now context.now.header.now (reads_of phase) ran) }
-    ensures executes { IfOk result (λ ran. RunExecutes call.now context.now.header.now (reads_of phase) (steps_of phase) ran executions.old executions.new) }
-    ensures few { IfErr result (λ _. ExecutesAtMost (most_program_bytes - steps_made (steps_of phase)) 1 executions.old executions.new) }
+    ensures runs { IfOk result
+        (λ ran. RunsTo call.now context.now.header.now (reads_of phase) ran) }
+    ensures executes { IfOk result (λ ran. RunExecutes call.now context.now.header.now
+        (reads_of phase) (steps_of phase) ran executions.old executions.new) }
+    ensures few { IfErr result (λ _. ExecutesAtMost (most_program_bytes
+        - steps_made (steps_of phase)) 1 executions.old executions.new) }
 {
     match phase {
         Phase::Tests(items) => match run_tests(context, call, items, spare)? {
@@ -144,8 +147,10 @@ pub(crate) fn step_on<L: Ledger, O: Op>(
     executions: &mut Executions<L>,
 ) -> Result<PathOutcome, AllocError>
     requires follows { Follows call.now context.now.header.now phase }
-    ensures goes { IfOk result (λ went. GoesTo call.now context.now.header.now (reads_of phase) (steps_of phase) went) }
-    ensures executes { IfOk result (λ went. GoExecutes call.now context.now.header.now (reads_of phase) (steps_of phase) went executions.old executions.new) }
+    ensures goes { IfOk result
+        (λ went. GoesTo call.now context.now.header.now (reads_of phase) (steps_of phase) went) }
+    ensures executes { IfOk result (λ went. GoExecutes call.now context.now.header.now
+        (reads_of phase) (steps_of phase) went executions.old executions.new) }
     ensures few { IfErr result (λ _. ExecutesAtMost 0 1 executions.old executions.new) }
 {
     match phase {
@@ -202,9 +207,12 @@ fn step_program<L: Ledger, O: Op>(
     running: Box<Running>,
     executions: &mut Executions<L>,
 ) -> Result<PathOutcome, AllocError>
-    requires begun { BeginsRun call.now context.now.header.now running.value.env.reads running.value }
-    ensures goes { IfOk result (λ went. GoesTo call.now context.now.header.now running.value.env.reads (Some running.value.steps) went) }
-    ensures executes { IfOk result (λ went. GoExecutes call.now context.now.header.now running.value.env.reads (Some running.value.steps) went executions.old executions.new) }
+    requires begun { BeginsRun call.now
+        context.now.header.now running.value.env.reads running.value }
+    ensures goes { IfOk result (λ went. GoesTo call.now
+        context.now.header.now running.value.env.reads (Some running.value.steps) went) }
+    ensures executes { IfOk result (λ went. GoExecutes call.now context.now.header.now
+        running.value.env.reads (Some running.value.steps) went executions.old executions.new) }
     ensures few { IfErr result (λ _. ExecutesAtMost 0 1 executions.old executions.new) }
 {
     let mut running = running;
@@ -226,10 +234,14 @@ fn run_program<L: Ledger, O: Op>(
     spare: &mut Option<Spare>,
     executions: &mut Executions<L>,
 ) -> Result<RunOutcome, AllocError>
-    requires begun { BeginsRun call.now context.now.header.now running.value.env.reads running.value }
-    ensures runs { IfOk result (λ ran. RunsTo call.now context.now.header.now running.value.env.reads ran) }
-    ensures executes { IfOk result (λ ran. RunExecutes call.now context.now.header.now running.value.env.reads (Some running.value.steps) ran executions.old executions.new) }
-    ensures few { IfErr result (λ _. ExecutesAtMost (most_program_bytes - running.value.steps) 1 executions.old executions.new) }
+    requires begun { BeginsRun call.now
+        context.now.header.now running.value.env.reads running.value }
+    ensures runs { IfOk result
+        (λ ran. RunsTo call.now context.now.header.now running.value.env.reads ran) }
+    ensures executes { IfOk result (λ ran. RunExecutes call.now context.now.header.now
+        running.value.env.reads (Some running.value.steps) ran executions.old executions.new) }
+    ensures few { IfErr result (λ _.
+        ExecutesAtMost (most_program_bytes - running.value.steps) 1 executions.old executions.new) }
 {
     let mut running = running;
     match make_steps(
@@ -277,8 +289,10 @@ fn close<O: Op>(
     spare: &mut Option<Spare>,
 ) -> Result<EndedRun, AllocError>
     requires ends { ClosesAs call.now context.now.header.now running.value ended }
-    ensures ends { IfOk result (λ closed. EndsRun call.now context.now.header.now running.value.env.reads closed) }
-    ensures outcome { IfOk result (λ closed. closed.outcome ≡ outcome_of call.now.completion ended) }
+    ensures ends { IfOk result
+        (λ closed. EndsRun call.now context.now.header.now running.value.env.reads closed) }
+    ensures outcome { IfOk result
+        (λ closed. closed.outcome ≡ outcome_of call.now.completion ended) }
 {
     let mut running = running;
     let closed = ended_run(context, call, &mut running, ended);
@@ -294,8 +308,10 @@ fn ended_run<O: Op>(
     ended: Ended,
 ) -> Result<EndedRun, AllocError>
     requires ends { ClosesAs call.now context.now.header.now running.old ended }
-    ensures ends { IfOk result (λ closed. EndsRun call.now context.now.header.now running.old.env.reads closed) }
-    ensures outcome { IfOk result (λ closed. closed.outcome ≡ outcome_of call.now.completion ended) }
+    ensures ends { IfOk result
+        (λ closed. EndsRun call.now context.now.header.now running.old.env.reads closed) }
+    ensures outcome { IfOk result
+        (λ closed. closed.outcome ≡ outcome_of call.now.completion ended) }
 {
     let id = running.env.current();
     let (reads, writes) = running.env.take_items(context.alloc);

@@ -58,8 +58,10 @@ fn read_on_blank<L: Ledger, S: Drop, R: Reader<S>, O: Op>(
     requires name { blank.name ≡ L.name }
     requires two { blank.parts ≡ 2 }
     requires parts { blank.parts ≡ L.parts }
-    ensures result { IfOk result (λ closed. answer_from (value_in closed.reads) (call_result call.now context.now.header.now) ≡ Ok (closed.outcome, closed.writes)) }
-    ensures asked { IfOk result (λ closed. AreAskedFor closed.reads call.now context.now.header.now) }
+    ensures result { IfOk result (λ closed. answer_from (value_in closed.reads)
+        (call_result call.now context.now.header.now) ≡ Ok (closed.outcome, closed.writes)) }
+    ensures asked { IfOk result
+        (λ closed. AreAskedFor closed.reads call.now context.now.header.now) }
     ensures kept { R.kept reader.new ≡ R.kept reader.old }
 {
     let mut executions = Executions::<L>::new(blank);

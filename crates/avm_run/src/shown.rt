@@ -35,7 +35,8 @@ impl Running {
     /// Where the program stands.
     pub(crate) fn shown(&self) -> Shown<'_>
         requires stands { StandsIn self.now }
-        ensures { ShowsPath self.now.env.call self.now.env.header self.now.env.reads self.now.steps (sight_of result) }
+        ensures { ShowsPath self.now.env.call self.now.env.header self.now.env.reads self.now.steps
+            (sight_of result) }
     {
         match self.program.placed(self.number) {
             Some(placed) => self.shown_at(placed.place, Some(&placed.instr)),
@@ -44,7 +45,15 @@ impl Running {
     }
 
     fn shown_at<'a>(&'a self, place: u16, instruction: Option<&'a Instr>) -> Shown<'a>
-        ensures { sight_of result ≡ record { application = self.now.env.current; program = self.now.program; place = place; instruction = option_copied instruction.entry; machine = self.now.cpu; writes = self.now.env.writes } }
+        ensures { sight_of result ≡ record {
+          application = self.now.env.current;
+          program = self.now.program;
+          place = place;
+          instruction = option_copied
+              instruction.entry;
+          machine = self.now.cpu;
+          writes = self.now.env.writes;
+        } }
     {
         Shown {
             application: self.env.current(),

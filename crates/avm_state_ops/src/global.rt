@@ -36,7 +36,8 @@ fn profile_version(profile: Profile) -> u64
 
 /// The value of a field.
 fn global_value(alloc: Global, env: &Env, field: GlobalField) -> Result<Value, Stop>
-    ensures { (m : Machine) → Answers (λ v. v) result (answer_from (known_to env.now) (value_of_global_field (context_of m env.now) field)) }
+    ensures { (m : Machine) → Answers (λ v. v) result
+        (answer_from (known_to env.now) (value_of_global_field (context_of m env.now) field)) }
 {
     let header = env.header();
     match field {

@@ -16,7 +16,8 @@ use teal_value::{Address, StateKey, Value};
 
 /// The value of an item that is known.
 pub(crate) fn known<'a>(alloc: Global, env: &'a Env, item: &Item) -> Result<&'a ItemValue, Stop>
-    ensures { MatchResult result (λ v. known_to env.now item.now ≡ Some v.now) (StopsFor (known_to env.now item.now) item.now) }
+    ensures { MatchResult result (λ v. known_to env.now item.now ≡ Some v.now)
+        (StopsFor (known_to env.now item.now) item.now) }
 {
     match env.value(item) {
         Some(value) => Ok(value),
@@ -63,7 +64,8 @@ pub(crate) fn global_entry<'a>(
     id: u64,
     key: &[u8],
 ) -> Result<Option<&'a Value>, Stop>
-    ensures { Answers option_copied result (answer_from (known_to env.now) (global_entry id key.now)) }
+    ensures { Answers option_copied result
+        (answer_from (known_to env.now) (global_entry id key.now)) }
 {
     let Some(key) = StateKey::of(key) else {
         return Ok(None);
@@ -76,7 +78,8 @@ pub(crate) fn global_entry<'a>(
 
 /// The counts of the global state of the application that runs.
 pub(crate) fn global_counts(alloc: Global, env: &Env) -> Result<EntryCounts, Stop>
-    ensures { Answers (λ n. n) result (answer_from (known_to env.now) (global_counts env.now.current)) }
+    ensures { Answers (λ n. n) result
+        (answer_from (known_to env.now) (global_counts env.now.current)) }
 {
     match known(alloc, env, &Item::Counts(env.current()))? {
         ItemValue::Counts(counts) => Ok(*counts),

@@ -66,7 +66,8 @@ impl StateRead {
     #[tactic(auto, unfolding(avm_ops::specs::Effect::effect))]
     #[inline(always)]
     fn execute(&self, alloc: Global, _instr: &Instr, cpu: &mut Cpu, env: &mut Env) -> Executed
-        ensures { Executes (read_opcode self.now) _instr.now.immediates cpu.old env.old result cpu.new env.new }
+        ensures { Executes (read_opcode self.now)
+            _instr.now.immediates cpu.old env.old result cpu.new env.new }
     {
         match self {
             StateRead::OptedIn => opted_in(alloc, cpu, env),

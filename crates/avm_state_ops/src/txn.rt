@@ -64,7 +64,8 @@ impl Txn {
     #[tactic(auto, unfolding(avm_ops::specs::Effect::effect))]
     #[inline(always)]
     fn execute(&self, alloc: Global, instr: &Instr, cpu: &mut Cpu, env: &mut Env) -> Executed
-        ensures { Executes (txn_opcode self.now) instr.now.immediates cpu.old env.old result cpu.new env.new }
+        ensures { Executes (txn_opcode self.now)
+            instr.now.immediates cpu.old env.old result cpu.new env.new }
     {
         let immediates = &instr.immediates;
         let field = field_of(immediates);

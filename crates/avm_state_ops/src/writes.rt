@@ -65,7 +65,8 @@ impl StateWrite {
     #[tactic(auto, unfolding(avm_ops::specs::Effect::effect))]
     #[inline(always)]
     fn execute(&self, alloc: Global, _instr: &Instr, cpu: &mut Cpu, env: &mut Env) -> Executed
-        ensures { Executes (write_opcode self.now) _instr.now.immediates cpu.old env.old result cpu.new env.new }
+        ensures { Executes (write_opcode self.now)
+            _instr.now.immediates cpu.old env.old result cpu.new env.new }
     {
         match self {
             StateWrite::LocalPut => local_put(alloc, cpu, env),
@@ -123,9 +124,9 @@ fn counts_within(
     counts: EntryCounts,
     limit: Schema,
 ) -> Option<EntryCounts>
-    ensures { MatchOption result
-        (is_within (counts_after (option_copied old.entry) (Some new.now) counts) limit ≡ false)
-        (λ after. (after ≡ counts_after (option_copied old.entry) (Some new.now) counts) × (is_within after limit ≡ true)) }
+    ensures { MatchOption result (is_within (counts_after (option_copied old.entry) (Some new.now)
+        counts) limit ≡ false) (λ after. (after ≡ counts_after (option_copied old.entry)
+        (Some new.now) counts) × (is_within after limit ≡ true)) }
 {
     counts.without(old).with_within(new, limit)
 }
@@ -152,8 +153,9 @@ fn counts_of_put(
     old: Option<&Value>,
     new: &Value,
 ) -> Result<Option<EntryCounts>, Stop>
-    ensures { (m : Machine) (key : List ℕ) → Answers (after_put (context_of m env.now) key new.now) result
-        (answer_from (known_to env.now) (global_put_over (context_of m env.now) key new.now (option_copied old.entry) (keeps_kind (option_copied old.entry) (Some new.now)))) }
+    ensures { (m : Machine) (key : List ℕ) → Answers (after_put (context_of m env.now) key new.now)
+        result (answer_from (known_to env.now) (global_put_over (context_of m env.now) key new.now
+        (option_copied old.entry) (keeps_kind (option_copied old.entry) (Some new.now)))) }
 {
     if keeps_kind(old, new) {
         return Ok(None);
@@ -172,8 +174,9 @@ fn counts_of_delete(
     env: &Env,
     old: Option<&Value>,
 ) -> Result<Option<EntryCounts>, Stop>
-    ensures { (m : Machine) (key : List ℕ) → Answers (after_delete (context_of m env.now) key) result
-        (answer_from (known_to env.now) (global_delete_of (context_of m env.now) key (option_copied old.entry))) }
+    ensures { (m : Machine) (key : List ℕ)
+        → Answers (after_delete (context_of m env.now) key) result (answer_from (known_to env.now)
+        (global_delete_of (context_of m env.now) key (option_copied old.entry))) }
 {
     match old {
         Some(_) => Ok(Some(global_counts(alloc, env)?.without(old))),

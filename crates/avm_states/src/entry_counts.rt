@@ -84,7 +84,8 @@ impl EntryCounts {
     pub(crate) fn and(self, more: EntryCounts) -> EntryCounts
         requires uints { self.uints + more.uints < 2 ^ 64 }
         requires bytes { self.bytes + more.bytes < 2 ^ 64 }
-        ensures { result ≡ record { uints = self.uints + more.uints; bytes = self.bytes + more.bytes } }
+        ensures { result
+            ≡ record { uints = self.uints + more.uints; bytes = self.bytes + more.bytes } }
     {
         EntryCounts {
             uints: self.uints + more.uints,

@@ -40,8 +40,10 @@ pub fn put<K: Ord + Drop, V: Drop>(
 ) -> Result<Option<V>, AllocError>
     requires order { IsStrictlySortedBy K.cmp (keys_of entries.old.items) }
     ensures old { IfOk result (λ old. old ≡ lookup (is_at (K.cmp key)) entries.old.items) }
-    ensures set { IfOk result (λ _. entries.new.items ≡ insert_entry K.cmp entries.old.items key value) }
-    ensures len { IfOk result (λ old. length entries.new.items ≡ length entries.old.items + (if is_some old then 0 else 1)) }
+    ensures set { IfOk result
+        (λ _. entries.new.items ≡ insert_entry K.cmp entries.old.items key value) }
+    ensures len { IfOk result (λ old.
+        length entries.new.items ≡ length entries.old.items + (if is_some old then 0 else 1)) }
     ensures unchanged { IfErr result (λ _. entries.new.items ≡ entries.old.items) }
     ensures only_new { IfErr result (λ _. lookup (is_at (K.cmp key)) entries.old.items ≡ None) }
 {

@@ -41,7 +41,8 @@ fn push_change(
     after: &State,
     key: &StateKey,
 ) -> Result<(), AllocError>
-    ensures { OnOk result (changes_seen changes.new.items ≡ changes_seen changes.old.items ++ change_of_key before.now after.now key.now) }
+    ensures { OnOk result (changes_seen changes.new.items
+        ≡ changes_seen changes.old.items ++ change_of_key before.now after.now key.now) }
 {
     if is_same_at(before, after, key) {
         return Ok(());
@@ -66,7 +67,8 @@ fn gather(keys: &mut BTreeMap<StateKey, ()>, state: &State) -> Result<(), AllocE
 
 /// The keys whose values differ between two states, by rising key.
 fn key_changes(alloc: Global, before: &State, after: &State) -> Result<Vec<KeyChange>, AllocError>
-    ensures { IfOk result (λ changes. changes_seen changes.items ≡ state_changes before.now after.now) }
+    ensures { IfOk result
+        (λ changes. changes_seen changes.items ≡ state_changes before.now after.now) }
 {
     let mut keys = BTreeMap::new(alloc);
     gather(&mut keys, after)?;
@@ -85,7 +87,8 @@ pub(crate) fn global_changes(
     after: &OpenLedger,
     id: u64,
 ) -> Result<Vec<KeyChange>, AllocError>
-    ensures { IfOk result (λ changes. changes_seen changes.items ≡ state_changes (global_entries (application_at before.now id)) (global_entries (application_at after.now id))) }
+    ensures { IfOk result (λ changes. changes_seen changes.items ≡ state_changes (global_entries
+        (application_at before.now id)) (global_entries (application_at after.now id))) }
 {
     let none = State::new(alloc);
     let old = match before.global_state(id) {
@@ -105,7 +108,8 @@ fn push_all(
     account: &Address,
     found: Vec<KeyChange>,
 ) -> Result<(), AllocError>
-    ensures { OnOk result (local_seen changes.new.items ≡ local_seen changes.old.items ++ of_account account.now (changes_seen found.items)) }
+    ensures { OnOk result (local_seen changes.new.items
+        ≡ local_seen changes.old.items ++ of_account account.now (changes_seen found.items)) }
 {
     for change in found {
         let KeyChange { key, now } = change;
@@ -127,7 +131,8 @@ fn push_account(
     place: &(Address, u64),
     state: &State,
 ) -> Result<(), AllocError>
-    ensures { OnOk result (local_seen changes.new.items ≡ local_seen changes.old.items ++ account_changes before.now id (place.now, state.now)) }
+    ensures { OnOk result (local_seen changes.new.items
+        ≡ local_seen changes.old.items ++ account_changes before.now id (place.now, state.now)) }
 {
     let (account, application) = *place;
     if application != id {
@@ -148,7 +153,8 @@ pub(crate) fn local_changes(
     after: &OpenLedger,
     id: u64,
 ) -> Result<Vec<LocalChange>, AllocError>
-    ensures { IfOk result (λ changes. local_seen changes.items ≡ local_changes_along before.now id after.now.local_states) }
+    ensures { IfOk result (λ changes.
+        local_seen changes.items ≡ local_changes_along before.now id after.now.local_states) }
 {
     let mut changes = Vec::new(alloc);
     for (place, state) in after.local_states() {

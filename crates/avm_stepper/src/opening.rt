@@ -47,7 +47,8 @@ pub(crate) fn ledger_before<O: Op>(
     entry: &Entry,
     ops: &FullOps<O>,
 ) -> Result<Ledger, OpenError>
-    ensures ledger { IfOk result (λ ledger. ledger ≡ ledger_until base.now block.now (entry.now.timestamp - 1)) }
+    ensures ledger { IfOk result
+        (λ ledger. ledger ≡ ledger_until base.now block.now (entry.now.timestamp - 1)) }
     ensures base { IfOk result (λ _. block.now.base ≡ ledger_digest base.now) }
     ensures refused { IfErr result (IsBaseRefusal base.now block.now) }
 {

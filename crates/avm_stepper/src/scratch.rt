@@ -23,7 +23,8 @@ fn is_zero(value: &Value) -> bool
 
 /// Appends a place, if its value is not the uint 0.
 fn push_place(places: &mut Vec<ScratchPlace>, index: u8, value: &Value) -> Result<(), AllocError>
-    ensures { OnOk result (places_seen places.new.items ≡ places_seen places.old.items ++ place_if_set index value.now) }
+    ensures { OnOk result (places_seen places.new.items
+        ≡ places_seen places.old.items ++ place_if_set index value.now) }
 {
     if is_zero(value) {
         return Ok(());

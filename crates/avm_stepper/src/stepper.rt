@@ -80,7 +80,13 @@ impl Stepper {
         header: &Header,
         ops: &FullOps<O>,
     ) -> Result<Stepper, OpenError>
-        ensures started { IfOk result (λ stepper. stepper ≡ Some (record { ledger = ledger; call = call.now; header = header.now; steps = 0; fault = None })) }
+        ensures started { IfOk result (λ stepper. stepper ≡ Some (record {
+          ledger = ledger;
+          call = call.now;
+          header = header.now;
+          steps = 0;
+          fault = None;
+        })) }
         ensures program { IfOk result (λ _. HasProgram ledger call.now) }
         ensures refused { IfErr result (IsStartRefusal ledger call.now) }
     {

@@ -33,7 +33,8 @@ pub(crate) fn machine_at<'a>(
     shown: Shown<'a>,
 ) -> Result<MachineView<'a>, AllocError>
     requires { length (sight_of shown).machine.scratch ≡ 256 }
-    ensures { IfOk result (λ machine. machine_seen machine ≡ machine_by fault (sight_of shown.entry)) }
+    ensures { IfOk result
+        (λ machine. machine_seen machine ≡ machine_by fault (sight_of shown.entry)) }
 {
     Ok(MachineView {
         place: shown.place,
@@ -52,7 +53,8 @@ pub(crate) fn view_at<'a>(
     shown: Shown<'a>,
 ) -> Result<View<'a>, AllocError>
     requires { length (sight_of shown).machine.scratch ≡ 256 }
-    ensures { IfOk result (λ view. view_seen view ≡ view_by ledger.now prepared.now fault (sight_of shown.entry)) }
+    ensures { IfOk result
+        (λ view. view_seen view ≡ view_by ledger.now prepared.now fault (sight_of shown.entry)) }
 {
     let before = ledger_with(alloc, ledger, prepared)?;
     let after = ledger_with_both(alloc, ledger, prepared, shown.writes)?;

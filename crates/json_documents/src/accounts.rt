@@ -58,7 +58,8 @@ fn key_values(
     id: Id,
     local: &Value<'_>,
 ) -> Result<State, FieldError>
-    ensures { Gives (λ s. s) result (optional (codes "key-value") (state (local_room (application_at ledger.now id))) [] (value_view local.now)) }
+    ensures { Gives (λ s. s) result (optional (codes "key-value")
+        (state (local_room (application_at ledger.now id))) [] (value_view local.now)) }
 {
     let within = local_form(ledger.application(id.number()));
     optional_state(alloc, within, local, "key-value")

@@ -72,7 +72,8 @@ impl ParamsForm<'_> {
         params: &Value<'_>,
         name: &'static str,
     ) -> Result<ByteString, FieldError>
-        ensures { Gives (λ c. c) result (given_or (program_at self.now.sources.now field self.now.id) (needed name.now program (value_view params.now))) }
+        ensures { Gives (λ c. c) result (given_or (program_at self.now.sources.now
+            field self.now.id) (needed name.now program (value_view params.now))) }
     {
         match self.sources.program_at(field, self.id) {
             Some(code) => Ok(code.clone()?),
@@ -114,7 +115,8 @@ fn schema(
     params: &Value<'_>,
     name: &'static str,
 ) -> Result<Schema, FieldError>
-    ensures { Gives (λ s. s) result (optional name.now (schema (codes "num-byte-slice") (codes "num-uint") most) no_entries (value_view params.now)) }
+    ensures { Gives (λ s. s) result (optional name.now (schema (codes "num-byte-slice")
+        (codes "num-uint") most) no_entries (value_view params.now)) }
 {
     let form = SchemaForm::of_application(most);
     optional(alloc, &form, NO_ENTRIES, params, name)
@@ -122,7 +124,8 @@ fn schema(
 
 /// The entries of an application's own state, for which there is room.
 fn global_state(alloc: Global, schema: Schema, params: &Value<'_>) -> Result<State, FieldError>
-    ensures { Gives (λ s. s) result (optional (codes "global-state") (state (room_of_schema schema)) [] (value_view params.now)) }
+    ensures { Gives (λ s. s) result (optional (codes "global-state")
+        (state (room_of_schema schema)) [] (value_view params.now)) }
 {
     let within = StateForm::under(schema);
     optional_state(alloc, within, params, "global-state")

@@ -53,7 +53,8 @@ fn gather_items<G: Gather>(
     start: G::Gathered,
     items: &[Value<'_>],
 ) -> Result<G::Gathered, FieldError>
-    ensures { Gives (λ x. x) result (gathered (G.adding gatherer.now) 0 start (items_view items.now)) }
+    ensures { Gives (λ x. x) result
+        (gathered (G.adding gatherer.now) 0 start (items_view items.now)) }
 {
     let mut so_far = start;
     'items: for (index, item) in items.iter().enumerate() {
@@ -88,7 +89,8 @@ pub fn optional_each<G: Gather>(
     object: &Value<'_>,
     name: &'static str,
 ) -> Result<G::Gathered, FieldError>
-    ensures { Gives (λ x. x) result (optional name.now (each (G.adding gatherer.now) start) start (value_view object.now)) }
+    ensures { Gives (λ x. x) result
+        (optional name.now (each (G.adding gatherer.now) start) start (value_view object.now)) }
 {
     let Some(value) = member(object, name) else {
         return Ok(start);

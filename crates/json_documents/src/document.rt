@@ -80,7 +80,8 @@ fn front_of(alloc: Global, value: &Value<'_>) -> Result<Front, FieldError>
 
 /// The programs that stand as source text.
 fn all_sources(alloc: Global, value: &Value<'_>) -> Result<Sources, FieldError>
-    ensures { Gives (λ s. s) result (optional (codes "sources") (each with_source no_sources) no_sources (value_view value.now)) }
+    ensures { Gives (λ s. s) result (optional (codes "sources")
+        (each with_source no_sources) no_sources (value_view value.now)) }
 {
     optional_each(alloc, &SourceTexts, Sources::new(alloc), value, "sources")
 }

@@ -103,7 +103,8 @@ fn further(failure: FieldError, step: Step) -> FieldError
 
 /// Appends a step's part of a path.
 fn push_step(text: &mut String, step: &Step) -> Result<(), AllocError>
-    ensures { OnOk result (string_bytes text.new ≡ string_bytes text.old ++ step_text (step_shown step.now)) }
+    ensures { OnOk result
+        (string_bytes text.new ≡ string_bytes text.old ++ step_text (step_shown step.now)) }
 {
     match step {
         Step::Name(name) => text.push_str(name),

@@ -64,7 +64,8 @@ fn quoted(alloc: Global, name: &str) -> Result<String, AllocError>
 }
 
 fn program_text(alloc: Global, fault: CheckFault) -> Result<String, AllocError>
-    ensures { IfOk result (λ text. string_bytes text ≡ codes " " ++ (check_fault_name fault ++ place_text (check_place fault))) }
+    ensures { IfOk result (λ text. string_bytes text
+        ≡ codes " " ++ (check_fault_name fault ++ place_text (check_place fault))) }
 {
     let name = fault.name();
     match check_place(fault) {
@@ -74,7 +75,8 @@ fn program_text(alloc: Global, fault: CheckFault) -> Result<String, AllocError>
 }
 
 fn source_text(alloc: Global, fault: AsmFault) -> Result<String, AllocError>
-    ensures { IfOk result (λ text. string_bytes text ≡ codes " " ++ (decimal fault.line ++ (codes " " ++ asm_fault_name fault.kind))) }
+    ensures { IfOk result (λ text. string_bytes text
+        ≡ codes " " ++ (decimal fault.line ++ (codes " " ++ asm_fault_name fault.kind))) }
 {
     let line = fault.line;
     let name = fault.kind.name();

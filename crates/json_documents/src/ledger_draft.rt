@@ -62,7 +62,8 @@ impl ApplicationDraft {
 
     /// Appends the spelling of the application of an id.
     fn put(&self, bytes: &mut Vec<u8>, id: u64) -> Result<(), AllocError>
-        ensures { OnOk result (bytes.new.items ≡ bytes.old.items ++ application_bytes (id, self.now)) }
+        ensures { OnOk result
+            (bytes.new.items ≡ bytes.old.items ++ application_bytes (id, self.now)) }
     {
         put_u64(bytes, id)?;
         bytes.extend_from_slice(&self.creator.0)?;
@@ -164,7 +165,8 @@ impl LedgerDraft {
     }
 
     fn put_applications(&self, bytes: &mut Vec<u8>) -> Result<(), AllocError>
-        ensures { OnOk result (bytes.new.items ≡ bytes.old.items ++ counted_bytes u32_bytes application_bytes self.now.applications) }
+        ensures { OnOk result (bytes.new.items
+            ≡ bytes.old.items ++ counted_bytes u32_bytes application_bytes self.now.applications) }
     {
         put_long_count(bytes, self.applications.len())?;
         for (id, application) in self.applications.iter() {
@@ -174,7 +176,8 @@ impl LedgerDraft {
     }
 
     fn put_local_states(&self, bytes: &mut Vec<u8>) -> Result<(), AllocError>
-        ensures { OnOk result (bytes.new.items ≡ bytes.old.items ++ counted_bytes u32_bytes local_state_bytes self.now.local_states) }
+        ensures { OnOk result (bytes.new.items
+            ≡ bytes.old.items ++ counted_bytes u32_bytes local_state_bytes self.now.local_states) }
     {
         put_long_count(bytes, self.local_states.len())?;
         for (key, state) in self.local_states.iter() {
@@ -189,7 +192,8 @@ fn put_local_state(
     key: &(Address, u64),
     state: &State,
 ) -> Result<(), AllocError>
-    ensures { OnOk result (bytes.new.items ≡ bytes.old.items ++ local_state_bytes (key.now, state.now)) }
+    ensures { OnOk result
+        (bytes.new.items ≡ bytes.old.items ++ local_state_bytes (key.now, state.now)) }
 {
     let (who, id) = *key;
     bytes.extend_from_slice(&who.0)?;

@@ -29,7 +29,8 @@ pub(crate) fn lines_text(alloc: Global, document: &Document) -> Result<String, A
 
 /// Appends a line for each call.
 fn push_calls(alloc: Global, text: &mut String, calls: &[SharedCall]) -> Result<(), AllocError>
-    ensures { OnOk result (string_bytes text.new ≡ string_bytes text.old ++ flat_map call_line calls.now) }
+    ensures { OnOk result
+        (string_bytes text.new ≡ string_bytes text.old ++ flat_map call_line calls.now) }
 {
     for call in calls {
         push_call(alloc, text, call.fields())?;

@@ -69,7 +69,8 @@ pub fn optional<F: Form>(
     object: &Value<'_>,
     name: &'static str,
 ) -> Result<F::Read, FieldError>
-    ensures { Gives (λ x. x) result (optional name.now (F.meaning form.now) default (value_view object.now)) }
+    ensures { Gives (λ x. x) result
+        (optional name.now (F.meaning form.now) default (value_view object.now)) }
 {
     let Some(value) = member(object, name) else {
         return Ok(default);
@@ -82,7 +83,8 @@ pub fn optional<F: Form>(
 
 /// The members of an object.
 fn object_of<'v, 'a>(value: &'v Value<'a>) -> Option<&'v [(&'a str, Value<'a>)]>
-    ensures { option_map (λ members. members_view members.now) result ≡ as_object (value_view value.now) }
+    ensures { option_map (λ members. members_view members.now) result
+        ≡ as_object (value_view value.now) }
 {
     match value {
         Value::Object(members) => Some(members.as_slice()),
@@ -116,7 +118,8 @@ fn unknown(alloc: Global, name: &str) -> FieldError
 /// The least name, by its bytes, that is not among these.
 #[tactic(auto, unfolding(crate::specs::Members::least_unknown))]
 fn least_unknown<'a>(names: &[&str], members: &[(&'a str, Value<'a>)]) -> Option<&'a str>
-    ensures { option_map (λ name. name.now) result ≡ least_unknown (names_shown names.now) (members_view members.now) }
+    ensures { option_map (λ name. name.now) result
+        ≡ least_unknown (names_shown names.now) (members_view members.now) }
 {
     let mut least = None;
     let mut left = members.len();

@@ -26,7 +26,8 @@ pub fn lines_reply(alloc: Global, input: &[u8]) -> Result<Reply, AllocError>
 }
 
 fn text_reply(alloc: Global, text: &str) -> Result<Reply, AllocError>
-    ensures { IfOk result (λ reply. reply_shown reply ≡ document_reply (document_of_text text.now)) }
+    ensures { IfOk result
+        (λ reply. reply_shown reply ≡ document_reply (document_of_text text.now)) }
 {
     match read_document(alloc, text) {
         Ok(document) => document_reply(alloc, &document),
@@ -36,7 +37,8 @@ fn text_reply(alloc: Global, text: &str) -> Result<Reply, AllocError>
 
 /// The lines of a document, as an answer.
 fn document_reply(alloc: Global, document: &Document) -> Result<Reply, AllocError>
-    ensures { IfOk result (λ reply. reply_shown reply ≡ document_reply (Ok (document_shown document.now))) }
+    ensures { IfOk result
+        (λ reply. reply_shown reply ≡ document_reply (Ok (document_shown document.now))) }
 {
     let text = lines_text(alloc, document)?;
     Ok(Reply { text, status: DONE })

@@ -140,7 +140,8 @@ impl Form for TransactionForm<'_> {
 impl TransactionForm<'_> {
     /// What is called, and with what: the members from `apaa` to `apsu`.
     fn target(&self, alloc: Global, txn: &Value<'_>) -> Result<Target, FieldError>
-        ensures { Gives (λ t. t) result (target self.now.sources.now self.now.index (value_view txn.now)) }
+        ensures { Gives (λ t. t) result
+            (target self.now.sources.now self.now.index (value_view txn.now)) }
     {
         let no_arguments = ByteStrings::from_vec(Vec::new(alloc));
         let arguments = optional_each(alloc, &Arguments, no_arguments, txn, "apaa")?;
@@ -183,7 +184,8 @@ impl TransactionForm<'_> {
         txn: &Value<'_>,
         name: &'static str,
     ) -> Result<ByteString, FieldError>
-        ensures { Gives (λ c. c) result (given_or (program_at self.now.sources.now field self.now.index) (optional name.now bytes [] (value_view txn.now))) }
+        ensures { Gives (λ c. c) result (given_or (program_at self.now.sources.now
+            field self.now.index) (optional name.now bytes [] (value_view txn.now))) }
     {
         match self.sources.program_at(field, self.index) {
             Some(code) => Ok(code.clone()?),

@@ -67,8 +67,8 @@ fn put_change(
     key: &StateKey,
     now: &Option<Value>,
 ) -> Result<(), AllocError>
-    ensures { OnOk result
-        (Adds out.old out.new (json_tokens (shown_change (record { key = key.now; now = now.now })))) }
+    ensures { OnOk result (Adds out.old out.new
+        (json_tokens (shown_change (record { key = key.now; now = now.now })))) }
 {
     begin_object(out)?;
     put_base64_member(alloc, out, "key", key.as_slice())?;

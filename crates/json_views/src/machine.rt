@@ -84,8 +84,8 @@ fn put_values(alloc: Global, out: &mut Pretty, values: &[Value]) -> Result<(), A
 
 /// The array of a scratch space up to the last place that is not the uint 0.
 fn put_scratch(alloc: Global, out: &mut Pretty, places: &[ScratchPlace]) -> Result<(), AllocError>
-    ensures { OnOk result
-        (Adds out.old out.new (json_tokens (array_of shown_value (filled 0 (places_seen places.now))))) }
+    ensures { OnOk result (Adds out.old out.new
+        (json_tokens (array_of shown_value (filled 0 (places_seen places.now))))) }
 {
     begin_array(out)?;
     let mut next = 0u16;

@@ -40,7 +40,8 @@ pub(crate) fn trace_found<O: Op>(
     number: usize,
     ops: &FullOps<O>,
 ) -> Result<String, Failure<TraceRefusal>>
-    ensures found { IfOk result (λ text. FindsText (ledger.now, block.now) number (string_bytes text)) }
+    ensures found { IfOk result
+        (λ text. FindsText (ledger.now, block.now) number (string_bytes text)) }
     ensures refused { IfErr result (IsTraceRefused ledger.now block.now number) }
 {
     let mut stepper = opened(alloc, ledger, block, number, ops)?;
@@ -81,7 +82,8 @@ fn trace_text<O: Op>(
     ops: &FullOps<O>,
 ) -> Result<String, Failure<TraceRefusal>>
     requires start { IsStartOf stepper.old entry.now.call header.now }
-    ensures text { IfOk result (λ text. IsTraceText stepper.old entry.now.outcome (string_bytes text)) }
+    ensures text { IfOk result
+        (λ text. IsTraceText stepper.old entry.now.outcome (string_bytes text)) }
     ensures refused { IfErr result (IsTraceFailure stepper.old entry.now.outcome) }
 {
     let context = RunContext { alloc, ops, header };

@@ -37,7 +37,8 @@ fn found_reply<O: Op>(
     entry: usize,
     ops: &FullOps<O>,
 ) -> Result<Reply, AllocError>
-    ensures { IfOk result (λ reply. IsFoundReply entry (Ok (ledger.now, block.now)) (reply_shown reply)) }
+    ensures { IfOk result
+        (λ reply. IsFoundReply entry (Ok (ledger.now, block.now)) (reply_shown reply)) }
 {
     match trace_found(alloc, ledger, block, entry, ops) {
         Ok(text) => Ok(Reply { text, status: DONE }),

@@ -76,8 +76,8 @@ fn put_current(
     stepper: &Stepper,
 ) -> Result<StateWritten, AllocError>
     requires lines { AreLineNumbers program.now.placed lines.now }
-    ensures { IfOk result
-        (λ written. WritesState program.now stepper.now out.old out.new written.weight written.goes_on) }
+    ensures { IfOk result (λ written.
+        WritesState program.now stepper.now out.old out.new written.weight written.goes_on) }
 {
     let view = match stepper.machine_view(alloc) {
         Ok(view) => view,

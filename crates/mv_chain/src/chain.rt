@@ -117,7 +117,8 @@ fn mark_newest<V>(versions: &mut Vec<Version<V>>, timestamp: u64)
     requires old_enough { oldest_timestamp versions.old.items ≤ timestamp }
     ensures items { versions.new.items ≡ versions_read_at timestamp versions.old.items }
     ensures chain { IsChain versions.new.items }
-    ensures room { vec_capacity versions.new - vec_len versions.new ≡ vec_capacity versions.old - vec_len versions.old }
+    ensures room { vec_capacity versions.new
+        - vec_len versions.new ≡ vec_capacity versions.old - vec_len versions.old }
 {
     let index = newest_index(versions, timestamp);
     let version = &mut versions[index];
@@ -135,11 +136,13 @@ fn insert_version<V: Drop>(
     requires chain { IsChain versions.old.items }
     requires old_enough { oldest_timestamp versions.old.items ≤ timestamp }
     requires absent { AllByRecursion (λ version. version.timestamp ≢ timestamp) versions.old.items }
-    ensures ok { OnOk result (versions.new.items ≡ versions_with timestamp value versions.old.items) }
+    ensures ok { OnOk result
+        (versions.new.items ≡ versions_with timestamp value versions.old.items) }
     ensures err { OnErr result (versions.new.items ≡ versions.old.items) }
     ensures chain { IsChain versions.new.items }
     ensures succeeds { 0 < vec_capacity versions.old - vec_len versions.old → IsOk result }
-    ensures room { 0 < vec_capacity versions.old - vec_len versions.old → vec_capacity versions.new - vec_len versions.new + 1 ≡ vec_capacity versions.old - vec_len versions.old }
+    ensures room { 0 < vec_capacity versions.old - vec_len versions.old → vec_capacity versions.new
+        - vec_len versions.new + 1 ≡ vec_capacity versions.old - vec_len versions.old }
 {
     let index = count_to(versions, timestamp);
     versions.insert(
@@ -158,7 +161,8 @@ fn drop_older<V: Drop>(versions: &mut Vec<Version<V>>, timestamp: u64)
     requires { IsChain versions.old.items }
     ensures items { versions.new.items ≡ versions_from timestamp versions.old.items }
     ensures chain { IsChain versions.new.items }
-    ensures room { vec_capacity versions.old - vec_len versions.old ≤ vec_capacity versions.new - vec_len versions.new }
+    ensures room { vec_capacity versions.old
+        - vec_len versions.old ≤ vec_capacity versions.new - vec_len versions.new }
 {
     let index = count_to(versions, timestamp);
     if index > 1 {
@@ -170,7 +174,8 @@ fn drop_older<V: Drop>(versions: &mut Vec<Version<V>>, timestamp: u64)
 fn drop_front<V: Drop>(versions: &mut Vec<Version<V>>, count: usize)
     requires { count ≤ length versions.old.items }
     ensures items { versions.new.items ≡ drop count versions.old.items }
-    ensures room { vec_capacity versions.old - vec_len versions.old ≤ vec_capacity versions.new - vec_len versions.new }
+    ensures room { vec_capacity versions.old
+        - vec_len versions.old ≤ vec_capacity versions.new - vec_len versions.new }
 {
     versions.drain(..count);
 }
@@ -180,7 +185,8 @@ impl<V> Chain<V> {
     pub fn new(alloc: Global, base: V) -> Result<Chain<V>, AllocError>
     where
         V: Drop,
-        ensures { IfOk result (λ chain. chain.list ≡ record { timestamp = 0; mark = 0; value = base } ∷ []) }
+        ensures { IfOk result
+            (λ chain. chain.list ≡ record { timestamp = 0; mark = 0; value = base } ∷ []) }
     {
         // Most items are written once or never, and all chains stay to the end of the block.
         let mut versions = Vec::with_capacity(alloc, FIRST_ROOM)?;

@@ -26,10 +26,13 @@ pub(crate) fn commit_at(
 ) -> Result<u64, RefusedAttempt>
     requires held { AreAllHeld held.old }
     requires there { IsSome (get_or attempts.old.items index None) }
-    ensures ok { IfOk result (λ timestamp. IsCommittedSlot journal.old journal.new held.old held.new attempts.old.items attempts.new.items index finished timestamp) }
-    ensures refused { IfErr result (λ refused. IsRefusedFor journal.old held.old (get_or attempts.old.items index None) finished refused.error) }
+    ensures ok { IfOk result (λ timestamp. IsCommittedSlot journal.old journal.new
+        held.old held.new attempts.old.items attempts.new.items index finished timestamp) }
+    ensures refused { IfErr result (λ refused. IsRefusedFor journal.old held.old
+        (get_or attempts.old.items index None) finished refused.error) }
     ensures back { IfErr result (λ refused. refused.finished ≡ finished) }
-    ensures unchanged { OnErr result ((journal.new ≡ journal.old) × (held.new ≡ held.old) × (attempts.new.items ≡ attempts.old.items)) }
+    ensures unchanged { OnErr result ((journal.new ≡ journal.old)
+        × (held.new ≡ held.old) × (attempts.new.items ≡ attempts.old.items)) }
 {
     match attempts[index].take() {
         Some(attempt) => match journal.commit(held, attempt, finished) {

@@ -40,7 +40,11 @@ pub fn run_events<O: Op>(
     events: &[Event],
 ) -> Result<World, AllocError>
     requires opens { open_fault header (arc_value calls).items ≡ None }
-    ensures { IfOk result (λ world. IsRun (record { base = base; header = header; calls = (arc_value calls).items }) events.now world) }
+    ensures { IfOk result (λ world. IsRun (record {
+      base = base;
+      header = header;
+      calls = (arc_value calls).items;
+    }) events.now world) }
 {
     match Store::open(tools.alloc, base, header, calls) {
         Ok(store) => {

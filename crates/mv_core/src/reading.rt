@@ -18,8 +18,10 @@ pub(crate) fn read_at(
 ) -> Result<ItemValue, ReadError>
     requires held { IsHeld held.old item }
     requires there { IsSome (get_or attempts.old.items index None) }
-    ensures ok { IfOk result (λ value. IsReadSlot held.old held.new attempts.old.items attempts.new.items index item value) }
-    ensures pruned { IsErrOf result (Fault Pruned) ↔ IsPrunedAttempt held.old attempts.old.items index item }
+    ensures ok { IfOk result (λ value.
+        IsReadSlot held.old held.new attempts.old.items attempts.new.items index item value) }
+    ensures pruned { IsErrOf result (Fault Pruned)
+        ↔ IsPrunedAttempt held.old attempts.old.items index item }
     ensures held { OnErr result (held.new ≡ held.old) }
     ensures attempts { OnErr result (attempts.new.items ≡ attempts.old.items) }
 {

@@ -21,7 +21,8 @@ impl Store {
     /// The block of the committed calls, by rising timestamp. It is refused while an attempt is live. It copies the
     /// base, and makes each entry's writes there again, for the digest of the ledger after them.
     pub fn seal(self, alloc: Global) -> Result<Sealed, RefusedSeal>
-        ensures sealed { IfOk result (λ sealed. IsSealed (as_journal self) sealed.block sealed.numbers.items) }
+        ensures sealed { IfOk result
+            (λ sealed. IsSealed (as_journal self) sealed.block sealed.numbers.items) }
         ensures over { OnOk result (self.world.live ≡ []) }
         ensures refused { IfErr result (λ refused. IsSealRefusal (as_journal self) refused.error) }
         ensures back { IfErr result (λ refused. refused.store ≡ self) }

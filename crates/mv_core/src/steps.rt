@@ -26,7 +26,8 @@ pub(crate) fn work<O: Op>(
     requires sound { IsSoundWorker (input_of store.old) worker }
     requires live { IsLiveIfAny store.old (attempt_of worker) }
     requires own { IsSome (worker_in event) }
-    ensures work { IfOk result (λ after. IsWork event store.old store.new worker (attempt_of after)) }
+    ensures work { IfOk result
+        (λ after. IsWork event store.old store.new worker (attempt_of after)) }
     ensures sound { IfOk result (λ after. IsSoundWorker (input_of store.old) after) }
 {
     match event {
@@ -49,7 +50,8 @@ fn begin_by<O: Op>(
     number: u32,
 ) -> Result<Worker, AllocError>
     requires sound { IsSoundWorker (input_of store.old) worker }
-    ensures begun { IfOk result (λ after. IsBegunBy store.old store.new number (attempt_of worker) (attempt_of after)) }
+    ensures begun { IfOk result
+        (λ after. IsBegunBy store.old store.new number (attempt_of worker) (attempt_of after)) }
     ensures sound { IfOk result (λ after. IsSoundWorker (input_of store.old) after) }
 {
     match worker {
@@ -75,7 +77,8 @@ fn read_by<O: Op>(tools: &Tools<O>, store: &mut Store, worker: Worker) -> Result
 fn commit_by(store: &mut Store, worker: Worker) -> Result<Worker, AllocError>
     requires sound { IsSoundWorker (input_of store.old) worker }
     requires live { IsLiveIfAny store.old (attempt_of worker) }
-    ensures commit { IfOk result (λ after. IsCommitBy store.old store.new worker (attempt_of after)) }
+    ensures commit { IfOk result
+        (λ after. IsCommitBy store.old store.new worker (attempt_of after)) }
     ensures sound { IfOk result (λ after. IsSoundWorker (input_of store.old) after) }
 {
     match worker {
@@ -125,7 +128,8 @@ fn read<O: Op>(
 ) -> Result<Worker, AllocError>
     requires asks { TicketAsksFor (input_of store.old) ticket run asks }
     requires live { IsLiveWith store.old (attempt_by ticket (reads_or_none run)) }
-    ensures read { IfOk result (λ after. IsReadByStore store.old store.new (attempt_by ticket (reads_or_none run)) asks (attempt_of after)) }
+    ensures read { IfOk result (λ after. IsReadByStore store.old store.new
+        (attempt_by ticket (reads_or_none run)) asks (attempt_of after)) }
     ensures sound { IfOk result (λ after. IsSoundWorker (input_of store.old) after) }
 {
     let mut run = run;
@@ -164,7 +168,8 @@ fn advance<O: Op>(tools: &Tools<O>, ticket: Ticket, run: CallRun) -> Result<Work
 fn commit(store: &mut Store, ticket: Ticket, finished: Finished) -> Result<Worker, AllocError>
     requires ended { TicketHasEnded (input_of store.old) ticket finished }
     requires live { IsLiveWith store.old (attempt_by ticket finished.reads) }
-    ensures commit { IfOk result (λ after. IsCommit store.old store.new (attempt_by ticket finished.reads) finished (attempt_of after)) }
+    ensures commit { IfOk result (λ after. IsCommit store.old store.new
+        (attempt_by ticket finished.reads) finished (attempt_of after)) }
     ensures sound { IfOk result (λ after. IsSoundWorker (input_of store.old) after) }
 {
     match store.commit(&ticket, finished) {

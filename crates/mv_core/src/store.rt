@@ -70,7 +70,8 @@ impl Store {
         header: Header,
         calls: Arc<Vec<Call>>,
     ) -> Result<Store, OpenError>
-        ensures opened { IfOk result (λ store. store ≡ first_store base header (arc_value calls).items) }
+        ensures opened { IfOk result
+            (λ store. store ≡ first_store base header (arc_value calls).items) }
         ensures opens { OnOk result (open_fault header (arc_value calls).items ≡ None) }
         ensures refused { IfErr result (IsOpenRefusal header (arc_value calls).items) }
     {
@@ -91,8 +92,10 @@ impl Store {
 
     /// A call begins, at the next timestamp.
     pub fn begin(&mut self, number: u32) -> Result<Ticket, BeginError>
-        ensures event { OnOk result (self.new ≡ record self.old { world = after_begin self.old.world number }) }
-        ensures ticket { IfOk result (λ ticket. ticket ≡ record { number = number; timestamp = self.old.world.clock + 1 }) }
+        ensures event { OnOk result
+            (self.new ≡ record self.old { world = after_begin self.old.world number }) }
+        ensures ticket { IfOk result
+            (λ ticket. ticket ≡ record { number = number; timestamp = self.old.world.clock + 1 }) }
         ensures begins { OnOk result (begin_fault (as_journal self.old) number ≡ None) }
         ensures unchanged { OnErr result (self.new ≡ self.old) }
         ensures refused { IfErr result (IsBeginRefusal (as_journal self.old) number) }
@@ -110,9 +113,12 @@ impl Store {
     /// Reads an item at the timestamp of a live attempt, and marks the version that is found. An item that the attempt has
     /// read gives its value again.
     pub fn read(&mut self, ticket: &Ticket, item: Item) -> Result<ItemValue, ReadError>
-        ensures ok { IfOk result (λ value. IsFirstRead self.old self.new ticket.now.number ticket.now.timestamp item value ⊎ IsReadAgain self.old self.new ticket.now.number ticket.now.timestamp item value) }
+        ensures ok { IfOk result (λ value.
+            IsFirstRead self.old self.new ticket.now.number ticket.now.timestamp item value
+            ⊎ IsReadAgain self.old self.new ticket.now.number ticket.now.timestamp item value) }
         ensures unchanged { OnErr result (self.new ≡ self.old) }
-        ensures unknown { IsErrOf result (Fault Unknown) ↔ (HasLiveNumber self.old.world.live ticket.now.number ticket.now.timestamp → ⊥) }
+        ensures unknown { IsErrOf result (Fault Unknown)
+            ↔ (HasLiveNumber self.old.world.live ticket.now.number ticket.now.timestamp → ⊥) }
     {
         match index_of(&self.attempts, ticket) {
             Some(index) => match read_at(&mut self.held, &mut self.attempts, index, item) {
@@ -128,9 +134,12 @@ impl Store {
     /// nothing has changed, and the call is handed back. All memory is taken before the first change.
     pub fn commit(&mut self, ticket: &Ticket, finished: Finished) -> Result<u64, RefusedCommit>
         ensures timestamp { IfOk result (λ timestamp. timestamp ≡ ticket.now.timestamp) }
-        ensures may { OnOk result (MayCommit self.old ticket.now.number ticket.now.timestamp finished) }
-        ensures committed { OnOk result (IsCommitted self.old self.new ticket.now.number ticket.now.timestamp finished) }
-        ensures refused { IfErr result (λ refused. IsCommitRefusal self.old ticket.now.number ticket.now.timestamp finished refused.error) }
+        ensures may { OnOk result
+            (MayCommit self.old ticket.now.number ticket.now.timestamp finished) }
+        ensures committed { OnOk result
+            (IsCommitted self.old self.new ticket.now.number ticket.now.timestamp finished) }
+        ensures refused { IfErr result (λ refused. IsCommitRefusal self.old
+            ticket.now.number ticket.now.timestamp finished refused.error) }
         ensures back { IfErr result (λ refused. refused.finished ≡ finished) }
         ensures unchanged { OnErr result (self.new ≡ self.old) }
     {
@@ -162,9 +171,12 @@ impl Store {
 
     /// A live attempt ends, and leaves its marks.
     pub fn abandon(&mut self, ticket: &Ticket) -> Result<(), AbandonFault>
-        ensures event { OnOk result (self.new ≡ record self.old { world = after_abandon self.old.world ticket.now.timestamp }) }
-        ensures live { OnOk result (HasLiveNumber self.old.world.live ticket.now.number ticket.now.timestamp) }
-        ensures unknown { OnErr result (HasLiveNumber self.old.world.live ticket.now.number ticket.now.timestamp → ⊥) }
+        ensures event { OnOk result (self.new
+            ≡ record self.old { world = after_abandon self.old.world ticket.now.timestamp }) }
+        ensures live { OnOk result
+            (HasLiveNumber self.old.world.live ticket.now.number ticket.now.timestamp) }
+        ensures unknown { OnErr result
+            (HasLiveNumber self.old.world.live ticket.now.number ticket.now.timestamp → ⊥) }
         ensures unchanged { OnErr result (self.new ≡ self.old) }
     {
         match index_of(&self.attempts, ticket) {
@@ -189,7 +201,8 @@ impl Store {
 
     /// The ledger after the committed calls with timestamps up to this one.
     pub fn state_at(&self, alloc: Global, timestamp: u64) -> Result<Ledger, StateError>
-        ensures ledger { IfOk result (λ ledger. ledger ≡ ledger_of self.now.base self.now.header self.now.calls (entries_below (suc timestamp) self.now.world.entries)) }
+        ensures ledger { IfOk result (λ ledger. ledger ≡ ledger_of self.now.base
+            self.now.header self.now.calls (entries_below (suc timestamp) self.now.world.entries)) }
         ensures pruned { IsErrOf result (Fault Pruned) ↔ timestamp < self.now.world.low }
     {
         if timestamp < self.journal.low() {
@@ -244,9 +257,12 @@ impl Store {
     /// What every store keeps: its committed calls, by rising timestamp, are those of one thread, and each version that it
     /// holds is an entry's. It does no work.
     pub fn holds(&self)
-        ensures serial { AreSerialCalls self.now.base self.now.header self.now.calls self.now.world }
-        ensures consistent { IsConsistentWorld same_item IsOfLedger (meaning_of self.now.header self.now.calls) (at self.now.base) self.now.world }
-        ensures versions { HoldEntries (λ value. value) same_item (at self.now.base) self.now.world.low self.now.world.entries (versions_for self.now.shard_slots) }
+        ensures serial { AreSerialCalls self.now.base
+            self.now.header self.now.calls self.now.world }
+        ensures consistent { IsConsistentWorld same_item IsOfLedger
+            (meaning_of self.now.header self.now.calls) (at self.now.base) self.now.world }
+        ensures versions { HoldEntries (λ value. value) same_item (at self.now.base)
+            self.now.world.low self.now.world.entries (versions_for self.now.shard_slots) }
     {
         let _count = self.attempts.len();
         every_consistent_world_of_calls_is_serial();

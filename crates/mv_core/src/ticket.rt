@@ -17,8 +17,10 @@ pub struct Ticket {
 
 /// The index of a ticket's attempt.
 pub(crate) fn index_of(attempts: &[Option<Attempt>], ticket: &Ticket) -> Option<usize>
-    ensures attempt { IfSome result (λ index. IsAttemptAt attempts.now ticket.now.number ticket.now.timestamp index) }
-    ensures nowhere { IfNone result (IsNowhere attempts.now ticket.now.number ticket.now.timestamp) }
+    ensures attempt { IfSome result
+        (λ index. IsAttemptAt attempts.now ticket.now.number ticket.now.timestamp index) }
+    ensures nowhere { IfNone result
+        (IsNowhere attempts.now ticket.now.number ticket.now.timestamp) }
 {
     if ticket.number == 0 {
         return None;

@@ -33,7 +33,8 @@ pub(crate) fn is_own_call(
 
 /// Whether a finished call was made for a header, over what an attempt has read.
 fn is_run_of(header: &Header, attempt: &Attempt, finished: &Finished) -> bool
-    ensures { IsTrue result ↔ ((finished.now.header ≡ header.now) × (finished.now.reads ≡ attempt.now.reads)) }
+    ensures { IsTrue result
+        ↔ ((finished.now.header ≡ header.now) × (finished.now.reads ≡ attempt.now.reads)) }
 {
     *finished.header() == *header && finished.reads().is_same(attempt.reads())
 }
@@ -62,7 +63,8 @@ pub(crate) fn call_at(calls: &[Call], number: u32) -> Option<&Call>
 pub(crate) fn moved(versions: &Held, reads: &ItemMap, timestamp: u64) -> Option<Item>
     requires held { AreHeld versions.now reads.now }
     requires low { AreLow timestamp versions.now }
-    ensures { result ≡ moved_item (λ x. (newest_at timestamp (versions_for versions.now x) no_version).value) reads.now }
+    ensures { result ≡ moved_item (λ x.
+        (newest_at timestamp (versions_for versions.now x) no_version).value) reads.now }
 {
     for (item, value) in reads.as_slice() {
         if !versions.has_value(item, timestamp, value) {

@@ -24,7 +24,9 @@ pub(crate) fn write_all(
     requires held { CanTake attempt.now.timestamp held.old attempt.now.reads finished.now.writes }
     ensures entries { entries.new.items ≡ entries.old.items }
     ensures room { OnOk result (0 < vec_capacity entries.new - vec_len entries.new) }
-    ensures written { OnOk result (AreWritten attempt.now.timestamp attempt.now.reads finished.now.writes index.old index.new × AreWritten attempt.now.timestamp attempt.now.reads finished.now.writes held.old held.new) }
+    ensures written { OnOk result (AreWritten attempt.now.timestamp
+        attempt.now.reads finished.now.writes index.old index.new × AreWritten attempt.now.timestamp
+        attempt.now.reads finished.now.writes held.old held.new) }
     ensures unchanged { OnErr result ((index.new ≡ index.old) × (held.new ≡ held.old)) }
 {
     entries.reserve(1)?;

@@ -61,8 +61,10 @@ impl Model for Journal {
 impl Journal {
     /// A call begins, at the next timestamp. The attempt has read nothing.
     pub fn begin(&mut self, number: u32) -> Result<Attempt, BeginError>
-        ensures event { OnOk result (self.new ≡ record self.old { world = after_begin self.old.world number }) }
-        ensures attempt { IfOk result (λ attempt. attempt ≡ fresh_attempt number (self.old.world.clock + 1)) }
+        ensures event { OnOk result
+            (self.new ≡ record self.old { world = after_begin self.old.world number }) }
+        ensures attempt { IfOk result
+            (λ attempt. attempt ≡ fresh_attempt number (self.old.world.clock + 1)) }
         ensures begins { OnOk result (begin_fault self.old number ≡ None) }
         ensures unchanged { OnErr result (self.new ≡ self.old) }
         ensures refused { IfErr result (IsBeginRefusal self.old number) }
@@ -104,7 +106,8 @@ impl Journal {
 
     /// An attempt ends without a commit, and its call may begin again. One that is not live is handed back.
     pub fn abandon(&mut self, attempt: Attempt) -> Result<(), Attempt>
-        ensures event { OnOk result (self.new ≡ record self.old { world = after_abandon self.old.world attempt.timestamp }) }
+        ensures event { OnOk result (self.new
+            ≡ record self.old { world = after_abandon self.old.world attempt.timestamp }) }
         ensures live { IsOk result ↔ IsLive self.old.world attempt }
         ensures unchanged { OnErr result (self.new ≡ self.old) }
         ensures back { IfErr result (λ back. back ≡ attempt) }
@@ -130,7 +133,8 @@ impl Journal {
     /// Raises the low mark to a timestamp, as far as the clock and the live attempts allow, and that of each shard that is
     /// held to the journal's. What the journal itself keeps of versions stays. It takes no memory.
     pub fn prune(&mut self, held: &mut Held, timestamp: u64)
-        ensures event { self.new ≡ record self.old { world = record self.old.world { low = low_after_prune self.old.world timestamp } } }
+        ensures event { self.new ≡ record self.old
+            { world = record self.old.world { low = low_after_prune self.old.world timestamp } } }
         ensures held { ArePruned (low_after_prune self.old.world timestamp) held.old held.new }
     {
         let low = self.low_after(timestamp);
@@ -159,9 +163,13 @@ impl Journal {
         finished: Finished,
     ) -> Result<u64, RefusedCommit>
         requires { AreCovered held.old attempt.reads finished.writes }
-        ensures committed { IfOk result (λ timestamp. (timestamp ≡ attempt.timestamp) × MayCommit self.old held.old attempt finished × IsCommitted self.old self.new held.old held.new attempt finished) }
-        ensures refused { IfErr result (λ refused. IsCommitRefusal self.old held.old attempt finished refused.error) }
-        ensures back { IfErr result (λ refused. (refused.attempt ≡ attempt) × (refused.finished ≡ finished)) }
+        ensures committed { IfOk result (λ timestamp. (timestamp ≡ attempt.timestamp)
+            × MayCommit self.old held.old attempt finished
+            × IsCommitted self.old self.new held.old held.new attempt finished) }
+        ensures refused { IfErr result
+            (λ refused. IsCommitRefusal self.old held.old attempt finished refused.error) }
+        ensures back { IfErr result (λ refused. (refused.attempt ≡ attempt)
+            × (refused.finished ≡ finished)) }
         ensures unchanged { OnErr result ((self.new ≡ self.old) × (held.new ≡ held.old)) }
     {
         if let Some(fault) = self.commit_fault(held, &attempt, &finished) {
@@ -210,7 +218,8 @@ impl Journal {
     ) -> Option<CommitFault>
         requires covers { AreCovered held.now reads.now writes.now }
         requires positive { 0 < timestamp }
-        ensures some { IfSome result (IsWriteRefusal self.now held.now timestamp reads.now writes.now) }
+        ensures some { IfSome result
+            (IsWriteRefusal self.now held.now timestamp reads.now writes.now) }
         ensures none { IfNone result (MayWrite self.now held.now timestamp reads.now writes.now) }
     {
         match moved(&self.index, reads, timestamp - 1) {
@@ -231,9 +240,11 @@ impl Journal {
     ) -> Result<u64, RefusedCommit>
         requires covers { AreCovered held.old attempt.reads finished.writes }
         requires may { MayCommit self.old held.old attempt finished }
-        ensures committed { IfOk result (λ timestamp. (timestamp ≡ attempt.timestamp) × IsCommitted self.old self.new held.old held.new attempt finished) }
+        ensures committed { IfOk result (λ timestamp. (timestamp ≡ attempt.timestamp)
+            × IsCommitted self.old self.new held.old held.new attempt finished) }
         ensures memory { IfErr result (λ refused. refused.error ≡ Memory) }
-        ensures back { IfErr result (λ refused. (refused.attempt ≡ attempt) × (refused.finished ≡ finished)) }
+        ensures back { IfErr result (λ refused. (refused.attempt ≡ attempt)
+            × (refused.finished ≡ finished)) }
         ensures unchanged { OnErr result ((self.new ≡ self.old) × (held.new ≡ held.old)) }
     {
         let timestamp = attempt.timestamp();
@@ -317,7 +328,8 @@ impl Journal {
     /// What every journal keeps, whatever was done with it: the committed calls are those of one thread, by rising
     /// timestamp. It does no work.
     pub fn holds(&self)
-        ensures serial { AreSerialCalls self.now.base self.now.header self.now.calls self.now.world }
+        ensures serial { AreSerialCalls self.now.base
+            self.now.header self.now.calls self.now.world }
         ensures orderly { IsOrderly self.now.base }
         ensures opened { open_fault self.now.header self.now.calls ≡ None }
         ensures store { IsIndexedStore self.now }

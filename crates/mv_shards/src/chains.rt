@@ -94,7 +94,8 @@ impl Chains {
     /// The chain of a number.
     pub(crate) fn at(&self, number: usize) -> &Chain<ItemValue>
         requires { number < length self.now }
-        ensures { (item : _) → number_in self.now item ≡ Some number → chain_in self.now item ≡ Some result.now }
+        ensures { (item : _)
+            → number_in self.now item ≡ Some number → chain_in self.now item ≡ Some result.now }
     {
         &self.list[number].1
     }
@@ -107,7 +108,8 @@ impl Chains {
         first: ItemValue,
     ) -> Result<usize, AllocError>
         requires none { chain_in self.old item.now ≡ None }
-        ensures grown { (value_of : _) → value_of item.now ≡ first → IsGrown value_of self.old self.new }
+        ensures grown { (value_of : _)
+            → value_of item.now ≡ first → IsGrown value_of self.old self.new }
         ensures roomier { OnOk result (IsRoomier self.old self.new) }
         ensures number { IfOk result (λ number. number_in self.new item.now ≡ Some number) }
     {
@@ -126,7 +128,8 @@ impl Chains {
         requires { number < length self.old }
         ensures grown { (value_of : _) → IsGrown value_of self.old self.new }
         ensures roomier { OnOk result (IsRoomier self.old self.new) }
-        ensures room { OnOk result ((item : _) → number_in self.old item ≡ Some number → HasRoomFor self.new item) }
+        ensures room { OnOk result ((item : _)
+            → number_in self.old item ≡ Some number → HasRoomFor self.new item) }
     {
         self.list[number].1.reserve()
     }
@@ -135,7 +138,8 @@ impl Chains {
     pub(crate) fn mark(&mut self, number: usize, timestamp: u64)
         requires readable { IsReadableAt timestamp self.old number }
         requires positive { 0 < timestamp }
-        ensures { (item : _) → number_in self.old item ≡ Some number → IsMarked timestamp item self.old self.new }
+        ensures { (item : _)
+            → number_in self.old item ≡ Some number → IsMarked timestamp item self.old self.new }
     {
         self.list[number].1.mark(timestamp);
     }
@@ -144,15 +148,18 @@ impl Chains {
     pub(crate) fn install(&mut self, number: usize, value: ItemValue, timestamp: u64)
         requires takes { TakesVersionAt timestamp self.old number }
         requires positive { 0 < timestamp }
-        ensures { (item : _) → number_in self.old item ≡ Some number → IsInstalled timestamp item value self.old self.new }
+        ensures { (item : _) → number_in self.old item ≡ Some number
+            → IsInstalled timestamp item value self.old self.new }
     {
         let _ = self.list[number].1.install(timestamp, value);
     }
 
     /// Drops the versions that no read from a timestamp on can find. Most chains have one version, which stays.
     pub(crate) fn prune(&mut self, timestamp: u64)
-        ensures versions { (first : _) (x : _) → versions_of first self.new x ≡ versions_from timestamp (versions_of first self.old x) }
-        ensures kept { (first : _) (low : _) → low ≤ timestamp → AreChains first low self.old → AreChains first timestamp self.new }
+        ensures versions { (first : _) (x : _) → versions_of first self.new x
+            ≡ versions_from timestamp (versions_of first self.old x) }
+        ensures kept { (first : _) (low : _)
+            → low ≤ timestamp → AreChains first low self.old → AreChains first timestamp self.new }
     {
         for number in 0..self.list.len() {
             prune_chain(&mut self.list[number].1, timestamp);

@@ -57,7 +57,8 @@ impl Held {
     /// Holds a shard too. Shards are added by rising index, as they are locked: one that is not above all that are
     /// held is handed back.
     pub fn add(&mut self, shard: Shard) -> Result<(), Shard>
-        ensures ok { OnOk result (AreFree self.old shard.index × (self.new ≡ set self.old shard.index (Some shard))) }
+        ensures ok { OnOk result (AreFree self.old shard.index
+            × (self.new ≡ set self.old shard.index (Some shard))) }
         ensures err { OnErr result (IsTakenFrom self.old shard.index × (self.new ≡ self.old)) }
         ensures back { IfErr result (λ back. back ≡ shard) }
     {
@@ -99,7 +100,8 @@ impl Held {
     /// Reads an item of the item's shard, as [`Shard::read`] does.
     pub fn read(&mut self, attempt: &mut Attempt, item: Item) -> Result<ItemValue, ReadError>
         requires { IsHeld self.old item }
-        ensures ok { IfOk result (λ value. IsHeldRead self.old self.new attempt.old attempt.new item value) }
+        ensures ok { IfOk result
+            (λ value. IsHeldRead self.old self.new attempt.old attempt.new item value) }
         ensures pruned { IsErrOf result (Fault Pruned) ↔ IsHeldPruned self.old attempt.old item }
         ensures unchanged { OnErr result (self.new ≡ self.old) }
         ensures attempt { OnErr result (attempt.new ≡ attempt.old) }
@@ -116,7 +118,8 @@ impl Held {
     pub fn late(&self, item: &Item, timestamp: u64) -> Option<Late>
         requires held { IsHeld self.now item.now }
         requires low { AreLow timestamp self.now }
-        ensures { (d : _) → result ≡ lateness timestamp (newest_at timestamp (versions_for self.now item.now) d) }
+        ensures { (d : _)
+            → result ≡ lateness timestamp (newest_at timestamp (versions_for self.now item.now) d) }
     {
         match &self.parts[usize::from(shard_of(item))] {
             Some(part) => late(part, item, timestamp),
@@ -128,7 +131,8 @@ impl Held {
     pub fn has_value(&self, item: &Item, timestamp: u64, value: &ItemValue) -> bool
         requires held { IsHeld self.now item.now }
         requires low { AreLow timestamp self.now }
-        ensures { (d : _) → result ≡ is_same_value (newest_at timestamp (versions_for self.now item.now) d).value value.now }
+        ensures { (d : _) → result ≡ is_same_value (newest_at timestamp
+            (versions_for self.now item.now) d).value value.now }
     {
         match &self.parts[usize::from(shard_of(item))] {
             Some(part) => has_value(part, item, timestamp, value),
@@ -189,7 +193,8 @@ impl Held {
         requires held { CanTake timestamp self.old reads.now writes.now }
         requires others { CanTake timestamp others.old reads.now writes.now }
         requires positive { 0 < timestamp }
-        ensures written { OnOk result (AreWritten timestamp reads.now writes.now self.old self.new × AreWritten timestamp reads.now writes.now others.old others.new) }
+        ensures written { OnOk result (AreWritten timestamp reads.now writes.now self.old self.new
+            × AreWritten timestamp reads.now writes.now others.old others.new) }
         ensures unchanged { OnErr result ((self.new ≡ self.old) × (others.new ≡ others.old)) }
     {
         write_parts(
@@ -207,8 +212,10 @@ impl Held {
 fn first_above(parts: &Parts, timestamp: u64) -> usize
     requires { AreInSlots parts.now }
     ensures few { result ≤ shard_count }
-    ensures low { (i : _) → i < result → IsLowAt timestamp (seen_or_none (get_or parts.now i None)) }
-    ensures above { result < shard_count → IsAbove timestamp (seen_or_none (get_or parts.now result None)) }
+    ensures low { (i : _)
+        → i < result → IsLowAt timestamp (seen_or_none (get_or parts.now i None)) }
+    ensures above { result < shard_count
+        → IsAbove timestamp (seen_or_none (get_or parts.now result None)) }
 {
     for index in 0..SHARD_COUNT {
         if is_above(&parts[index], timestamp) {
@@ -234,7 +241,8 @@ fn is_above(part: &Option<Part>, timestamp: u64) -> bool
 fn least_with(parts: &Parts, item: &Item, timestamp: u64, least: usize) -> usize
     requires slots { AreInSlots parts.now }
     requires few { least ≤ shard_count }
-    requires low { (i : _) → i < least → IsLowAt timestamp (seen_or_none (get_or parts.now i None)) }
+    requires low { (i : _)
+        → i < least → IsLowAt timestamp (seen_or_none (get_or parts.now i None)) }
     ensures { IsLeastWith timestamp item.now least (seen_all parts.now) result }
 {
     let index = usize::from(shard_of(item));

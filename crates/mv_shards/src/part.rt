@@ -68,11 +68,15 @@ fn first_read(
     attempt: &mut Attempt,
     item: Item,
 ) -> Result<ItemValue, AllocError>
-    requires old_enough { oldest_timestamp (versions_of (at base.now) chains.old item) ≤ attempt.old.timestamp }
-    ensures ok { IfOk result (λ value. IsMarkedRead (at base.now) chains.old chains.new attempt.old attempt.new item value) }
-    ensures versions { OnErr result ((x : _) → versions_of (at base.now) chains.new x ≡ versions_of (at base.now) chains.old x) }
+    requires old_enough { oldest_timestamp (versions_of (at base.now) chains.old item)
+        ≤ attempt.old.timestamp }
+    ensures ok { IfOk result (λ value.
+        IsMarkedRead (at base.now) chains.old chains.new attempt.old attempt.new item value) }
+    ensures versions { OnErr result ((x : _)
+        → versions_of (at base.now) chains.new x ≡ versions_of (at base.now) chains.old x) }
     ensures attempt { OnErr result (attempt.new ≡ attempt.old) }
-    ensures kept { (low : _) → AreChains (at base.now) low chains.old → AreChains (at base.now) low chains.new }
+    ensures kept { (low : _)
+        → AreChains (at base.now) low chains.old → AreChains (at base.now) low chains.new }
 {
     let number = add_chain(alloc, chains, base, &item)?;
     let value = value_at(chains, number, attempt.timestamp)?;
@@ -90,10 +94,13 @@ pub(crate) fn read(
 ) -> Result<ItemValue, ReadError>
     requires { IsPart part.old }
     ensures kept { IsPart part.new }
-    ensures ok { IfOk result (λ value. IsFirstRead (shard_shown part.old) (shard_shown part.new) attempt.old attempt.new item value ⊎ IsReadAgain (shard_shown part.old) (shard_shown part.new) attempt.old attempt.new item value) }
+    ensures ok { IfOk result (λ value. IsFirstRead (shard_shown part.old) (shard_shown part.new)
+        attempt.old attempt.new item value ⊎ IsReadAgain (shard_shown part.old)
+        (shard_shown part.new) attempt.old attempt.new item value) }
     ensures part { OnErr result (shard_shown part.new ≡ shard_shown part.old) }
     ensures attempt { OnErr result (attempt.new ≡ attempt.old) }
-    ensures pruned { IsErrOf result (Fault Pruned) ↔ IsPruned (shard_shown part.old) attempt.old item }
+    ensures pruned { IsErrOf result (Fault Pruned)
+        ↔ IsPruned (shard_shown part.old) attempt.old item }
 {
     if let Some(value) = attempt.reads.get(&item) {
         return Ok(value.clone()?);
@@ -108,7 +115,8 @@ pub(crate) fn read(
 pub(crate) fn late(part: &Part, item: &Item, timestamp: u64) -> Option<Late>
     requires part { IsPart part.now }
     requires low { part.now.low ≤ timestamp }
-    ensures { (d : _) → result ≡ lateness timestamp (newest_at timestamp (versions_held (shard_shown part.now) item.now) d) }
+    ensures { (d : _) → result ≡ lateness timestamp
+        (newest_at timestamp (versions_held (shard_shown part.now) item.now) d) }
 {
     match part.chains.get(item) {
         Some(chain) => chain.late(timestamp),
@@ -132,7 +140,8 @@ pub(crate) fn has_version(part: &Part, item: &Item, timestamp: u64) -> bool
 pub(crate) fn has_value(part: &Part, item: &Item, timestamp: u64, value: &ItemValue) -> bool
     requires part { IsPart part.now }
     requires low { part.now.low ≤ timestamp }
-    ensures { (d : _) → result ≡ is_same_value (newest_at timestamp (versions_held (shard_shown part.now) item.now) d).value value.now }
+    ensures { (d : _) → result ≡ is_same_value (newest_at timestamp
+        (versions_held (shard_shown part.now) item.now) d).value value.now }
 {
     match part.chains.get(item) {
         Some(chain) => chain.read_at(timestamp).is_same(value),

@@ -45,7 +45,8 @@ fn reserve_at(parts: &mut Parts, spot: Spot) -> Result<(), AllocError>
     requires { (item : _) × IsSpot parts.old item spot }
     ensures grown { AreGrown parts.old parts.new }
     ensures roomier { OnOk result (AreRoomier parts.old parts.new) }
-    ensures room { OnOk result ((item : _) → IsSpot parts.old item spot → HasRoomFor (chains_for parts.new item) item) }
+    ensures room { OnOk result ((item : _)
+        → IsSpot parts.old item spot → HasRoomFor (chains_for parts.new item) item) }
 {
     match &mut parts[spot.shard] {
         Some(part) => part.chains.reserve(spot.number),
@@ -134,7 +135,8 @@ pub(crate) fn make_both(
     requires other_reads { AllByRecursion (λ e. IsHeldIn others.old e.0) reads.now }
     requires other_writes { AllByRecursion (λ e. IsHeldIn others.old e.0) writes.now }
     ensures grown { AreGrown parts.old parts.new × AreGrown others.old others.new }
-    ensures room { IfOk result (λ rooms. IsRoom parts.new reads.now writes.now rooms.0 × IsRoom others.new reads.now writes.now rooms.1) }
+    ensures room { IfOk result (λ rooms. IsRoom parts.new reads.now writes.now rooms.0
+        × IsRoom others.new reads.now writes.now rooms.1) }
 {
     match make_room(alloc, parts, reads, writes) {
         Ok(room) => match make_room(alloc, others, reads, writes) {

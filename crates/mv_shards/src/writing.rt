@@ -16,7 +16,8 @@ use std::alloc::{AllocError, Global};
 fn mark_at(parts: &mut Parts, spot: Spot, timestamp: u64)
     requires readable { IsReadableSpot timestamp parts.old spot }
     requires positive { 0 < timestamp }
-    ensures { (item : _) → IsSpot parts.old item spot → IsMarkedItem timestamp item parts.old parts.new }
+    ensures { (item : _)
+        → IsSpot parts.old item spot → IsMarkedItem timestamp item parts.old parts.new }
 {
     match &mut parts[spot.shard] {
         Some(part) => part.chains.mark(spot.number, timestamp),
@@ -28,7 +29,8 @@ fn mark_at(parts: &mut Parts, spot: Spot, timestamp: u64)
 fn install_at(parts: &mut Parts, spot: Spot, value: ItemValue, timestamp: u64)
     requires takes { TakesVersionThere timestamp parts.old spot }
     requires positive { 0 < timestamp }
-    ensures { (item : _) → IsSpot parts.old item spot → IsInstalledItem timestamp item value parts.old parts.new }
+    ensures { (item : _)
+        → IsSpot parts.old item spot → IsInstalledItem timestamp item value parts.old parts.new }
 {
     match &mut parts[spot.shard] {
         Some(part) => part.chains.install(spot.number, value, timestamp),
@@ -40,7 +42,8 @@ fn install_at(parts: &mut Parts, spot: Spot, value: ItemValue, timestamp: u64)
 fn mark_all(parts: &mut Parts, spots: &[Spot], timestamp: u64)
     requires readable { AreReadableSpots timestamp parts.old spots.now }
     requires positive { 0 < timestamp }
-    ensures { (reads : _) → AreSpots parts.old reads spots.now → AreMarkedAt timestamp reads parts.old parts.new }
+    ensures { (reads : _)
+        → AreSpots parts.old reads spots.now → AreMarkedAt timestamp reads parts.old parts.new }
 {
     for spot in spots {
         mark_at(parts, *spot, timestamp);
@@ -51,7 +54,8 @@ fn mark_all(parts: &mut Parts, spots: &[Spot], timestamp: u64)
 fn install_all(parts: &mut Parts, placed: Vec<(Spot, ItemValue)>, timestamp: u64)
     requires ready { AreReadyPlaced timestamp parts.old placed.items }
     requires positive { 0 < timestamp }
-    ensures { (writes : _) → ArePlaced parts.old writes placed.items → AreInstalledAt timestamp writes parts.old parts.new }
+    ensures { (writes : _) → ArePlaced parts.old writes placed.items
+        → AreInstalledAt timestamp writes parts.old parts.new }
 {
     for (spot, value) in placed {
         install_at(parts, spot, value, timestamp);
@@ -71,13 +75,19 @@ pub(crate) fn write_parts(
     requires reads { AllByRecursion (λ e. IsHeldIn parts.old e.0) reads.now }
     requires writes { AllByRecursion (λ e. IsHeldIn parts.old e.0) writes.now }
     requires chains { (i : _) → AreChains (first_at parts.old i) timestamp (chains_at parts.old i) }
-    requires absent { AllByRecursion (λ e. AllByRecursion (λ v. v.timestamp ≢ timestamp) (versions_of (first_at parts.old (shard_index e.0)) (chains_for parts.old e.0) e.0)) writes.now }
+    requires absent { AllByRecursion (λ e.
+        AllByRecursion (λ v. v.timestamp ≢ timestamp) (versions_of (first_at parts.old
+        (shard_index e.0)) (chains_for parts.old e.0) e.0)) writes.now }
     requires other_reads { AllByRecursion (λ e. IsHeldIn others.old e.0) reads.now }
     requires other_writes { AllByRecursion (λ e. IsHeldIn others.old e.0) writes.now }
-    requires other_chains { (i : _) → AreChains (first_at others.old i) timestamp (chains_at others.old i) }
-    requires other_absent { AllByRecursion (λ e. AllByRecursion (λ v. v.timestamp ≢ timestamp) (versions_of (first_at others.old (shard_index e.0)) (chains_for others.old e.0) e.0)) writes.now }
+    requires other_chains { (i : _)
+        → AreChains (first_at others.old i) timestamp (chains_at others.old i) }
+    requires other_absent { AllByRecursion (λ e.
+        AllByRecursion (λ v. v.timestamp ≢ timestamp) (versions_of (first_at others.old
+        (shard_index e.0)) (chains_for others.old e.0) e.0)) writes.now }
     requires positive { 0 < timestamp }
-    ensures written { OnOk result (AreWrittenParts timestamp reads.now writes.now parts.old parts.new × AreWrittenParts timestamp reads.now writes.now others.old others.new) }
+    ensures written { OnOk result (AreWrittenParts timestamp reads.now writes.now parts.old
+        parts.new × AreWrittenParts timestamp reads.now writes.now others.old others.new) }
     ensures grown { OnErr result (AreGrown parts.old parts.new × AreGrown others.old others.new) }
 {
     match make_both(alloc, parts, others, reads, writes) {

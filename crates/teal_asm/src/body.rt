@@ -65,8 +65,10 @@ impl Body {
     /// more use.
     pub fn add(&mut self, alloc: Global, statement: Statement) -> Result<(), LineError>
         requires body { IsBody self.old }
-        requires fresh { ForSome statement.label (λ name. list_any (has_label name) self.old.statements.items ≡ false) }
-        ensures leaves { LeavesThinned result self.new.statements.items (appended self.old.statements.items (behind self.old.statements.items statement)) }
+        requires fresh { ForSome statement.label
+            (λ name. list_any (has_label name) self.old.statements.items ≡ false) }
+        ensures leaves { LeavesThinned result self.new.statements.items
+            (appended self.old.statements.items (behind self.old.statements.items statement)) }
         ensures kept { OnOk result (IsBody self.new) }
     {
         let uints = self.uints.len();
@@ -116,7 +118,8 @@ impl Body {
     /// Whether the program is too long and, whatever stands behind the statement, has the same first fault without it.
     fn is_needless(&self, statement: &Statement) -> bool
         requires { IsBody self.now }
-        ensures { IsTrue result → (1023 < self.now.commands) × IsNeedless self.now.statements.items statement.now }
+        ensures { IsTrue result
+            → (1023 < self.now.commands) × IsNeedless self.now.statements.items statement.now }
     {
         if self.commands <= MOST || statement.label.is_some() {
             return false;
@@ -130,7 +133,8 @@ impl Body {
     /// Whether a branch leads to a label that does not stand yet.
     fn is_waited_for(&self, name: &[u8]) -> bool
         requires { IsBody self.now }
-        ensures { IsTrue result → (list_any (jumps_to name.now) self.now.statements.items ≡ true) × (list_any (has_label name.now) self.now.statements.items ≡ false) }
+        ensures { IsTrue result → (list_any (jumps_to name.now) self.now.statements.items ≡ true)
+            × (list_any (has_label name.now) self.now.statements.items ≡ false) }
     {
         self.targets.number_of(name).is_some() && !self.has_label(name)
     }
@@ -138,7 +142,8 @@ impl Body {
     /// Whether a branch leads back, where a command comes behind the statements.
     fn leads_back_with(&self, command: &Option<Command>) -> bool
         requires { IsBody self.now }
-        ensures { result ≡ (leads_back self.now.statements.items (branch_label command.now) || self.now.leads_back) }
+        ensures { result ≡ (leads_back self.now.statements.items (branch_label command.now)
+            || self.now.leads_back) }
     {
         match branch_label(command) {
             Some(label) => self.has_label(label) || self.leads_back,
@@ -147,14 +152,16 @@ impl Body {
     }
 
     fn mixes_blocks(&self) -> bool
-        ensures { result ≡ ((self.now.has_uint_block && nat_lt 0 (length self.now.uints.keys)) || (self.now.has_byte_block && nat_lt 0 (length self.now.strings))) }
+        ensures { result ≡ ((self.now.has_uint_block && nat_lt 0 (length self.now.uints.keys))
+            || (self.now.has_byte_block && nat_lt 0 (length self.now.strings))) }
     {
         (self.has_uint_block && self.uints.len() > 0)
             || (self.has_byte_block && self.strings.len() > 0)
     }
 
     fn gathers_too_many(&self) -> bool
-        ensures { result ≡ (nat_lt 256 (length self.now.uints.keys) || nat_lt 256 (length self.now.strings)) }
+        ensures { result
+            ≡ (nat_lt 256 (length self.now.uints.keys) || nat_lt 256 (length self.now.strings)) }
     {
         self.uints.len() > MAX_CONSTANTS || self.strings.len() > MAX_CONSTANTS
     }
@@ -176,8 +183,10 @@ fn gather(
     uints: &mut IndexSet<u64>,
     strings: &mut Strings,
 ) -> Result<(), AllocError>
-    ensures uints { OnOk result (uints.new.keys ≡ distinct nat_eq uints.old.keys (gathered_uint command.now)) }
-    ensures strings { OnOk result (strings.new ≡ distinct bytes_eq strings.old (gathered_string command.now)) }
+    ensures uints { OnOk result
+        (uints.new.keys ≡ distinct nat_eq uints.old.keys (gathered_uint command.now)) }
+    ensures strings { OnOk result
+        (strings.new ≡ distinct bytes_eq strings.old (gathered_string command.now)) }
 {
     match command {
         Some(Command::Int(number)) => {
@@ -211,7 +220,9 @@ fn note_target(
     number: usize,
     targets: &mut Labels,
 ) -> Result<(), AllocError>
-    ensures { OnOk result ((name : Word) → is_some (lookup (bytes_eq name) targets.new) ≡ true → (is_some (lookup (bytes_eq name) targets.old) || option_map_or (λ label. bytes_eq name label) (branch_label command.now) false) ≡ true) }
+    ensures { OnOk result ((name : Word) → is_some (lookup (bytes_eq name) targets.new) ≡ true
+        → (is_some (lookup (bytes_eq name) targets.old)
+        || option_map_or (λ label. bytes_eq name label) (branch_label command.now) false) ≡ true) }
 {
     match branch_label(command) {
         Some(label) if targets.number_of(label).is_none() => targets.insert(alloc, label, number),

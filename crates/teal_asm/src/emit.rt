@@ -32,7 +32,8 @@ pub(crate) fn short_program(
     version: Version,
     instructions: &[Instruction],
 ) -> Result<Vec<u8>, AsmError>
-    ensures { Gives (λ code. code.items) result (short_program last_line (program (record { version = version; instructions = all_meant instructions.now }))) }
+    ensures { Gives (λ code. code.items) result (short_program last_line
+        (program (record { version = version; instructions = all_meant instructions.now }))) }
 {
     match places_of(alloc, instructions)? {
         Some(places) => Ok(spelled(alloc, version, instructions, &places)?),
@@ -45,8 +46,8 @@ pub(crate) fn short_program(
 
 // The place of each instruction, counted from behind the version, and of the end; none where it is above MOST.
 fn places_of(alloc: Global, instructions: &[Instruction]) -> Result<Option<Vec<usize>>, AllocError>
-    ensures { IfOk result (λ places. MatchOption places (MOST < total_size (all_meant instructions.now))
-        (λ v. ArePlaces (all_meant instructions.now) v.items)) }
+    ensures { IfOk result (λ places. MatchOption places (MOST < total_size
+        (all_meant instructions.now)) (λ v. ArePlaces (all_meant instructions.now) v.items)) }
 {
     let mut places = Vec::new(alloc);
     let mut bytes = Vec::new(alloc);
@@ -84,7 +85,8 @@ fn spelled(
     places: &[usize],
 ) -> Result<Vec<u8>, AllocError>
     requires { ArePlaces (all_meant instructions.now) places.now }
-    ensures { IfOk result (λ code. code.items ≡ version_byte version ∷ spelling 0 (all_meant instructions.now)) }
+    ensures { IfOk result
+        (λ code. code.items ≡ version_byte version ∷ spelling 0 (all_meant instructions.now)) }
 {
     let mut code = Vec::new(alloc);
     code.push(version_byte(version))?;
@@ -104,14 +106,16 @@ fn spelled(
 fn offset_to(target: usize, number: usize, places: &[usize]) -> u16
     requires inside { number + 1 < length places.now }
     requires small { (k : ℕ) → slice_index_or places.now k 0 ≤ 1023 }
-    ensures { result ≡ slice_index_or places.now (min target (length places.now - 1)) 0 - slice_index_or places.now (number + 1) 0 }
+    ensures { result ≡ slice_index_or places.now (min target (length places.now - 1)) 0
+        - slice_index_or places.now (number + 1) 0 }
 {
     let last = places.len() - 1;
     places[target.min(last)].saturating_sub(places[number + 1]) as u16
 }
 
 fn push_branch(opcode: Opcode, offset: u16, code: &mut Vec<u8>) -> Result<(), AllocError>
-    ensures { OnOk result (code.new.items ≡ code.old.items ++ instr_spelling (record { opcode = opcode; immediates = is.Offset offset })) }
+    ensures { OnOk result (code.new.items ≡ code.old.items
+        ++ instr_spelling (record { opcode = opcode; immediates = is.Offset offset })) }
 {
     let instr = Instr {
         opcode,

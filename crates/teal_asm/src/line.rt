@@ -34,7 +34,8 @@ pub(crate) fn add_line(
 ) -> Result<(), LineError>
     requires { IsBody body.old }
     ensures leaves { LeavesThinned result body.new.statements.items
-        (appended body.old.statements.items (statement version body.old.statements.items (line_words line.now))) }
+        (appended body.old.statements.items
+        (statement version body.old.statements.items (line_words line.now))) }
     ensures kept { OnOk result (IsBody body.new) }
 {
     if is_pragma(line.first) {
@@ -55,7 +56,8 @@ fn add_plain(
 ) -> Result<(), LineError>
     requires { IsBody body.old }
     ensures leaves { LeavesThinned result body.new.statements.items
-        (appended body.old.statements.items (labelled version body.old.statements.items line.now.line None line.now.first.now (words line.now.more.now))) }
+        (appended body.old.statements.items (labelled version body.old.statements.items
+        line.now.line None line.now.first.now (words line.now.more.now))) }
     ensures kept { OnOk result (IsBody body.new) }
 {
     let command = command_of(alloc, version, line.first, line.more)?;
@@ -77,7 +79,8 @@ fn add_labelled(
 ) -> Result<(), LineError>
     requires { IsBody body.old }
     ensures leaves { LeavesThinned result body.new.statements.items
-        (appended body.old.statements.items (with_label version body.old.statements.items line.now.line name.now (words line.now.more.now))) }
+        (appended body.old.statements.items (with_label version
+        body.old.statements.items line.now.line name.now (words line.now.more.now))) }
     ensures kept { OnOk result (IsBody body.new) }
 {
     if body.has_label(name) {

@@ -26,7 +26,8 @@ pub(crate) fn body_of(
     lines: &mut Lines<'_>,
     spare: Vec<Token>,
 ) -> Result<Body, AsmError>
-    ensures statements { GivesThinned (λ body. body.statements.items) result (unread_statements version [] lines.old) }
+    ensures statements { GivesThinned (λ body. body.statements.items) result
+        (unread_statements version [] lines.old) }
     ensures kept { IfOk result IsBody }
     ensures read { IfOk result (λ body. line_total lines.old ≡ Ok lines.new.read) }
 {
@@ -100,7 +101,8 @@ fn add_tokens(
 ) -> Result<(), AsmError>
     requires tokens { All (LiesWithin 0 (length text.now)) line.now.tokens.items }
     requires body { IsBody body.old }
-    ensures leaves { LeavesThinned result body.new.statements.items (statements version body.old.statements.items (words_of_line text.now (view line.now))) }
+    ensures leaves { LeavesThinned result body.new.statements.items
+        (statements version body.old.statements.items (words_of_line text.now (view line.now))) }
     ensures kept { OnOk result (IsBody body.new) }
 {
     let words = words_of(alloc, text, &line.tokens)?;
@@ -116,7 +118,8 @@ fn add_words(
     body: &mut Body,
 ) -> Result<(), AsmError>
     requires { IsBody body.old }
-    ensures leaves { LeavesThinned result body.new.statements.items (statements version body.old.statements.items (words_on line (words line_words.now))) }
+    ensures leaves { LeavesThinned result body.new.statements.items
+        (statements version body.old.statements.items (words_on line (words line_words.now))) }
     ensures kept { OnOk result (IsBody body.new) }
 {
     match line_words {
@@ -132,7 +135,8 @@ fn add_on_line(
     body: &mut Body,
 ) -> Result<(), AsmError>
     requires { IsBody body.old }
-    ensures leaves { LeavesThinned result body.new.statements.items (statements version body.old.statements.items (line_words line.now ∷ [])) }
+    ensures leaves { LeavesThinned result body.new.statements.items
+        (statements version body.old.statements.items (line_words line.now ∷ [])) }
     ensures kept { OnOk result (IsBody body.new) }
 {
     match add_line(alloc, version, line, body) {
@@ -151,7 +155,8 @@ pub(crate) fn pragma_version(alloc: Global, text: &[u8], line: &Line) -> Result<
 }
 
 fn version_named_by(line: usize, line_words: &[&[u8]]) -> Result<Version, AsmError>
-    ensures { Gives (λ version. version) result (pragma_in line (words_on line (words line_words.now))) }
+    ensures { Gives (λ version. version) result
+        (pragma_in line (words_on line (words line_words.now))) }
 {
     match line_words {
         [first, more @ ..] if is_pragma(first) => match named_version(more) {

@@ -41,7 +41,8 @@ pub(crate) fn meaning_of(alloc: Global, lines: &mut Lines<'_>) -> Result<Meaning
 // The meaning of a text whose pragma is in a line, with lines behind it.
 fn meaning_from(alloc: Global, lines: &mut Lines<'_>, first: Line) -> Result<Meaning, AsmError>
     requires { All (LiesWithin 0 (length lines.old.text)) first.tokens.items }
-    ensures meaning { GivesProgram meaning_in result (meaning_behind (pragma_of lines.old.text (view first)) lines.old) }
+    ensures meaning { GivesProgram meaning_in result
+        (meaning_behind (pragma_of lines.old.text (view first)) lines.old) }
     ensures read { IfOk result (λ m. line_total lines.old ≡ Ok lines.new.read) }
 {
     let version = match pragma_version(alloc, lines.text(), &first) {

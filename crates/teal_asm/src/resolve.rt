@@ -84,9 +84,12 @@ fn add_instruction(
     statement: Statement,
     instructions: &mut Vec<Instruction>,
 ) -> Result<(), AsmError>
-    requires known { HasItsConstant constants.now.uints.keys constants.now.strings statement.command }
+    requires known { HasItsConstant constants.now.uints.keys
+        constants.now.strings statement.command }
     requires short { IsShort constants.now }
-    ensures { (all : List AnyStatement) → AreConstants constants.now all → Leaves result (all_meant instructions.new.items) (with_instruction all (all_meant instructions.old.items) statement) }
+    ensures { (all : List AnyStatement)
+        → AreConstants constants.now all → Leaves result (all_meant instructions.new.items)
+        (with_instruction all (all_meant instructions.old.items) statement) }
 {
     let Statement {
         line,
@@ -112,7 +115,8 @@ fn instruction_of(
 ) -> Result<Instruction, AsmError>
     requires known { HasConstant constants.now.uints.keys constants.now.strings command }
     requires short { IsShort constants.now }
-    ensures { (all : List AnyStatement) → AreConstants constants.now all → Gives meant result (instruction all number line command) }
+    ensures { (all : List AnyStatement) → AreConstants constants.now all
+        → Gives meant result (instruction all number line command) }
 {
     match command {
         Command::Int(value) => Ok(uint_constant(index_of(&constants.uints, value))),
@@ -131,7 +135,8 @@ impl Constants {
     // The number of the instruction that a label stands before.
     fn target_of(&self, name: &[u8]) -> Option<usize>
         requires { IsShort self.now }
-        ensures { result ≡ option_map (λ n. self.now.blocks + n) (lookup (bytes_eq name.now) self.now.labels) }
+        ensures { result
+            ≡ option_map (λ n. self.now.blocks + n) (lookup (bytes_eq name.now) self.now.labels) }
     {
         match self.labels.number_of(name) {
             Some(number) => Some(self.blocks + number),
@@ -156,7 +161,8 @@ fn blocks_of(
     uints: &IndexSet<u64>,
     strings: &Strings,
 ) -> Result<Vec<Instruction>, AllocError>
-    ensures { IfOk result (λ v. all_meant v.items ≡ uint_block_in_front uints.now.keys ++ byte_block_in_front strings.now) }
+    ensures { IfOk result (λ v.
+        all_meant v.items ≡ uint_block_in_front uints.now.keys ++ byte_block_in_front strings.now) }
 {
     let mut blocks = Vec::new(alloc);
     if uints.len() > 0 {

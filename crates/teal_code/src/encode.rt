@@ -48,7 +48,8 @@ fn push_instr(instr: &Instr, code: &mut Vec<u8>) -> Result<(), AllocError>
 }
 
 fn push_immediates(immediates: &Immediates, code: &mut Vec<u8>) -> Result<(), AllocError>
-    ensures written { OnOk result (code.new.items ≡ code.old.items ++ immediates_spelling immediates.now) }
+    ensures written { OnOk result
+        (code.new.items ≡ code.old.items ++ immediates_spelling immediates.now) }
     ensures kept { Continues code.old.items code.new.items }
 {
     match immediates {
@@ -84,7 +85,8 @@ fn push_prefixed(bytes: &[u8], code: &mut Vec<u8>) -> Result<(), AllocError>
 }
 
 fn push_uints(numbers: &[u64], code: &mut Vec<u8>) -> Result<(), AllocError>
-    ensures written { OnOk result (code.new.items ≡ code.old.items ++ (varuint (length numbers.now) ++ flat_map varuint numbers.now)) }
+    ensures written { OnOk result (code.new.items
+        ≡ code.old.items ++ (varuint (length numbers.now) ++ flat_map varuint numbers.now)) }
     ensures kept { Continues code.old.items code.new.items }
 {
     push_varuint(numbers.len() as u64, code)?;
@@ -95,7 +97,8 @@ fn push_uints(numbers: &[u64], code: &mut Vec<u8>) -> Result<(), AllocError>
 }
 
 fn push_strings(strings: &[ByteString], code: &mut Vec<u8>) -> Result<(), AllocError>
-    ensures written { OnOk result (code.new.items ≡ code.old.items ++ (varuint (length strings.now) ++ flat_map prefixed strings.now)) }
+    ensures written { OnOk result (code.new.items
+        ≡ code.old.items ++ (varuint (length strings.now) ++ flat_map prefixed strings.now)) }
     ensures kept { Continues code.old.items code.new.items }
 {
     push_varuint(strings.len() as u64, code)?;

@@ -12,7 +12,8 @@ ghost use Rattle.teal_code.specs.declared.decode.CodeFault.TheVariants.{UnknownO
 
 /// No spelling of an instruction begins another.
 pub fn no_spelling_begins_another()
-    ensures { (version : Version) (a b x y : List ℕ) (i j : Instr) → Spells version a i → Spells version b j → a ++ x ≡ b ++ y → (a ≡ b) × (i ≡ j) }
+    ensures { (version : Version) (a b x y : List ℕ) (i j : Instr)
+        → Spells version a i → Spells version b j → a ++ x ≡ b ++ y → (a ≡ b) × (i ≡ j) }
 {}
 
 /// Reading is what the grammar says.
@@ -26,16 +27,22 @@ pub fn reading_is_the_grammar()
 /// Worked programs, read at a place.
 #[tactic(auto, unfolding(teal_table::specs::Table::row_of, teal_table::specs::Table::opcodes, teal_table::specs::Table::opcode_at))]
 pub fn worked_reads()
-    ensures count_beyond_the_end { read_at Two (0x02 ∷ 0x20 ∷ 0x80 ∷ 0x01 ∷ 0x01 ∷ 0x22 ∷ []) 1 ≡ Err Truncated }
+    ensures count_beyond_the_end { read_at Two (0x02 ∷ 0x20 ∷ 0x80 ∷ 0x01 ∷ 0x01 ∷ 0x22 ∷ []) 1
+        ≡ Err Truncated }
     ensures longer_spelling { read_at Two (0x02 ∷ 0x20 ∷ 0x81 ∷ 0x00 ∷ 0x01 ∷ 0x22 ∷ []) 1
         ≡ Ok (record { opcode = op.Intcblock; immediates = is.UintBlock (1 ∷ []) }, 5) }
-    ensures short_constant { read_at Two (0x02 ∷ 0x20 ∷ 0x81 ∷ 0x00 ∷ 0x01 ∷ 0x22 ∷ []) 5 ≡ Ok (record { opcode = op.Intc0; immediates = is.Nothing }, 6) }
+    ensures short_constant { read_at Two (0x02 ∷ 0x20 ∷ 0x81 ∷ 0x00 ∷ 0x01 ∷ 0x22 ∷ []) 5
+        ≡ Ok (record { opcode = op.Intc0; immediates = is.Nothing }, 6) }
     ensures unknown { read_at Two (0x02 ∷ 0xff ∷ []) 1 ≡ Err UnknownOp }
     ensures later_version { read_at Two (0x02 ∷ 0x44 ∷ []) 1 ≡ Err UnknownOp }
     ensures no_bytes { read_at Two (0x02 ∷ 0x20 ∷ []) 1 ≡ Err Truncated }
     ensures no_constant { read_at Two (0x02 ∷ 0x20 ∷ 0x01 ∷ []) 1 ≡ Err Truncated }
-    ensures tenth_byte { read_at Two (0x02 ∷ 0x20 ∷ 0x80 ∷ 0x80 ∷ 0x80 ∷ 0x80 ∷ 0x80 ∷ 0x80 ∷ 0x80 ∷ 0x80 ∷ 0x80 ∷ 0x02 ∷ []) 1 ≡ Err BadVaruint }
-    ensures largest_count { read_at Two (0x02 ∷ 0x20 ∷ 0xff ∷ 0xff ∷ 0xff ∷ 0xff ∷ 0xff ∷ 0xff ∷ 0xff ∷ 0xff ∷ 0xff ∷ 0x01 ∷ []) 1 ≡ Err Truncated }
-    ensures largest_length { read_at Two (0x02 ∷ 0x26 ∷ 0x01 ∷ 0xff ∷ 0xff ∷ 0xff ∷ 0xff ∷ 0xff ∷ 0xff ∷ 0xff ∷ 0xff ∷ 0xff ∷ 0x01 ∷ []) 1 ≡ Err Truncated }
-    ensures branch { read_at Two (0x02 ∷ 0x42 ∷ 0x01 ∷ 0x02 ∷ []) 1 ≡ Ok (record { opcode = op.B; immediates = is.Offset 258 }, 4) }
+    ensures tenth_byte { read_at Two (0x02 ∷ 0x20 ∷ 0x80
+        ∷ 0x80 ∷ 0x80 ∷ 0x80 ∷ 0x80 ∷ 0x80 ∷ 0x80 ∷ 0x80 ∷ 0x80 ∷ 0x02 ∷ []) 1 ≡ Err BadVaruint }
+    ensures largest_count { read_at Two (0x02 ∷ 0x20 ∷ 0xff
+        ∷ 0xff ∷ 0xff ∷ 0xff ∷ 0xff ∷ 0xff ∷ 0xff ∷ 0xff ∷ 0xff ∷ 0x01 ∷ []) 1 ≡ Err Truncated }
+    ensures largest_length { read_at Two (0x02 ∷ 0x26 ∷ 0x01 ∷ 0xff
+        ∷ 0xff ∷ 0xff ∷ 0xff ∷ 0xff ∷ 0xff ∷ 0xff ∷ 0xff ∷ 0xff ∷ 0x01 ∷ []) 1 ≡ Err Truncated }
+    ensures branch { read_at Two (0x02 ∷ 0x42 ∷ 0x01 ∷ 0x02 ∷ []) 1
+        ≡ Ok (record { opcode = op.B; immediates = is.Offset 258 }, 4) }
 {}

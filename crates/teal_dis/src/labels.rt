@@ -79,7 +79,8 @@ pub(crate) fn push_label(
     text: &mut String,
     number: Option<u16>,
 ) -> Result<(), AllocError>
-    ensures { OnOk result (string_bytes text.new ≡ string_bytes text.old ++ text_of_lines (lines_of_label number)) }
+    ensures { OnOk result
+        (string_bytes text.new ≡ string_bytes text.old ++ text_of_lines (lines_of_label number)) }
 {
     if let Some(k) = number {
         let line = format!(in alloc; "label{k}:\n")?;

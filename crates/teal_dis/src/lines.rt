@@ -38,7 +38,8 @@ pub(crate) fn push_line(
     target: &str,
     instr: &Instr,
 ) -> Result<(), AllocError>
-    ensures { OnOk result (string_bytes text.new ≡ string_bytes text.old ++ line_of_words (words_of target.now instr.now)) }
+    ensures { OnOk result (string_bytes text.new
+        ≡ string_bytes text.old ++ line_of_words (words_of target.now instr.now)) }
 {
     let row = instr.opcode.row();
     let words = operands(alloc, row.immediates, target, &instr.immediates)?;
@@ -48,7 +49,8 @@ pub(crate) fn push_line(
 
 // Adds each word behind a space.
 fn push_spaced(text: &mut String, words: &[String]) -> Result<(), AllocError>
-    ensures { OnOk result (string_bytes text.new ≡ string_bytes text.old ++ spaced (texts words.now)) }
+    ensures { OnOk result
+        (string_bytes text.new ≡ string_bytes text.old ++ spaced (texts words.now)) }
 {
     for word in words {
         text.push_str(" ")?;

@@ -46,7 +46,8 @@ fn push_instruction(
     labels: &[Option<u16>],
     placed: &Placed,
 ) -> Result<(), AllocError>
-    ensures { OnOk result (string_bytes text.new ≡ string_bytes text.old ++ text_of_lines (words_of (label_in labels.now placed.now.target) placed.now.instr ∷ [])) }
+    ensures { OnOk result (string_bytes text.new ≡ string_bytes text.old
+        ++ text_of_lines (words_of (label_in labels.now placed.now.target) placed.now.instr ∷ [])) }
 {
     let target = target_label(alloc, labels, placed.target)?;
     push_line(alloc, text, &target, &placed.instr)?;

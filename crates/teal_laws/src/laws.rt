@@ -26,61 +26,79 @@ ghost use Rattle.teal_laws.specs.TextRelation.{IsWhatItSays};
 /// What `encode_into` writes of an instruction is its shortest spelling, where bytes spell it at all: so it is for one that
 /// was read, and for one of the version whose numbers are in their range.
 pub fn encodings_are_shortest()
-    ensures spelled { (version : Version) (text : List ℕ) (i : Instr) → IsBytes text → Spells version text i → IsShortest version i (instr_spelling i) }
-    ensures read { (version : Version) (bytes : List ℕ) (place : ℕ) (i : Instr) (next : ℕ) → IsBytes bytes → read_at version bytes place ≡ Ok (i, next) → IsShortest version i (instr_spelling i) }
-    ensures of_version { (version : Version) (i : Instr) → IsOfVersion version i → IsShortOffset i.immediates → length (instr_spelling i) < 2 ^ 64 → IsShortest version i (instr_spelling i) }
+    ensures spelled { (version : Version) (text : List ℕ) (i : Instr)
+        → IsBytes text → Spells version text i → IsShortest version i (instr_spelling i) }
+    ensures read { (version : Version) (bytes : List ℕ) (place : ℕ) (i : Instr) (next : ℕ)
+        → IsBytes bytes
+        → read_at version bytes place ≡ Ok (i, next) → IsShortest version i (instr_spelling i) }
+    ensures of_version { (version : Version) (i : Instr)
+        → IsOfVersion version i → IsShortOffset i.immediates
+        → length (instr_spelling i) < 2 ^ 64 → IsShortest version i (instr_spelling i) }
 {}
 
 /// Bytes are accepted exactly where the rules of programs hold of them and a program: the version's number in front, then
 /// instructions of the grammar one behind another up to the end, with fields that their opcodes read, each branch over its
 /// offset to the place of an instruction or to the end, and costs of at most 700 in 1024 bytes. There is one such program.
 pub fn checked_programs_keep_the_rules()
-    ensures checked { (bytes : List ℕ) (program : WellFormed) → (checked bytes ≡ Ok program) ↔ IsProgram bytes program }
-    ensures accepted { (bytes : List ℕ) → IsOk (checked bytes) ↔ ((program : WellFormed) × IsProgram bytes program) }
-    ensures one { (bytes : List ℕ) (program other : WellFormed) → IsProgram bytes program → IsProgram bytes other → program ≡ other }
+    ensures checked { (bytes : List ℕ) (program : WellFormed)
+        → (checked bytes ≡ Ok program) ↔ IsProgram bytes program }
+    ensures accepted { (bytes : List ℕ)
+        → IsOk (checked bytes) ↔ ((program : WellFormed) × IsProgram bytes program) }
+    ensures one { (bytes : List ℕ) (program other : WellFormed)
+        → IsProgram bytes program → IsProgram bytes other → program ≡ other }
 {}
 
 /// The words of an instruction's line ask for the instruction, whatever its shape and in both versions; those of a branch
 /// ask for a branch to the label that is given.
 pub fn instruction_words_read_back()
     ensures { (version : Version) (target : List ℕ) (i : Instr) → IsOfVersion version i
-        → command version (name_of i.opcode) (operands (row_of i.opcode).immediates target i.immediates) ≡ Ok (command_of i.opcode target i.immediates) }
+        → command version (name_of i.opcode) (operands (row_of i.opcode).immediates
+        target i.immediates) ≡ Ok (command_of i.opcode target i.immediates) }
 {}
 
 /// The instructions of a checked program are of its version, with immediates in their range and fields that the version
 /// has, and each branch leads to an instruction behind it or to the end.
 pub fn programs_have_known_instructions()
-    ensures { (bytes : List ℕ) (program : WellFormed) → IsBytes bytes → checked bytes ≡ Ok program → IsListed program }
+    ensures { (bytes : List ℕ) (program : WellFormed)
+        → IsBytes bytes → checked bytes ≡ Ok program → IsListed program }
 {}
 
 /// The listing of a checked program is a text that means the program: its version, its instructions, and for each branch
 /// the same instruction as target.
 pub fn listings_mean_their_programs()
-    ensures { (bytes : List ℕ) (program : WellFormed) → IsBytes bytes → checked bytes ≡ Ok program → meaning (listing program) ≡ Ok (program_meaning program) }
+    ensures { (bytes : List ℕ) (program : WellFormed) → IsBytes bytes
+        → checked bytes ≡ Ok program → meaning (listing program) ≡ Ok (program_meaning program) }
 {}
 
 /// The listing of a checked program assembles, to a program that is checked, has the same version, instructions and
 /// targets, costs the same, and is listed by the same text.
 pub fn listings_assemble_back()
-    ensures { (bytes : List ℕ) (program : WellFormed) → IsBytes bytes → checked bytes ≡ Ok program → AssemblesBack program }
+    ensures { (bytes : List ℕ) (program : WellFormed)
+        → IsBytes bytes → checked bytes ≡ Ok program → AssemblesBack program }
 {}
 
 /// A text that assembles to a checked program means this program, and the program's listing means the same.
 pub fn listings_keep_the_meaning()
-    ensures program { (text bytes : List ℕ) (program : WellFormed) → IsBytes bytes → assembled text ≡ Ok bytes → checked bytes ≡ Ok program → meaning text ≡ Ok (program_meaning program) }
-    ensures listing { (text bytes : List ℕ) (program : WellFormed) → IsBytes bytes → assembled text ≡ Ok bytes → checked bytes ≡ Ok program → meaning (listing program) ≡ meaning text }
+    ensures program { (text bytes : List ℕ) (program : WellFormed) → IsBytes bytes → assembled text
+        ≡ Ok bytes → checked bytes ≡ Ok program → meaning text ≡ Ok (program_meaning program) }
+    ensures listing { (text bytes : List ℕ) (program : WellFormed) → IsBytes bytes → assembled text
+        ≡ Ok bytes → checked bytes ≡ Ok program → meaning (listing program) ≡ meaning text }
 {}
 
 /// What the assembler gives of a text breaks no rule of programs but the one of the cost, and breaks that exactly where the
 /// instructions of the text cost more than 700.
 pub fn assembled_programs_break_no_other_rule()
-    ensures only_cost { (text bytes : List ℕ) → IsBytes bytes → assembled text ≡ Ok bytes → IfErr (checked bytes) (λ f. f ≡ Cost) }
-    ensures dear { (text bytes : List ℕ) (m : Meaning) → IsBytes bytes → assembled text ≡ Ok bytes → meaning text ≡ Ok m → (checked bytes ≡ Err Cost) ↔ (most_cost < meant_cost m.instructions) }
+    ensures only_cost { (text bytes : List ℕ)
+        → IsBytes bytes → assembled text ≡ Ok bytes → IfErr (checked bytes) (λ f. f ≡ Cost) }
+    ensures dear { (text bytes : List ℕ) (m : Meaning)
+        → IsBytes bytes → assembled text ≡ Ok bytes → meaning text ≡ Ok m
+        → (checked bytes ≡ Err Cost) ↔ (most_cost < meant_cost m.instructions) }
 {}
 
 /// A text that has a meaning means what its commands say, each by itself: constants are gathered once each, in the order
 /// of first use; a branch leads to the instruction that its label stands before, which comes behind it; and there is an
 /// instruction for each command, in order.
 pub fn texts_mean_what_they_say()
-    ensures { (text : List ℕ) (m : Meaning) → meaning text ≡ Ok m → IsWhatItSays text m.version m.instructions }
+    ensures { (text : List ℕ) (m : Meaning)
+        → meaning text ≡ Ok m → IsWhatItSays text m.version m.instructions }
 {}

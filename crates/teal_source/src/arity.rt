@@ -42,7 +42,8 @@ pub(crate) fn two_operands<'a>(operands: &[&'a [u8]]) -> Result<(&'a [u8], &'a [
 pub(crate) fn three_operands<'a>(
     operands: &[&'a [u8]],
 ) -> Result<(&'a [u8], &'a [u8], &'a [u8]), LineError>
-    ensures { Gives (λ p. (p.0.now, p.1.now, p.2.now)) result (three_operands (words operands.now)) }
+    ensures { Gives (λ p. (p.0.now, p.1.now, p.2.now)) result
+        (three_operands (words operands.now)) }
 {
     match operands {
         [first, second, third] => Ok((first, second, third)),
@@ -97,7 +98,8 @@ pub(crate) fn literal_values(
     alloc: Global,
     operands: &[&[u8]],
 ) -> Result<Vec<ByteString>, LineError>
-    ensures { Gives (λ strings. strings.items) result (each literal_value (literals_in (words operands.now))) }
+    ensures { Gives (λ strings. strings.items) result
+        (each literal_value (literals_in (words operands.now))) }
 {
     let mut strings = Vec::new(alloc);
     let mut at = 0;

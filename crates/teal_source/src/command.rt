@@ -65,7 +65,8 @@ fn opcode_command(
     name: &[u8],
     operands: &[&[u8]],
 ) -> Result<Command, LineError>
-    ensures { Gives (λ command. command) result (opcode_command version (only_in version (opcode_named name.now)) (words operands.now)) }
+    ensures { Gives (λ command. command) result
+        (opcode_command version (only_in version (opcode_named name.now)) (words operands.now)) }
 {
     match opcode_named(name) {
         Some(opcode) if version.has(opcode.version()) => {
@@ -82,7 +83,8 @@ fn with_operands(
     immediates: Shape,
     operands: &[&[u8]],
 ) -> Result<Command, LineError>
-    ensures { Gives (λ command. command) result (with_operands version opcode immediates (words operands.now)) }
+    ensures { Gives (λ command. command) result
+        (with_operands version opcode immediates (words operands.now)) }
 {
     match immediates {
         Shape::Nothing => {
@@ -182,7 +184,8 @@ fn group_array_command(
     field: &[u8],
     index: &[u8],
 ) -> Result<Command, LineError>
-    ensures { Gives (λ command. command) result (group_array_command opcode group.now field.now index.now) }
+    ensures { Gives (λ command. command) result
+        (group_array_command opcode group.now field.now index.now) }
 {
     array(field)?;
     let group = byte_number(group)?;

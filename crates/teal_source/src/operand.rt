@@ -136,7 +136,8 @@ static NAMED_CONSTANTS: [NamedConstant; 12] = [
 /// The literal that begins with an operand, and the number of the operand behind it.
 pub(crate) fn literal_at<'a>(operands: &[&'a [u8]], at: usize) -> (EncodedLiteral<'a>, usize)
     requires { at < length operands.now }
-    ensures literal { literals_in (drop at (words operands.now)) ≡ literal result.0 ∷ literals_in (drop result.1 (words operands.now)) }
+    ensures literal { literals_in (drop at (words operands.now))
+        ≡ literal result.0 ∷ literals_in (drop result.1 (words operands.now)) }
     ensures further { (at < result.1) × (result.1 ≤ length operands.now) }
 {
     let first = operands[at];

@@ -29,13 +29,16 @@ pub struct Line {
 /// The law of a line's tokens: they lie in order in their line, only blanks stand between them, and only blanks and a
 /// comment stand behind the last.
 pub fn tokens_lie_in_order()
-    ensures { (place : ℕ) (line : List ℕ) (tokens : List Token) → tokens_of place line ≡ Ok tokens → LieInOrder place line tokens }
+    ensures { (place : ℕ) (line : List ℕ) (tokens : List Token)
+        → tokens_of place line ≡ Ok tokens → LieInOrder place line tokens }
 {}
 
 /// The law of texts of plain words, as listings are: the lines of such a text are its lines, and their tokens its words.
 pub fn plain_words_read_back()
-    ensures lines { (lines : List (List (List ℕ))) → IsTrue (list_all is_plain_line lines) → lines_of (text_of_lines lines) ≡ Ok (lines_of_words 1 0 lines) }
-    ensures words { (lines : List (List (List ℕ))) → map (words_at (text_of_lines lines)) (lines_of_words 1 0 lines) ≡ lines }
+    ensures lines { (lines : List (List (List ℕ))) → IsTrue (list_all is_plain_line lines)
+        → lines_of (text_of_lines lines) ≡ Ok (lines_of_words 1 0 lines) }
+    ensures words { (lines : List (List (List ℕ)))
+        → map (words_at (text_of_lines lines)) (lines_of_words 1 0 lines) ≡ lines }
 {}
 
 /// The first line, without the carriage return directly before its line feed, and what follows that.

@@ -25,7 +25,8 @@ pub fn byte_literal(
     first: &str,
     second: Option<&str>,
 ) -> Result<Option<Vec<u8>>, AllocError>
-    ensures { IfOk result (λ o. option_map (λ v. v.items) o ≡ literal_bytes first.now (option_copied second.entry)) }
+    ensures { IfOk result
+        (λ o. option_map (λ v. v.items) o ≡ literal_bytes first.now (option_copied second.entry)) }
 {
     match second {
         None => token_bytes(alloc, first.as_bytes()),
@@ -36,8 +37,10 @@ pub fn byte_literal(
 /// The laws of literals of one token: the hexadecimal digits of bytes behind `0x` read as these bytes, and every string
 /// that ends reads as some.
 pub fn literals_read_back()
-    ensures hexadecimal { (bytes : List ℕ) → IsBytes bytes → token_bytes (codes "0x" ++ encode_lower bytes) ≡ Some bytes }
-    ensures strings { (bs : List ℕ) (n : ℕ) → string_len StringState.Plain bs ≡ Ok n → is_some (token_bytes (codes "\"" ++ take n bs)) ≡ true }
+    ensures hexadecimal { (bytes : List ℕ)
+        → IsBytes bytes → token_bytes (codes "0x" ++ encode_lower bytes) ≡ Some bytes }
+    ensures strings { (bs : List ℕ) (n : ℕ) → string_len StringState.Plain bs ≡ Ok n
+        → is_some (token_bytes (codes "\"" ++ take n bs)) ≡ true }
 {}
 
 /// Whether a word is `base64`, `b64`, `base32` or `b32`, behind which a literal's text is a token of its own.
@@ -82,7 +85,8 @@ pub fn encoded_bytes(alloc: Global, name: &[u8], text: &[u8]) -> Result<Option<V
 pub fn base64_bytes(alloc: Global, text: &[u8]) -> Result<Option<Vec<u8>>, AllocError>
     ensures value { IfOk result (λ o. option_map (λ v. v.items) o ≡ base64_bytes text.now) }
     ensures found { IfOk result (λ o. IfSome o (λ v. IsBase64 text.now v.items)) }
-    ensures none { IfOk result (λ o. IfNone o ((bytes : List ℕ) → IsBytes bytes → IsBase64 text.now bytes → ⊥)) }
+    ensures none { IfOk result
+        (λ o. IfNone o ((bytes : List ℕ) → IsBytes bytes → IsBase64 text.now bytes → ⊥)) }
 {
     match STANDARD.decode(alloc, text) {
         Ok(bytes) => return Ok(Some(bytes)),

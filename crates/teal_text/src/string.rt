@@ -51,7 +51,8 @@ pub fn next_state(state: StringState, byte: u8) -> Option<StringState>
 /// The bytes of a string that begins behind its first quotation mark and ends with its last one.
 #[tactic(auto, unfolding(crate::specs::Strings::string_value))]
 pub fn string_value(alloc: Global, string: &[u8]) -> Result<Option<Vec<u8>>, AllocError>
-    ensures { IfOk result (λ o. option_map (λ v. v.items) o ≡ string_value StringState.Plain string.now) }
+    ensures { IfOk result
+        (λ o. option_map (λ v. v.items) o ≡ string_value StringState.Plain string.now) }
 {
     let mut bytes = Vec::new(alloc);
     let mut state = StringState::Plain;

@@ -70,7 +70,8 @@ pub fn address_of_bytes(alloc: Global, text: &[u8]) -> Result<Address, Failure<A
 /// The law of `address_of_text`: the text of an address reads as this address, and no other text does.
 pub fn address_has_one_text(address: &Address)
     ensures reads { address_of (address_text address.now) ≡ Ok address.now }
-    ensures only { (text : List ℕ) → address_of text ≡ Ok address.now → text ≡ address_text address.now }
+    ensures only { (text : List ℕ)
+        → address_of text ≡ Ok address.now → text ≡ address_text address.now }
 {
     key_has_one_text(&address.0, &checksum(&address.0));
 }
@@ -78,8 +79,10 @@ pub fn address_has_one_text(address: &Address)
 fn key_has_one_text(key: &[u8], sum: &[u8])
     requires key { length key.now ≡ 32 }
     requires sum { (length sum.now ≡ 4) × (sum.now ≡ checksum key.now) }
-    ensures reads { address_of (address_text (record { 0 = key.now })) ≡ Ok (record { 0 = key.now }) }
-    ensures only { (text : List ℕ) → address_of text ≡ Ok (record { 0 = key.now }) → text ≡ address_text (record { 0 = key.now }) }
+    ensures reads { address_of (address_text (record { 0 = key.now }))
+        ≡ Ok (record { 0 = key.now }) }
+    ensures only { (text : List ℕ) → address_of text ≡ Ok (record { 0 = key.now })
+        → text ≡ address_text (record { 0 = key.now }) }
 {
     let _ = key;
     let _ = sum;

@@ -48,7 +48,8 @@ pub fn base32_decode_bytes(alloc: Global, text: &[u8]) -> Result<Vec<u8>, Failur
 
 /// The law of `base32_decode`: a text reads as bytes exactly where it is one of their two spellings.
 pub fn base32_has_two_spellings()
-    ensures { (text bytes : List ℕ) → (base32_decoded text ≡ Ok bytes) ↔ (IsBytes bytes × IsBase32 text bytes) }
+    ensures { (text bytes : List ℕ)
+        → (base32_decoded text ≡ Ok bytes) ↔ (IsBytes bytes × IsBase32 text bytes) }
 {}
 
 fn symbol(group: u8) -> u8

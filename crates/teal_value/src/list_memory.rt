@@ -6,7 +6,8 @@ use std::alloc::AllocError;
 
 /// Puts other items in a list, in the memory that it has where they fit. Where an allocation is refused the list stays.
 pub fn write_over<T: Copy>(list: &mut Vec<T>, items: &[T]) -> Result<(), AllocError>
-    ensures { MatchResult result (λ _. list.new.items ≡ items.now) (λ _. list.new.items ≡ list.old.items) }
+    ensures { MatchResult result
+        (λ _. list.new.items ≡ items.now) (λ _. list.new.items ≡ list.old.items) }
 {
     list.reserve(items.len().saturating_sub(list.len()))?;
     list.clear();
