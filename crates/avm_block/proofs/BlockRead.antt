@@ -20,17 +20,21 @@ AreBytes bytes = (i : ℕ) → get_or bytes i 0 < 256
 all_below : (bytes : List ℕ) → AreBytes bytes → All (λ n. n < 256) bytes
 all_below bytes below = All-from_get_or (λ n. n < 256) bytes 0 (λ i lt. below i)
 
+-- what follows the body of a block is no longer than all the bytes
 pub body_within : (bytes : List ℕ) (b : Block) (rest : List ℕ) → ((i : ℕ) → get_or bytes i 0 < 256) → body_at is_accepted bytes ≡ Ok (b, rest) → length rest ≤ length bytes
 body_within bytes b rest below e =
     let read = body_spelled is_accepted bytes (b, rest) (all_bytes bytes (all_below bytes below)) e in
     omega (arith, ap length read.spelled.same, length-append (body_bytes b) rest)
 
+-- the fields of a block that is read are within their limits
 pub is_block : (bytes : List ℕ) (b : Block) → ((i : ℕ) → get_or bytes i 0 < 256) → block_at is_accepted bytes ≡ Ok b → IsBlock is_accepted b
 is_block bytes b below e = (block_spelled is_accepted bytes b (all_below bytes below) e).1
 
+-- a block that is read is spelled by those very bytes
 pub spelling_of : (bytes : List ℕ) (r : Result Block (Failure BlockFault)) → ((i : ℕ) → get_or bytes i 0 < 256) → Gives (λ b. b) r (block_at is_accepted bytes) → IfOk r (λ b. block_bytes b ≡ bytes)
 spelling_of bytes (Ok b) below e = (block_spelled is_accepted bytes b (all_below bytes below) e).0
 spelling_of bytes (Err d) below e = tt
 
+-- the spelling of a block is read as that block
 pub only_its_block : (bytes : List ℕ) (r : Result Block (Failure BlockFault)) (b : Block) → Gives (λ x. x) r (block_at is_accepted bytes) → IsBlock is_accepted b → bytes ≡ block_bytes b → Gives (λ x. x) r (Ok b)
 only_its_block bytes r b given is e = subst (λ m. Gives (λ x. x) r m) (ap (block_at is_accepted) e ∙ block_back is_accepted b is) given

@@ -165,6 +165,7 @@ count_spelled bytes x all e =
     let rule = kept (λ z. leb z.0 most_calls) Field n x e1 in
     record { spelled = subst (λ p. IsSpelled bytes (u32_bytes p.0) p.1) rule.1 (u32_spelled Truncated bytes n all en); few = leb-true x.0 most_calls rule.0 })
 
+-- the bytes begin with the body of the block, whose fields are within their limits
 pub record BodyRead (accepted : Profile → CallData → Bool) (bytes : List ℕ) (x : Block × List ℕ) : Type 0 where
   pub spelled : IsSpelled bytes (body_bytes x.0) x.1
   pub block : IsBlock accepted x.0
@@ -172,6 +173,7 @@ pub record BodyRead (accepted : Profile → CallData → Bool) (bytes : List ℕ
 digest_spelled : (bytes : List ℕ) (x : List ℕ × List ℕ) → AllBytes bytes → bytes_at Truncated 32 bytes ≡ Ok x → IsSpelled bytes x.0 x.1
 digest_spelled bytes x all e = spelled bytes x.0 x.1 all (bytes_spelled Truncated 32 bytes x e).0
 
+-- a body that is read is spelled by the bytes read, and its fields are within their limits
 pub body_spelled : (accepted : Profile → CallData → Bool) (bytes : List ℕ) (x : Block × List ℕ) → AllBytes bytes → body_at accepted bytes ≡ Ok x → BodyRead accepted bytes x
 body_spelled accepted bytes x all e =
     from (magic_at bytes) _ x e (λ m em e1.
@@ -225,6 +227,7 @@ sealed_is bytes b c e =
     nothing : {P : Type 0} (d : BlockFault) → ◌≡◌ {A = Result Block BlockFault} (Err d) (Ok c) → P
     nothing d e = absurd cc
 
+-- a block that is read is spelled by those very bytes, and its fields are within their limits
 pub block_spelled : (accepted : Profile → CallData → Bool) (bytes : List ℕ) (b : Block) → All (λ n. n < 256) bytes → block_at accepted bytes ≡ Ok b → (block_bytes b ≡ bytes) × IsBlock accepted b
 block_spelled accepted bytes b all e =
     from (body_at accepted bytes) (sealed bytes) b e (λ f ef e1.

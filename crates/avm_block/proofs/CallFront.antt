@@ -16,6 +16,7 @@ use Rattle.avm_block.specs.declared.block_fault.BlockFault.{BlockFault}
 use Rattle.avm_block.specs.declared.block_fault.BlockFault.TheVariants.{Field}
 use Rattle.avm_block.specs.BlockReader.{in_block, call_in}
 
+-- a call read from the first byte on stands in front of the bytes behind its end
 pub front_at_start : (bytes rest : List ℕ) (call : CallData) (end : ℕ) → ((i : ℕ) → get_or bytes i 0 < 256) → call_from bytes 0 ≡ Ok (call, end) → rest ≡ drop end bytes → in_block (call_front bytes) ≡ Ok (call, rest)
 front_at_start bytes rest call end below e behind =
     let read = place_spells bytes 0 call end (All-from_get_or (λ b. b < 256) bytes 0 (λ i lt. below i)) e in
@@ -32,6 +33,7 @@ allowed_too : (b : Bool) (call d : CallData) (rest : List ℕ) → ◌≡◌ {A 
 allowed_too true call d rest e = let same : call ≡ d = same_value _ _ e in ap (λ x. Ok (x, rest)) same
 allowed_too false call d rest e = absurd cc
 
+-- a call that is read and accepted is the call of the entry
 pub call_is_in : (accepted : CallData → Bool) (fields bytes : List ℕ) (call d : CallData) (rest : List ℕ) → bytes ≡ fields → in_block (call_front bytes) ≡ Ok (call, rest) → cond (accepted call) (Ok call) (Err Field) ≡ Ok d
     → call_in accepted fields ≡ Ok (d, rest)
 call_is_in accepted fields bytes call d rest same e allowed =
@@ -41,6 +43,7 @@ refused_too : (b : Bool) (call : CallData) (rest : List ℕ) (d : BlockFault) �
 refused_too true call rest d e = absurd cc
 refused_too false call rest d e = let same : Field ≡ d = cc in ap (λ x. Err x) same
 
+-- a call that is read but not accepted makes the entry's call fail so
 pub call_is_refused : (accepted : CallData → Bool) (fields bytes : List ℕ) (call : CallData) (rest : List ℕ) (d : Failure BlockFault) → bytes ≡ fields → in_block (call_front bytes) ≡ Ok (call, rest)
     → Fails {A = CallData} d (cond (accepted call) (Ok call) (Err Field)) → Fails d (call_in accepted fields)
 call_is_refused accepted fields bytes call rest failure.Memory same e refused = tt

@@ -71,6 +71,7 @@ each_short (s ∷ ss) most within small = All-cons IsStringField s ss (omega ari
 
 -- ---- all fields
 
+-- the fields of a call that breaks no rule of calls are within their limits
 pub fields_fit : (c : CallData) → call_fault c ≡ None → HasSizes c → HasFields c
 fields_fit c e sizes =
     let parts = none_of_both (field_fault c) (programs_fault c) e in

@@ -16,9 +16,11 @@ use Rattle.avm_block.specs.BlockReader.{block_entry_at, block_entries_at}
 pub record ReadsOn (accepted : CallData → Bool) (so_far : List Entry) (before left : ℕ) (rest : List ℕ) (meant : Front BlockFault (List Entry)) : Type 0 where
   pub same : with_front so_far (block_entries_at accepted left before rest) ≡ meant
 
+-- before the first entry none is read, and all are left
 pub begins : (accepted : CallData → Bool) (now : List Entry) (count left : ℕ) (bytes : List ℕ) → now ≡ [] → left ≡ count → ReadsOn accepted now 0 left bytes (block_entries_at accepted count 0 bytes)
 begins accepted now count left bytes e f = record { same = rw (e, f) (none_in_front _) }
 
+-- an entry that is read joins those so far
 pub goes_on : (accepted : CallData → Bool) (so_far now : List Entry) (before left n : ℕ) (rest next : List ℕ) (x : Entry) (meant : Front BlockFault (List Entry))
     → ReadsOn accepted so_far before left rest meant → block_entry_at accepted before rest ≡ Ok (x, next) → now ≡ so_far ++ x ∷ [] → left ≡ suc n → ReadsOn accepted now x.timestamp n next meant
 goes_on accepted so_far now before left n rest next x meant r e pushed less_left = record {
@@ -29,11 +31,13 @@ goes_on accepted so_far now before left n rest next x meant r e pushed less_left
       ∙ r.same);
 }
 
+-- where the next entry can't be read, the entries can't
 pub no_more : (accepted : CallData → Bool) (so_far : List Entry) (before left : ℕ) (rest : List ℕ) (d : Failure BlockFault) (meant : Front BlockFault (List Entry))
     → ReadsOn accepted so_far before left rest meant → Fails d (block_entry_at accepted before rest) → 0 < left → Fails d meant
 no_more accepted so_far before left rest failure.Memory meant r e some = tt
 no_more accepted so_far before zero rest (failure.Fault f) meant r e some = absurd (omega arith)
 no_more accepted so_far before (suc n) rest (failure.Fault f) meant r e some = sym r.same ∙ ap (with_front so_far) (stopped (block_entry_at accepted before rest) f _ e)
 
+-- with none left, the entries so far are all
 pub is_done : (accepted : CallData → Bool) (so_far : List Entry) (before left : ℕ) (rest : List ℕ) (meant : Front BlockFault (List Entry)) → ReadsOn accepted so_far before left rest meant → left ≡ 0 → meant ≡ Ok (so_far, rest)
 is_done accepted so_far before left rest meant r e = sym r.same ∙ ap (λ n. with_front so_far (block_entries_at accepted n before rest)) e ∙ ap (λ xs. Ok (xs, rest)) (append-nil so_far)

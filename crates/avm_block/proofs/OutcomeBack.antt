@@ -46,6 +46,7 @@ why_back why.AlreadyIn rest = then _ _ _ _ (byte_back Truncated 2 rest (omega ar
 why_back why.NotIn rest = then _ _ _ _ (byte_back Truncated 3 rest (omega arith)) refl
 why_back why.IdsEnd rest = then _ _ _ _ (byte_back Truncated 4 rest (omega arith)) refl
 
+-- the number of a refusal is one byte
 pub small_why : (w : Why) → u8_bytes (why_number w) ≡ why_number w ∷ []
 small_why why.NoApp = refl
 small_why why.AlreadyIn = refl
@@ -64,11 +65,13 @@ cause_back cause.Rejected rest h = then _ _ _ _ (byte_back Truncated 1 rest (ome
 cause_back (cause.Faulted f place) rest h =
     then _ _ _ _ (byte_back Truncated 2 (fault_number f ∷ (u16_bytes place ++ rest)) (omega arith)) (then _ _ _ _ (fault_back f place rest h) refl)
 
+-- the spelling of a clearing is 4, and then the bytes of its cause
 pub outcome_of_cause : (c : Cause) (rest : List ℕ) → outcome_bytes (outcome.ClearedAnyway c) ++ rest ≡ 4 ∷ (cause_bytes c ++ rest)
 outcome_of_cause cause.Gone rest = refl
 outcome_of_cause cause.Rejected rest = refl
 outcome_of_cause (cause.Faulted f place) rest = refl
 
+-- an outcome is read back from its spelling, whatever follows
 pub outcome_back : (end : Outcome) (rest : List ℕ) → HasPlace end → outcome_at (outcome_bytes end ++ rest) ≡ Ok (end, rest)
 outcome_back outcome.Approved rest h = then _ _ _ _ (byte_back Truncated 0 rest (omega arith)) refl
 outcome_back outcome.Rejected rest h = then _ _ _ _ (byte_back Truncated 1 rest (omega arith)) refl

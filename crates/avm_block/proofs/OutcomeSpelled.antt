@@ -96,6 +96,7 @@ cause_spelled bytes n x kind e =
     refused : {P : Type 0} (x : Cause × List ℕ) → ◌≡◌ {A = Front BlockFault Cause} (Err Field) (Ok x) → P
     refused x e = absurd cc
 
+-- an outcome that is read is spelled by the bytes read, and its place is within its limit
 pub outcome_spelled : (bytes : List ℕ) (x : Outcome × List ℕ) → AllBytes bytes → outcome_at bytes ≡ Ok x → IsSpelled bytes (outcome_bytes x.0) x.1 × HasPlace x.0
 outcome_spelled bytes x all e =
     from (number_at Truncated w8 bytes) outcome_of_kind x e (λ n en e1.

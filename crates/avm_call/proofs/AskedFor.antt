@@ -69,9 +69,11 @@ stays_there reads x v unknown y u h = by (is_eq (item_cmp y x)) refl
     by true tied = let no : None ≡ Some u = sym unknown ∙ sym (ap (value_in reads) (item_same y x (is_Equal (item_cmp y x) tied))) ∙ h in absurd cc
     by false other = value_there reads x v y false other ∙ h
 
+-- where no items are supplied, none is there that was not asked for
 pub none_asked_for : (call : CallData) (header : Header) → AreAskedFor [] call header
 none_asked_for call header = λ x v e. absurd cc
 
+-- with the item that a call asks for, the items supplied are still asked for
 pub asked_with_answer : (reads : ItemMap) (call : CallData) (header : Header) (x : Item) (v : ItemValue) → AreAskedFor reads call header → answer_from (value_in reads) (call_result call header) ≡ Err x → AreAskedFor (with_item reads x v) call header
 asked_with_answer reads call header x v asked e = λ y u there. by y u (is_eq (item_cmp y x)) refl there
   where

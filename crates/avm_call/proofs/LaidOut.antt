@@ -124,6 +124,7 @@ nexts (suc n) version bytes place ps low high e x i next there read =
 
 -- ---- a branch has three bytes, and its target is another instruction or the end
 
+-- an instruction at x with an offset, and the next one three bytes behind
 pub record IsOffset (x : ℕ) (i : Instr) (next : ℕ) : Type 0 where
   pub offset : ℕ
   pub is_offset : i.immediates ≡ is.Offset offset
@@ -153,6 +154,7 @@ pub record HasTarget (starts : List ℕ) (end target : ℕ) (t : Option ℕ) : T
   pub numbered : number_of_place starts end target ≡ Some number
   pub inside : target ≤ end
 
+-- a branch that passed its tests has a target within the program
 pub branch_found : (starts : List ℕ) (end place next offset : ℕ) (t : Option ℕ) → check.resolved_target starts end place next offset ≡ Ok t → HasTarget starts end (next + offset) t
 branch_found starts end place next offset t e =
     elim (chosen (ltb 32767 offset) _ _ _ e) [
@@ -204,6 +206,7 @@ instr_offset version (code ∷ bytes) y e s =
     let (n, one, two) = opcode_offset (opcode_in version code) bytes y e s in
     (n, one, omega arith)
 
+-- an instruction whose row has an offset is read with one, and has three bytes
 pub read_offset : (version : Version) (bytes : List ℕ) (x : ℕ) (i : Instr) (next : ℕ) → read_at version bytes x ≡ Ok (i, next) → (row_of i.opcode).immediates ≡ shape.Offset → IsOffset x i next
 read_offset version bytes x i next e s =
     let (y, first, last) = bind_ok (instr_at version (drop x bytes)) _ _ e in
@@ -213,6 +216,7 @@ read_offset version bytes x i next e s =
     let behind = same.1 in
     record { offset = n; is_offset = sym (ap (λ (j : Instr). j.immediates) same.0) ∙ one; behind = omega arith }
 
+-- an instruction with a target has an offset, which counts from three bytes behind its place
 pub is_branch : (x : ℕ) (o : Opcode) (m : Immediates) (target : ℕ) → branch_target x o m ≡ Some target → ((row_of o).immediates ≡ shape.Offset) × (x + 3 + offset_of m ≡ target)
 unfolding row_of
 is_branch x op.Bnz m target e = (refl, cc)
@@ -268,6 +272,7 @@ targets (suc n) version bytes place ps low e starts rs w x i next target there r
 
 -- ---- a checked program
 
+-- behind each instruction of a checked program, and at each target, stands another or the end
 pub laid_out : (bytes : List ℕ) (w : WellFormed) → checked bytes ≡ Ok w → IsLaidOut bytes (places w.placed)
 laid_out bytes w e =
     let c = is_checked bytes w e in
@@ -282,6 +287,7 @@ laid_out bytes w e =
     } in
     subst (IsLaidOut bytes) (sym c.same_places) laid
 
+-- the path of a checked program ends, and asks for at most three items for each instruction
 pub checked_steps : (e : Execution) (writes : ItemMap) (w : WellFormed) → checked e.program ≡ Ok w → AsksAtMost Any (3 * length w.placed) HasEnded (path e writes (length w.placed + 1))
 checked_steps e writes w h =
     subst (λ n. AsksAtMost Any (3 * n) HasEnded (path e writes (n + 1))) (length-places w.placed) (steps_are_instructions e writes (places w.placed) (laid_out e.program w h))
@@ -311,6 +317,7 @@ few bytes w e =
     let rises = placed_rises (length bytes) w.version bytes c.start c.bare c.within c.placed in
     record { instructions = omega (arith, count_below_cost w.placed, c.cost, c.cheap); in_bytes = omega (arith, c.same_count, rises.1) }
 
+-- the whole path of a checked program ends, and asks for at most 3 * most_cost items
 pub program_asks : (e : Execution) (writes : ItemMap) (r : Result WellFormed CheckFault) → checked e.program ≡ r → is_ok r ≡ true → AsksAtMost Any (3 * most_cost) HasEnded (whole_path e writes)
 program_asks e writes (Err f) is h = absurd cc
 program_asks e writes (Ok w) is h =

@@ -79,10 +79,12 @@ left_in_all place (s ∷ ss) = count_by_test (left_from place ss) (length ss) (n
 
 -- ---- a step goes to an instruction behind it, or to the end, or faults where it is
 
+-- a program that ends with a fault has it at this place
 abbrev pub FaultsAt : ℕ → Ended → Type 0
 FaultsAt place (ended.Faulted f at) = at ≡ place
 FaultsAt place _ = Unit {0}
 
+-- a step leads to a later instruction or to the end, or ends the program, with a fault only here
 abbrev pub LaidOn : List ℕ → Execution → Position → Result Position Ended → Type 0
 LaidOn starts e p (Ok q) = (p.place < q.place) × (is_start_or_end starts (length e.program) q.place ≡ true)
 LaidOn starts e p (Err end) = FaultsAt p.place end
@@ -104,6 +106,7 @@ stepped_laid e starts laid p i next here is (Ok after) h =
     flow_laid e starts laid p i next here is on.0 on.1 after.flow h.0
 stepped_laid e starts laid p i next here is (Err f) h = refl
 
+-- where a program is laid out, each instruction leads to another or the end, or ends it
 pub executed_laid : (e : Execution) (starts : List ℕ) → IsLaidOut e.program starts → (p : Position) → is_start starts p.place ≡ true
     → (r : Result (Instr × ℕ) CodeFault) → instruction_at e.program p.place ≡ r → AsksAtMost Any 3 (LaidOn starts e p) (executed e p r)
 executed_laid e starts laid p here (Err f) is = refl
@@ -137,6 +140,7 @@ run_laid : (e : Execution) (starts : List ℕ) → IsLaidOut e.program starts �
 run_laid e starts laid zero p here room = absurd (omega arith)
 run_laid e starts laid (suc n) p here room = run_by e starts laid n p room (run_laid e starts laid n) (p.place == length e.program) here
 
+-- a path ends within as many steps as there are instructions, and one more
 pub steps_are_instructions : (e : Execution) (writes : ItemMap) (starts : List ℕ) → IsLaidOut e.program starts → AsksAtMost Any (3 * length starts) HasEnded (path e writes (length starts + 1))
 steps_are_instructions e writes starts laid =
     let p = start e.program writes in
@@ -144,6 +148,7 @@ steps_are_instructions e writes starts laid =
     at_most-more Any (3 * left_from p.place starts) (3 * length starts) HasEnded (path e writes (length starts + 1)) (omega arith)
     (run_laid e starts laid (length starts + 1) p laid.first (omega arith))
 
+-- so the whole path asks for at most three items for each instruction
 pub whole_path_steps : (e : Execution) (writes : ItemMap) (starts : List ℕ) → IsLaidOut e.program starts → length starts ≤ length e.program → AsksAtMost Any (3 * length starts) HasEnded (whole_path e writes)
 whole_path_steps e writes starts laid short =
     let p = start e.program writes in

@@ -161,12 +161,15 @@ call_little look call header =
     subst (IsLittle look call) (sym (result_over-and_then look (admitted call) (goes_on call header)))
     (goes_on_little look call header (result_over look (admitted call)) (is_admitted look call))
 
+-- a call that isn't approved writes nothing but the removal of a local state that it clears
 pub unapproved_writes : UnapprovedWritesLittle
 unapproved_writes look call header = (call_little look call header).writes
 
+-- a call that clears is never rejected or faulted, and another is never cleared anyway
 pub ends_by_completion : EndsByCompletion
 ends_by_completion look call header = (call_little look call header).kind
 
+-- the changes on a ledger of a call that isn't approved are what it writes
 pub unapproved_changes : UnapprovedChangesLittle
 unapproved_changes l call header other = (call_little (at l) call header).changes other ∙ (call_little (at l) call header).writes other
 
@@ -180,6 +183,7 @@ writes_keep l call o keeps = at_kind (clears call.completion)
     at_kind true = rules_stay l (sender_item call (application_of (at l) call)) value.Absent keeps tt
     at_kind false = keeps
 
+-- a call that isn't approved leaves the ledger with its rules kept
 pub unapproved_keeps : UnapprovedKeepsRules
 unapproved_keeps l call header keeps other =
     subst (λ w. KeepsRules (put l w)) (sym (unapproved_changes l call header other)) (writes_keep l call (outcome_on l call header) keeps)

@@ -93,6 +93,7 @@ programs_back c rest has =
 
 -- ---- the call
 
+-- a call with fields within their sizes is read from its bytes, whatever stands behind them
 pub call_back : (c : CallData) (rest : List ℕ) → HasFields c → call_front (call_bytes c ++ rest) ≡ Ok (c, rest)
 call_back c rest has =
     let programs = programs_bytes c ++ rest in
@@ -101,6 +102,7 @@ call_back c rest has =
     ap call_front (four (terms_bytes c) (target_bytes c) (lists_bytes c) (programs_bytes c) rest)
     ∙ then _ _ _ _ (terms_back c target has) (then _ _ _ _ (target_back c lists has) (then _ _ _ _ (lists_back c programs has) (then _ _ _ _ (programs_back c rest has) refl)))
 
+-- a call with fields within their sizes is what its bytes are read as
 pub call_back_alone : (c : CallData) → HasFields c → call_at (call_bytes c) ≡ Ok c
 call_back_alone c has =
     ap call_at (sym (append-nil (call_bytes c))) ∙ then (call_front (call_bytes c ++ [])) (c, []) (alone Rest) (Ok c) (call_back c [] has) refl
@@ -109,12 +111,14 @@ behind : (before rest : List ℕ) → drop (length before) (before ++ rest) ≡ 
 behind [] rest = refl
 behind (x ∷ before) rest = behind before rest
 
+-- such a call is read at a place of longer bytes, and the next place is where its bytes end
 pub call_back_from : (before : List ℕ) (c : CallData) (rest : List ℕ) → HasFields c → call_from (before ++ (call_bytes c ++ rest)) (length before) ≡ Ok (c, length before + length (call_bytes c))
 call_back_from before c rest has =
     let front : call_front (drop (length before) (before ++ (call_bytes c ++ rest))) ≡ Ok (c, rest) = ap call_front (behind before (call_bytes c ++ rest)) ∙ call_back c rest has in
     let next : length (before ++ (call_bytes c ++ rest)) - length rest ≡ length before + length (call_bytes c) = omega (arith, length-append before (call_bytes c ++ rest), length-append (call_bytes c) rest) in
     then _ _ _ _ front (ap (λ n. Ok (c, n)) next)
 
+-- no bytes begin with the spellings of two different calls with fields within their sizes
 pub none_begins : (c d : CallData) (x y : List ℕ) → HasFields c → HasFields d → call_bytes c ++ x ≡ call_bytes d ++ y → (c ≡ d) × (x ≡ y)
 none_begins c d x y has has' e =
     let same = sym (call_back c x has) ∙ ap call_front e ∙ call_back d y has' in

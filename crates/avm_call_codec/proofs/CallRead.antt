@@ -20,10 +20,12 @@ AreBytes bytes = (i : ℕ) → get_or bytes i 0 < 256
 all_below : (bytes : List ℕ) → AreBytes bytes → All (λ b. b < 256) bytes
 all_below bytes below = All-from_get_or (λ b. b < 256) bytes 0 (λ i lt. below i)
 
+-- a call that is read is spelled by those very bytes
 pub spelling_of : {X : Type 0} (view : X → CallData) (bytes : List ℕ) (r : Result X (Failure CallDataFault)) → ((i : ℕ) → get_or bytes i 0 < 256) → Gives view r (call_at bytes) → IfOk r (λ call. call_bytes (view call) ≡ bytes)
 spelling_of view bytes (Ok call) below e = (call_spells bytes (view call) (all_below bytes below) e).0
 spelling_of view bytes (Err d) below e = tt
 
+-- bytes of a call with fields within their sizes are read as it, unless memory is refused
 pub only_its_call : {X : Type 0} (view : X → CallData) (bytes : List ℕ) (r : Result X (Failure CallDataFault)) (call : CallData) → Gives view r (call_at bytes) → HasFields call → bytes ≡ call_bytes call → Gives view r (Ok call)
 only_its_call view bytes r call given fields e = subst (λ m. Gives view r m) (ap call_at e ∙ call_back_alone call fields) given
 
@@ -36,6 +38,7 @@ some_bytes : (call : CallData) → 0 < length (call_bytes call)
 some_bytes call = ends_in_some _ (programs_bytes call)
     (ends_in_some (string_bytes call.approval ++ string_bytes call.clear ++ schema_bytes call.global_schema) (schema_bytes call.local_schema) (omega arith))
 
+-- fewer bytes stand behind a call than where it begins
 pub rest_shorter : (bytes : List ℕ) (place : ℕ) (here : List ℕ) (call : CallData) (rest : List ℕ) → ((i : ℕ) → get_or bytes i 0 < 256) → here ≡ drop place bytes → call_front here ≡ Ok (call, rest) → length rest < length here
 rest_shorter bytes place here call rest below is e =
     let read : call_front (drop place bytes) ≡ Ok (call, rest) = ap call_front (sym is) ∙ e in

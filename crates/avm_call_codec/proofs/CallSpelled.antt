@@ -219,6 +219,7 @@ call_spelled bytes x all e =
       };
     })))))
 
+-- a call that is read is spelled by the first bytes, and its fields are within their sizes
 pub front_spells : (bytes : List ℕ) (c : CallData) (rest : List ℕ) → All (λ b. b < 256) bytes → call_front bytes ≡ Ok (c, rest) → (call_bytes c ++ rest ≡ bytes) × HasFields c
 front_spells bytes c rest all e =
     let r = call_spelled bytes (c, rest) (all_bytes bytes all) e in
@@ -228,6 +229,7 @@ at_end : (c d : CallData) (rest : List ℕ) (b : Bool) → eqb (length rest) 0 �
 at_end c d rest true test e = (same_value _ _ e, nil_from_length rest (eqb-true (length rest) 0 test))
 at_end c d rest false test e = absurd cc
 
+-- a call that the bytes are is spelled by all of them, and its fields are within their sizes
 pub call_spells : (bytes : List ℕ) (c : CallData) → All (λ b. b < 256) bytes → call_at bytes ≡ Ok c → (call_bytes c ≡ bytes) × HasFields c
 call_spells bytes c all e =
     from (call_front bytes) (alone Rest) c e (λ f ef e1.
@@ -248,6 +250,7 @@ left_behind bytes xs rest e =
     let at : length bytes - length rest ≡ length xs = omega (arith, ap length e, length-append xs rest) in
     ap (λ n. drop n bytes) at ∙ ap (drop (length xs)) e ∙ drop_length xs rest
 
+-- a call read at a place is spelled from there to the next place, with fields within their sizes
 pub place_spells : (bytes : List ℕ) (place : ℕ) (c : CallData) (next : ℕ) → All (λ b. b < 256) bytes → call_from bytes place ≡ Ok (c, next) → (call_bytes c ++ drop next bytes ≡ drop place bytes) × HasFields c
 place_spells bytes place c next all e =
     from (call_front (drop place bytes)) _ (c, next) e (λ f ef e1.

@@ -58,6 +58,7 @@ module _ (l : Ledger) (call : CallData) (header : Header) where
 
   -- ---- one step more
 
+  -- where an instruction comes next, one step more can be made
   pub go_on : (n : ℕ) → CanGo l call header n → HasNext l call header n → CanGo l call header (n + 1)
   go_on n can next m lt =
       elim (cases_lt m n) [
@@ -89,6 +90,7 @@ module _ (l : Ledger) (call : CallData) (header : Header) where
   made_by steps (Some f) n after counted can over (inl moved) = absurd (over (subst (HasNext l call header) counted moved.instruction))
   made_by steps (Some f) n after counted can over (inr faulted) = absurd (over (subst (HasNext l call header) counted faulted.instruction))
 
+  -- a step that is made is one more
   pub made_more : (n : ℕ) (now after : Option Debugged) → HasMade l call header n now → StepsTo now after (Ok tt) → HasMade l call header (n + 1) after
   made_more n now after h steps = made_by h.steps h.fault n after h.counted h.can_go h.over (subst (λ m. StepsTo m after (Ok tt)) h.is steps)
 
@@ -100,6 +102,7 @@ module _ (l : Ledger) (call : CallData) (header : Header) where
 
 -- ---- in the entry of a block
 
+-- a debugger that was opened has made no step
 pub come_first : (base : Ledger) (b : Block) (number : ℕ) (d : Option Debugged) → IsOpened base b number d → HasCome base b number 0 d
 come_first base b number d o = record {
   entry = o.entry;
@@ -109,6 +112,7 @@ come_first base b number d o = record {
   made = record { steps = 0; fault = None; is = o.now; counted = refl; can_go = λ n lt. absurd (omega (arith, lt)); over = tt };
 }
 
+-- a step that is made is one more
 pub come_more : (base : Ledger) (b : Block) (number n : ℕ) (now after : Option Debugged) → HasCome base b number n now → StepsTo now after (Ok tt) → HasCome base b number (n + 1) after
 come_more base b number n now after h steps = record {
   entry = h.entry;
@@ -118,6 +122,7 @@ come_more base b number n now after h steps = record {
   made = made_more (ledger_before base b h.entry) h.entry.call b.header n now after h.made steps;
 }
 
+-- where the program ends before so many steps, it is said to have ended
 pub come_ended : (base : Ledger) (b : Block) (number n steps : ℕ) (now after : Option Debugged) → HasCome base b number n now → n < steps → StepsTo now after (Err (failure.Fault fault.Ended)) → IsEnded base b number steps
 come_ended base b number n steps now after h lt refused = record {
   entry = h.entry;
@@ -129,6 +134,7 @@ come_ended base b number n steps now after h lt refused = record {
 
 -- ---- the answer
 
+-- the text that is shown after so many steps is what is found
 pub come_shown : (base : Ledger) (b : Block) (number steps : ℕ) (now : Option Debugged) (text : List ℕ) → HasCome base b number steps now → ShowsText now text → FindsText (base, b) number steps text
 come_shown base b number steps now text h shows =
     let made = h.made in
@@ -144,5 +150,6 @@ come_shown base b number steps now text h shows =
       is,
     )
 
+-- a reply with the text that is found is the reply to the command
 pub found_shown : (input : Ledger × Block) (number steps : ℕ) (text : List ℕ) (reply : Reply) → FindsText input number steps text → reply ≡ record { text = text; status = succeeded } → IsFoundReply number steps (Ok input) reply
 found_shown input number steps text reply (v, found, is) shown = (Ok v, found, shown ∙ ap (λ t. record { text = t; status = succeeded }) is)

@@ -20,6 +20,7 @@ pub record IsMetLive (s : Store) (number timestamp : ℕ) (call : CallData) (l :
   pub before : l ≡ ledger_of_store s (timestamp - 1)
   pub same_header : header ≡ s.header
 
+-- a debugger before the first instruction of a met call's program is opened from the store
 pub opens_live : (s : Store) (number timestamp : ℕ) (call : CallData) (l : Ledger) (header : Header) (r : Result (Option Debugged) (Failure OpenFault)) → IsMetLive s number timestamp call l header
     → IfOk r (λ d. d ≡ first_of l call header) → IfOk r (λ d. HasProgram l call) → IfOk r (λ d. IsOpenedLive s number d)
 opens_live s number timestamp call l header (Ok d) met is program = record {

@@ -13,6 +13,7 @@ use Rattle.clap.proofs.OnLiterals.{clap_on_literals}
 use Rattle.avm_input.specs.CommandLine.{command_among, command_line, command_named, unless_faulty}
 
 module _ {A B : Type 0} where
+  -- a pair that may be missing is known from its two halves
   pub pair_from : (o : Option (A × B)) (a : A) (b : B) → Some a ≡ option_map (λ p. p.0) o → Some b ≡ option_map (λ p. p.1) o → o ≡ Some (a, b)
   pair_from None a b e f = absurd cc
   pair_from (Some (x, y)) a b e f = cc
@@ -22,6 +23,7 @@ module _ {A B : Type 0} where
   no_pair_from (Some p) e = absurd cc
 
 module _ {Z : Type 0} where
+  -- a subcommand's options are found under its own name
   pub subcommand_rows-name : (o : Option (Box SubCommand Z))
       → option_map (λ b. (out-SubCommand (box_value b)).name.now) o ≡ option_map (λ found. found.0) (subcommand_rows o)
   subcommand_rows-name None = refl
@@ -47,6 +49,7 @@ unless_faulty-HasKind [] e value (inl h) other = absurd (other h)
 unless_faulty-HasKind [] e value (inr h) other = absurd h
 unless_faulty-HasKind (k ∷ ks) e value h other = refl
 
+-- words without a fault name the command of their subcommand, others name none
 pub command_among-found : (commands : App) (words : List Text) (rows : Option (Text × List Row)) (name : Text) (options : List Row)
     → fault_of commands words ≡ [] → rows ≡ subcommand_of commands words → rows ≡ Some (name, options)
     → command_named name options ≡ command_among commands words

@@ -45,6 +45,7 @@ lines_first bytes some =
       | inr le ↦ last_line bytes some (omega (arith, prefix_len-le-length (λ x. not (is_line_feed x)) bytes))
     ]
 
+-- a blank first line is counted and left out, any other comes first of the lines
 pub blank_first : (before : ℕ) (bytes text rest : List ℕ) → 0 < length bytes → text ≡ line_text bytes → rest ≡ drop (line_len bytes + 1) bytes → list_all is_blank text ≡ true
     → lines_after before (lines bytes) ≡ lines_after (before + 1) (lines rest)
 blank_first before bytes text rest some text-is rest-is blank =
@@ -55,9 +56,11 @@ pub digits_first : (before : ℕ) (bytes text rest : List ℕ) → 0 < length by
 digits_first before bytes text rest some text-is rest-is other =
     ap (lines_after before) (lines_first bytes some) ∙ rw (← text-is, ← rest-is, other) refl
 
+-- fewer bytes are left behind the first line
 pub fewer_behind : (bytes rest : List ℕ) → 0 < length bytes → rest ≡ drop (line_len bytes + 1) bytes → length rest < length bytes
 fewer_behind bytes rest some e = rw e (omega (arith, length-drop (line_len bytes + 1) bytes))
 
+-- where no bytes are left, no lines are
 pub none_left : (before : ℕ) (bytes : List ℕ) → eqb (length bytes) 0 ≡ true → lines_after before (lines bytes) ≡ []
 none_left before bytes e = let none : bytes ≡ [] = nil_from_length bytes (eqb-true (length bytes) 0 e) in rw none refl
 

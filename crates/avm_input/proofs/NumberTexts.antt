@@ -45,6 +45,7 @@ read_text : {E : Type 0} (gives : Text → Result ℕ E → Type 0) (text : Text
 read_text gives text (Some n) parses h = let p = parses (Ok n) h in rw (u64_true (without_leading_plus text) p.0, p.1) refl
 read_text gives text None parses h = let none = u64_none (without_leading_plus text) _ refl (parses (Err h.0) h.1) in rw none refl
 
+-- the number read from a text, if there is one, is the text's 64-bit number
 pub u64_read : {E : Type 0} (gives : Text → Result ℕ E → Type 0) (text : Option Text) (r : Option ℕ) → ((t : Text) (s : Result ℕ E) → gives t s → ParsesUnsigned 64 10 t s)
     → (text ≡ None → r ≡ None) → ((t : Text) → text ≡ Some t → ReadsOne gives t r) → r ≡ option_and_then u64_of text
 u64_read gives None r parses none some = none refl

@@ -167,6 +167,7 @@ block_more digits numbers old bytes start before most are written was = record {
       ];
 }
 
+-- at first no pair of digits is read
 pub none_read : (digits bytes : List ℕ) → AreRead digits bytes 0 0
 none_read digits bytes = record { read = λ k lt. absurd (omega (arith, lt)); bound = λ k lt. absurd (omega (arith, lt)); one = inl refl }
 

@@ -14,6 +14,7 @@ abbrev all_small : List ℕ → Bool
 all_small [] = true
 all_small (x ∷ xs) = nat_lt x 128 && all_small xs
 
+-- the digits of joined bytes are their digits joined
 pub digits_joined : (xs ys : List ℕ) → encode_lower (xs ++ ys) ≡ encode_lower xs ++ encode_lower ys
 unfolding encode_with
 digits_joined [] ys = refl
@@ -31,6 +32,7 @@ rest_digits b a c bytes digits n are = record {
     shift_one : (k : ℕ) → suc (suc (2 * k + 1)) ≡ 2 * suc k + 1
     shift_one k = omega arith
 
+-- digits that are written for every byte are those of the bytes
 pub all_digits : (bytes digits : List ℕ) → length digits ≡ 2 * length bytes → AreDigits bytes digits (length bytes) → digits ≡ encode_lower bytes
 unfolding encode_with
 all_digits [] [] e are = refl
@@ -57,6 +59,7 @@ byte_more old one new high low byte back rest all added then high_is low_is is w
     ap (λ xs. xs ++ encode_lower back) (then ∙ ap (λ xs. xs ++ low ∷ []) added) ∙ append_assoc (old ++ high ∷ []) (low ∷ []) (encode_lower back) ∙ append_assoc old (high ∷ []) (low ∷ encode_lower back)
     ∙ ap (λ xs. old ++ xs) (rw (high_is, low_is) refl) ∙ ap (λ xs. old ++ encode_lower xs) (sym is) ∙ was
 
+-- once no bytes are left, all digits are written
 pub no_more : (old rest all : List ℕ) → length rest ≡ 0 → old ++ encode_lower rest ≡ all → old ≡ all
 unfolding encode_with
 no_more old [] all e was = sym (append-nil old) ∙ was

@@ -1,6 +1,7 @@
 -- Bytes appended part by part.
 use Rattle.std.proofs.Common.{◌≡◌, ℕ, List, ◌++◌, ap, ◌∙◌, append_assoc}
 
+-- a part that is appended stands behind the parts appended before
 pub more : (old parts part before now : List ℕ) → before ≡ old ++ parts → now ≡ before ++ part → now ≡ old ++ (parts ++ part)
 more old parts part before now so_far appended = appended ∙ ap (λ xs. xs ++ part) so_far ∙ append_assoc old parts part
 

@@ -7,10 +7,12 @@ use Rattle.avm_items.specs.Asks.{Ask, Gives, Asks, and_then, answer_at, answer_f
 use Rattle.avm_items.specs.Locality.{Extends}
 use Rattle.avm_items.specs.Counting.{AsksAtMost, Any}
 
+-- a bound on how many items are asked for may be raised
 pub at_most-more : {A : Type 0} (F : ItemValue → Type 0) (n m : ℕ) (P : A → Type 0) (t : Ask A) → n ≤ m → AsksAtMost F n P t → AsksAtMost F m P t
 at_most-more F n m P (Gives a) l h = h
 at_most-more F n m P (Asks x f) l h = (omega (arith, h.0), λ v fits. at_most-more F (n - 1) (m - 1) P (f v) (omega arith) (h.1 v fits))
 
+-- one part after another asks for at most as many items as both bounds together
 pub at_most-then : {A B : Type 0} (F : ItemValue → Type 0) (n m : ℕ) (P : A → Type 0) (Q : B → Type 0) (t : Ask A) (f : A → Ask B) → AsksAtMost F n P t → ((a : A) → P a → AsksAtMost F m Q (f a)) → AsksAtMost F (n + m) Q (and_then t f)
 at_most-then F n m P Q (Gives a) f h g = at_most-more F m (n + m) Q (f a) (omega arith) (g a h)
 at_most-then F n m P Q (Asks x k) f h g =
@@ -54,6 +56,7 @@ at_more F n P y f g (Some u) p w all next h = subst (λ o. AsksAtMost F n P (rem
 at_more F n P y f g None (Some u) w all next h = at_most-more F (n - 1) n P (g u) (omega arith) (next (n - 1) u (h.1 u (all u refl)))
 at_more F n P y f g None None w all next h = (h.0, λ u fits. next (n - 1) u (h.1 u fits))
 
+-- where more is known, no more items are left to ask for
 pub at_most-as_known : {A : Type 0} (F : ItemValue → Type 0) (n : ℕ) (P : A → Type 0) (k m : Known) → Extends k m → ((y : Item) (u : ItemValue) → m y ≡ Some u → F u) → (t : Ask A) → AsksAtMost F n P (remaining_questions k t) → AsksAtMost F n P (remaining_questions m t)
 at_most-as_known F n P k m w all (Gives a) h = h
 at_most-as_known F n P k m w all (Asks y f) h = at_more F n P y _ _ (k y) (m y) (w.same y) (all y) (λ i u. at_most-as_known F i P k m w all (f u)) h

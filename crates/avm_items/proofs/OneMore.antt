@@ -10,6 +10,7 @@ use Rattle.avm_items.specs.Items.{ItemMap, Look, item_cmp, value_in, with_item}
 use Rattle.avm_items.specs.Locality.{LookAgrees, Extends}
 use Rattle.avm_items.proofs.Puts.{item_same, item_total}
 
+-- two items are the same or do not tie
 pub same_or_other : {P : Type 0} (x y : Item) → (y ≡ x → P) → (is_eq (item_cmp y x) ≡ false → P) → P
 same_or_other {P = P} x y same other = by (is_eq (item_cmp y x)) refl
   where
@@ -17,9 +18,11 @@ same_or_other {P = P} x y same other = by (is_eq (item_cmp y x)) refl
     by true e = same (item_same y x (is_Equal (item_cmp y x) e))
     by false e = other e
 
+-- an item that was added has the value it was added with
 pub is_there : (items : ItemMap) (x : Item) (v : ItemValue) → value_in (with_item items x v) x ≡ Some v
 is_there items x v = lookup-inserted item_total x v items
 
+-- what is known stays known when an unknown item is added
 pub still_known : (items : ItemMap) (x : Item) (v : ItemValue) → value_in items x ≡ None → Extends (value_in items) (value_in (with_item items x v))
 still_known items x v none = record {
   same = λ y u e.
@@ -27,6 +30,7 @@ still_known items x v none = record {
       (λ other. lookup-inserted_other item_total y x v items other ∙ e);
 }
 
+-- an item that was unknown makes the map one entry longer
 pub one_longer : (items : ItemMap) (x : Item) (v : ItemValue) → value_in items x ≡ None → length (with_item items x v) ≡ length items + 1
 one_longer [] x v none = refl
 one_longer (e ∷ es) x v none = by (item_cmp x e.0) none (one_longer es x v)
@@ -36,6 +40,7 @@ one_longer (e ∷ es) x v none = by (item_cmp x e.0) none (one_longer es x v)
     by Equal n h = absurd cc
     by Greater n h = omega (arith, h n)
 
+-- a ledger that has all known values and that of an added item has all that are known then
 pub agrees_after : (items : ItemMap) (x : Item) (v : ItemValue) (look : Look) → look x ≡ v → LookAgrees (value_in items) look → LookAgrees (value_in (with_item items x v)) look
 agrees_after items x v look is old = record {
   at = λ y u e.

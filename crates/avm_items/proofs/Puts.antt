@@ -50,6 +50,7 @@ row_of_with_row : (a : Option StoredApplication) (row : Application) → value.A
 row_of_with_row None row = refl
 row_of_with_row (Some app) row = refl
 
+-- an item that is set to a value it may have has that value
 pub has_what_was_put : (l : Ledger) (x : Item) (v : ItemValue) → IsInOrder l → MaySet l x v → at (put_one l x v) x ≡ v
 has_what_was_put l item.NextApp (value.NextApp id) o m = refl
 has_what_was_put l (item.App id) (value.App row) o m = ap row_value (set_application l id (with_row (application_at l id) row)) ∙ row_of_with_row (application_at l id) row
@@ -73,6 +74,7 @@ state_set_in_order l id change keeps o None e = o
 state_set_in_order l id change keeps o (Some app) e =
     with_application_in_order l id (record app { state = change app.state }) o (keeps app.state (o.global_states id app e))
 
+-- the maps of a ledger stay in order when an item is set
 pub stays_in_order : (l : Ledger) (x : Item) (v : ItemValue) → IsInOrder l → IsInOrder (put_one l x v)
 stays_in_order l item.NextApp (value.NextApp id) o = record { applications = o.applications; global_states = o.global_states; local_states = o.local_states }
 stays_in_order l (item.App id) (value.App row) o = with_application_in_order l id (with_row (application_at l id) row) o (row_in_order l id row o (application_at l id) refl)
@@ -89,6 +91,7 @@ stays_in_order l x v o = o
 
 -- ---- two ledgers with the same items
 
+-- the value of a key, or a local state, is determined by the value of its item
 pub key_values : (a b : Option Value) → key_value a ≡ key_value b → a ≡ b
 key_values None None e = refl
 key_values None (Some w) e = absurd cc
@@ -101,6 +104,7 @@ local_values None (Some t) e = absurd cc
 local_values (Some s) None e = absurd cc
 local_values (Some s) (Some t) e = ap Some (cc)
 
+-- an application is the same in two ledgers where its row and its keys have the same values
 pub same_application : (l m : Ledger) (id : ℕ) → IsInOrder l → IsInOrder m → (a b : Option StoredApplication) → application_at l id ≡ a → application_at m id ≡ b
     → row_value a ≡ row_value b → (is_none b ≡ false → (key : List ℕ) → entry_value a key ≡ entry_value b key) → a ≡ b
 same_application l m id o p None None d e rows entries = refl
@@ -115,6 +119,7 @@ same_application l m id o p (Some a) (Some b) d e rows entries =
 next_ids : {n m : ℕ} → value.NextApp n ≡ value.NextApp m → n ≡ m
 next_ids e = cc
 
+-- two ledgers in order are the same where each item has the same value in both
 pub is_its_items : (l m : Ledger) → IsInOrder l → IsInOrder m → ((x : Item) → at l x ≡ at m x) → l ≡ m
 is_its_items l m o p same =
     let next : l.next_id ≡ m.next_id = next_ids (same item.NextApp) in
@@ -129,6 +134,7 @@ is_its_items l m o p same =
 pub item_total : IsTotalOrder item_cmp
 item_total = on_total sort_key nat_list_cmp_total
 
+-- items that do not tie are different
 pub differ : (x y : Item) → is_eq (item_cmp y x) ≡ false → y ≡ x → ⊥
 differ x y n e = let same : is_eq (item_cmp y x) ≡ true = ap (λ z. is_eq (item_cmp z x)) e ∙ ap is_eq (tied_itself item_total x) in cc
 
@@ -136,12 +142,14 @@ apart : (b : Bool) → (b ≡ true → ⊥) → b ≡ false
 apart true h = absurd (h refl)
 apart false h = refl
 
+-- different ids do not tie
 pub ids_apart : (other id : ℕ) → (other ≡ id → ⊥) → is_eq (nat_cmp other id) ≡ false
 ids_apart other id h = apart (is_eq (nat_cmp other id)) (λ e. h (nat_cmp-IsAntisymmetric other id (is_Equal (nat_cmp other id) e)))
 
 not_the_id : (other id : ℕ) → (other == id) ≡ false → is_eq (nat_cmp other id) ≡ false
 not_the_id other id h = ids_apart other id (λ e. let same : (other == id) ≡ true = eq-eqb other id e in cc)
 
+-- different accounts with applications do not tie
 pub accounts_apart : (x y : Address × ℕ) → (y ≡ x → ⊥) → is_eq (account_cmp y x) ≡ false
 accounts_apart x y h = apart (is_eq (account_cmp y x)) (λ e. h (account_same y x (is_Equal (account_cmp y x) e)))
 
@@ -149,6 +157,7 @@ accounts_apart x y h = apart (is_eq (account_cmp y x)) (λ e. h (account_same y 
 pub other_application : (l : Ledger) (id other : ℕ) (app : StoredApplication) → is_eq (nat_cmp other id) ≡ false → application_at (with_application l id app) other ≡ application_at l other
 other_application l id other app n = lookup-inserted_other nat_cmp_total other id app l.applications n
 
+-- another application, after one is taken away
 pub other_without : (l : Ledger) (id other : ℕ) → is_eq (nat_cmp other id) ≡ false → application_at (without_application l id) other ≡ application_at l other
 other_without l id other n = lookup-removed_other nat_cmp_total other id l.applications n
 
@@ -212,6 +221,7 @@ next_keeps l m apps locals (item.Counts other) n = ap (λ a. counts_value (looku
 next_keeps l m apps locals (item.Key other key) n = ap (λ a. entry_value (lookup (is_at (nat_cmp other)) a) key) apps
 next_keeps l m apps locals (item.Local who other) n = ap (λ states. local_value (lookup (is_at (account_cmp (who, other))) states)) locals
 
+-- a put leaves the value of each other item that does not change with the one put
 pub keeps_others : (l : Ledger) (x y : Item) (v : ItemValue) → is_eq (item_cmp y x) ≡ false → changes_with x y ≡ false → at (put_one l x v) y ≡ at l y
 keeps_others l item.NextApp y (value.NextApp id) n c = next_keeps l (record l { next_id = id }) refl refl y n
 keeps_others l (item.App id) y (value.App row) n c =
@@ -230,6 +240,7 @@ keeps_others l x y v n c = refl
 
 -- ---- many puts
 
+-- lists that are the same have the same first element and the same rest
 pub heads : {x y : ℕ} {xs ys : List ℕ} → x ∷ xs ≡ y ∷ ys → (x ≡ y) × (xs ≡ ys)
 heads e = (cc, cc)
 
@@ -253,6 +264,7 @@ keys_same (item.Local who a) (item.Local other b) e =
     λ i. item.Local (account i) (both.1 i)
 keys_same x y e = absurd (omega (arith, (heads e).0))
 
+-- items that tie are the same
 pub item_same : (x y : Item) → item_cmp x y ≡ Equal → x ≡ y
 item_same x y e = keys_same x y (byte_same (sort_key x) (sort_key y) e)
 
@@ -314,6 +326,7 @@ entry_by l e es x o above m c d true same =
     ap (λ found. unwrap_or found (at (put_one l e.0 e.1) x)) none ∙ ap (at (put_one l e.0 e.1)) is ∙ was_put l e.0 e.1 o (subst (λ z. is_counts z ≡ false) is c) m
 entry_by l e es x o above m c d false apart = ap (unwrap_or (value_in es x)) (keeps_under l e.0 e.1 x apart c d)
 
+-- after allowed puts an item has the value put, or else its old one, unless counts or deleted
 pub has_what_was_put_last : (l : Ledger) (items : ItemMap) (x : Item) → IsInOrder l → IsStrictlySortedBy item_cmp (keys_of items) → MayPutAll l items
     → is_counts x ≡ false → is_deleted_by items x ≡ false → at (put l items) x ≡ unwrap_or (value_in items x) (at l x)
 unfolding IsStrictlySortedBy

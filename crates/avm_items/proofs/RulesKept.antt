@@ -101,6 +101,7 @@ fewer None n = (omega arith, omega arith)
 fewer (Some (Uint m)) n = (omega arith, omega arith)
 fewer (Some (Bytes s)) n = (omega arith, omega arith)
 
+-- a state within its schema stays within it when a key is deleted
 pub state_deleted : (limit : Schema) (state : Entries) (key : List ℕ) → IsStateIn (room_of_schema limit) state → IsStateIn (room_of_schema limit) (without_entry state key)
 state_deleted limit state key is =
     let counts : counts_in (without_entry state key) ≡ uncounted (value_of_key state key) (counts_in state) = follow_deletes state key in
@@ -242,6 +243,7 @@ row_put l id row keeps may =
     keeps_with_application l id (with_row (application_at l id) row) keeps may.application
     (subst (λ r. All (λ e. e.0.1 ≡ id → IsStateIn (room_of_schema r.local_schema) e.1) l.local_states) (sym (same_row (application_at l id) row)) may.local_states)
 
+-- a ledger that keeps the rules keeps them after a put that they allow
 pub rules_stay : (l : Ledger) (x : Item) (v : ItemValue) → KeepsRules l → MayKeep l x v → KeepsRules (put_one l x v)
 rules_stay l item.NextApp (value.NextApp id) keeps may = next_raised l id keeps may.0 may.1
 rules_stay l (item.App id) (value.App row) keeps may = row_put l id row keeps may
@@ -254,10 +256,12 @@ rules_stay l (item.Local who id) (value.Local state) keeps may = local_put l who
 rules_stay l (item.Local who id) value.Absent keeps may = local_removed l who id keeps
 rules_stay l _ _ keeps may = keeps
 
+-- a ledger that keeps the rules keeps them after many puts, each allowed where it is made
 pub all_stay : (l : Ledger) (items : ItemMap) → KeepsRules l → MayKeepAll l items → KeepsRules (put l items)
 all_stay l [] keeps may = keeps
 all_stay l (e ∷ es) keeps may = all_stay (put_one l e.0 e.1) es (rules_stay l e.0 e.1 keeps may.0) may.1
 
+-- the ledger without applications keeps the rules
 pub empty_keeps : KeepsRules empty_ledger
 unfolding IsStrictlySortedBy
 empty_keeps = record {

@@ -12,6 +12,7 @@ use Rattle.avm_items.specs.declared.item.Item.{Item}
 use Rattle.avm_items.specs.Items.{item_cmp}
 use Rattle.avm_items.proofs.Puts.{item_total}
 
+-- items that are the same tie
 pub item_ties : (x y : Item) → x ≡ y → item_cmp x y ≡ Equal
 item_ties x y same = ap (item_cmp x) (sym same) ∙ tied_itself item_total x
 
@@ -29,6 +30,7 @@ any_default [] i d e within = absurd (omega arith)
 any_default (x ∷ xs) zero d e within = refl
 any_default (x ∷ xs) (suc i) d e within = any_default xs i d e (omega (arith, within))
 
+-- lists with the same first n elements and the same next one have the same first n + 1
 pub next_alike : {A : Type 0} (xs ys : List A) (n : ℕ) (x y : A) → n < length xs → length xs ≡ length ys → x ≡ get_or xs n x → y ≡ get_or ys n y → x ≡ y
     → ((i : ℕ) → i < n → (d : A) → get_or xs i d ≡ get_or ys i d) → (i : ℕ) → i < n + 1 → (d : A) → get_or xs i d ≡ get_or ys i d
 next_alike xs ys n x y within count x_is y_is same before i h d = by (i == n) refl
@@ -39,6 +41,7 @@ next_alike xs ys n x y within count x_is y_is same before i h d = by (i == n) re
         ap (λ j. get_or xs j d) e ∙ any_default xs n d x within ∙ sym x_is ∙ same ∙ y_is ∙ any_default ys n y d (subst (λ m. n < m) count within) ∙ ap (λ j. get_or ys j d) (sym e)
     by false is = before i (grind (arith, is, h)) d
 
+-- byte strings that are found not to differ are the same
 pub same_bytes : (xs ys : List ℕ) (differ : Bool) → differ ≡ false → differ ≡ not (pointwise nat_eq xs ys) → xs ≡ ys
 same_bytes xs ys differ none is = (bytes_eq-Decides xs ys).0 (turn (pointwise nat_eq xs ys) (sym is ∙ none))
   where
@@ -46,5 +49,6 @@ same_bytes xs ys differ none is = (bytes_eq-Decides xs ys).0 (turn (pointwise na
     turn true e = refl
     turn false e = absurd cc
 
+-- addresses are the same exactly where their bytes are
 pub address-Decides : (a b : Address) → Decides (are_same_bytes a.0 b.0) (a ≡ b)
 address-Decides a b = let d = bytes_eq-Decides a.0 b.0 in (λ t. address_is a b (d.0 t), λ e. d.1 (ap (λ (x : Address). x.0) e))

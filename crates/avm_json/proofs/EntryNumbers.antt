@@ -23,6 +23,7 @@ all_digits : (ds : List ℕ) → list_all is_digit ds ≡ true → AllDigits 10 
 all_digits [] e = tt
 all_digits (c ∷ cs) e = let (first, more) = both (is_digit c) (list_all is_digit cs) e in (below_is first, all_digits cs more)
 
+-- the number parsed from a text is the text's 64-bit number, if it has one
 pub parsed : {E : Type 0} (text : List ℕ) (r : Result ℕ E) → ParsesUnsigned 64 10 text r → result_ok r ≡ u64_of text
 parsed text (Ok n) (((some, digits), fits), is) =
     let ds = without_leading_plus text in

@@ -38,6 +38,7 @@ any_ok : (R : After → Type 0) → ((after : After) → R after) → (r : Stepp
 any_ok R h (Ok after) = h after
 any_ok R h (Err f) = tt
 
+-- each part of a call keeps what holds of every ledger
 pub all_kept : (call : CallData) (header : Header) → IsKept call header Any AnyAt
 all_kept call header = record {
   new = λ new m k few none. tt;
@@ -50,28 +51,34 @@ all_kept call header = record {
   ends = λ p m k. tt;
 }
 
+-- a call leaves a ledger that has what it wrote, and K still holds
 pub leaves : (l : Ledger) (call : CallData) (header : Header) (K : Ledger → Type 0) (Kp : Position → Ledger → Type 0) → IsKept call header K Kp → IsOrderly l → K l → Leaves l K (result_over (at l) (call_result call header)).1
 leaves l call header K Kp kept orderly here =
     along-result (at l) (IsThere l) (λ r. Leaves l K r.1) (call_result call header) (call_leaves call header l K Kp kept orderly.order here (next_is_free l orderly))
 
+-- the ledger that is left is the ledger after the call
 pub after_is : (l : Ledger) (call : CallData) (header : Header) (K : Ledger → Type 0) → IsOrderly l → (left : Leaves l K (result_over (at l) (call_result call header)).1) → ledger_after l call header ≡ left.ledger
 after_is l call header K orderly left = put_pruned l K (result_over (at l) (call_result call header)).1 orderly.order left
 
+-- what a call writes is in the order of items
 pub sorted_writes : (l : Ledger) (call : CallData) (header : Header) → IsOrderly l → IsInItemOrder (result_over (at l) (call_result call header)).1
 sorted_writes l call header orderly = (leaves l call header Any AnyAt (all_kept call header) orderly tt).sorted
 
 -- ---- the laws
 
+-- a call asks for no key and no counts of an application that is gone
 pub asks_for_none_gone : (l : Ledger) (call : CallData) (header : Header) → IsOrderly l → All (λ x. is_of_gone l x ≡ false) (items_asked (at l) (call_result call header))
 asks_for_none_gone l call header orderly =
     along-asked (at l) (IsThere l) (λ r. Leaves l Any r.1) (call_result call header) (call_leaves call header l Any AnyAt (all_kept call header) orderly.order tt (next_is_free l orderly))
 
+-- what a call hands on are the changes from the ledger before it to the ledger after it
 pub hands_on_its_changes : (l : Ledger) (call : CallData) (header : Header) → IsOrderly l → AreChanges l (ledger_after l call header) (changes_on l call header)
 hands_on_its_changes l call header orderly =
     let left = leaves l call header Any AnyAt (all_kept call header) orderly tt in
     let w = (result_over (at l) (call_result call header)).1 in
     subst (λ m. AreChanges l m (pruned (at l) w)) (sym (after_is l call header Any orderly left)) (are_changes l Any w left)
 
+-- the ledger after a call is the one before with all its writes
 pub loses_no_write : (l : Ledger) (call : CallData) (header : Header) → IsOrderly l → ledger_after l call header ≡ put l (result_over (at l) (call_result call header)).1
 loses_no_write l call header orderly =
     let left = leaves l call header Any AnyAt (all_kept call header) orderly tt in
@@ -97,9 +104,11 @@ written_over l call header t row steps K Kp kept orderly here is row_is =
     let e = execution call header t.id row in
     along-result (at l) (IsThere l) (λ end. Stands e row l Kp end.0) (path e (prepared call t.id) steps) (path_stands l call header t row steps K Kp kept orderly here is row_is)
 
+-- a run's writes, put into its first ledger, give the ledger that has them
 pub put_followed : (new : Known) (l : Ledger) (w : ItemMap) (m : Ledger) → IsOrderly l → Follows new l w m → put l w ≡ m
 put_followed new l w m orderly f = put_gives l m w f.order (record { order = orderly.order; sorted = f.sorted; has = λ y c stands. sym (f.has y); stands = f.stands })
 
+-- with a run's writes put, an item has what was written, or else its value before
 pub has_what_was_written : (l : Ledger) (call : CallData) (header : Header) (t : Target) (row : Application) (steps : ℕ) → IsOrderly l → result_over (at l) (admitted call) ≡ Ok t → t.row ≡ Some row
     → (x : Item) → at (put l (written_after l call header t row steps)) x ≡ unwrap_or (value_in (written_after l call header t row steps) x) (at l x)
 has_what_was_written l call header t row steps orderly is row_is x =

@@ -61,6 +61,7 @@ follows_leave new l K w m f keeps = record { ledger = m; order = f.order; sorted
 
 -- ---- what each part of a call keeps, of its ledger and of the positions of its program
 
+-- each part of a call keeps K, and each step of its program keeps Kp
 pub record IsKept (call : CallData) (header : Header) (K : Ledger → Type 0) (Kp : Position → Ledger → Type 0) : Type 0 where
   pub new : creates call ≡ true → (m : Ledger) → K m → (m.next_id == 2 ^ 64 - 1) ≡ false → application_at m m.next_id ≡ None
       → K (put_one (put_one m item.NextApp (value.NextApp (m.next_id + 1))) (item.App m.next_id) (value.App (created call)))
@@ -100,6 +101,7 @@ old_fresh l call id old (item.Key other key) v e =
     let none : None ≡ Some v = sym (ap (λ b. cond (b && (other == id)) (Some value.Absent) None) old) ∙ e in absurd cc
 old_fresh l call id old (item.Local who other) v e = absurd cc
 
+-- the same where the call creates an application and the id has none yet
 pub new_fresh : (l : Ledger) (call : CallData) (id : ℕ) → creates call ≡ true → application_at l id ≡ None → (x : Item) (v : ItemValue) → new_keys call id x ≡ Some v → at l x ≡ v
 new_fresh l call id new none item.NextApp v e = absurd cc
 new_fresh l call id new none (item.App other) v e = absurd cc
@@ -204,6 +206,7 @@ gone_has l w m id o (item.Key other key) own has =
 gone_has l w m id o (item.Local who other) own has =
     has_put l m (filter (λ e. not (is_global_of id e.0)) w) (item.App id) value.Absent (item.Local who other) o tt refl refl (kept_has l w m id (item.Local who other) own has)
 
+-- where a value is left, nothing took it out and it was there before
 pub kept_only : {A : Type 0} (b : Bool) (o : Option A) (v : A) → cond (not b) o None ≡ Some v → (b ≡ false) × (o ≡ Some v)
 kept_only true o v e = absurd cc
 kept_only false o v e = (refl, e)
@@ -265,10 +268,12 @@ runs_leave call header id row l K Kp kept order keeps o =
 
 -- ---- the tests before it
 
+-- the new application under the next id, or what the ledger has under the target's id
 abbrev pub IsTarget : Ledger → CallData → Bool → Target → Type 0
 IsTarget l call true t = (t.id ≡ l.next_id) × (t.row ≡ Some (created call)) × ((l.next_id == 2 ^ 64 - 1) ≡ false)
 IsTarget l call false t = t.row ≡ application_in (at l (item.App t.id))
 
+-- P holds of the target of a call that isn't refused
 abbrev pub OnTarget : (Target → Type 0) → Result Target Why → Type 0
 OnTarget P (Ok t) = P t
 OnTarget P (Err w) = Unit {0}
@@ -307,6 +312,7 @@ admits l call P (Ok t) h = along-then (at l) (IsThere l) (λ r. Unit {0}) (OnTar
     after (Err w) any = tt
 admits l call P (Err w) h = tt
 
+-- the tests ask for no key and no counts of an application that is gone, and find the target
 pub admitted_is : (l : Ledger) (call : CallData) → Along (at l) (IsThere l) (OnTarget (IsTarget l call (creates call))) (admitted call)
 admitted_is l call = along-then (at l) (IsThere l) (OnTarget (IsTarget l call (creates call))) (OnTarget (IsTarget l call (creates call))) (target call) _ (target_by l call (creates call)) (admits l call (IsTarget l call (creates call)))
 
@@ -342,6 +348,7 @@ prepared_old call header l K Kp kept o keeps t row is old found =
     subst (λ b. Over (execution call header t.id row) row l K (opting_in call t.id (cond b (new_application call t.id) []))) (sym old)
     (opting_over call header t.id row l K Kp kept [] here call.completion)
 
+-- a ledger has the items prepared for the program, and the row of the application that runs
 pub prepared_over : (call : CallData) (header : Header) (l : Ledger) (K : Ledger → Type 0) (Kp : Position → Ledger → Type 0) → IsKept call header K Kp → IsInOrder l → K l → application_at l l.next_id ≡ None → (t : Target) (row : Application) → t.row ≡ Some row
     → (b : Bool) → creates call ≡ b → IsTarget l call b t → Over (execution call header t.id row) row l K (prepared call t.id)
 prepared_over call header l K Kp kept o keeps none t row is true new h = prepared_new call header l K Kp kept o keeps none t row is new h

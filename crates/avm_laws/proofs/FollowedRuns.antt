@@ -45,6 +45,7 @@ pub record Over (e : Execution) (row : Application) (l : Ledger) (K : Ledger →
   pub current : at ledger (item.App e.current) ≡ value.App row
   pub keeps : K ledger
 
+-- an application that has a row is not gone
 pub row_stands : (a : Option StoredApplication) (row : Application) → row_value a ≡ value.App row → is_none a ≡ false
 row_stands None row e = absurd cc
 row_stands (Some app) row e = refl
@@ -78,6 +79,7 @@ led_row m c w (LocalDeleted who state key there is) id = keeps_others m (item.Lo
 
 -- ---- one step
 
+-- each item has what was written or is known without a look, or else its value before
 pub known_has : (new : Known) (l : Ledger) (w : ItemMap) (m : Ledger) → Follows new l w m → (x : Item) → at m x ≡ unwrap_or (over (value_in w) new x) (at l x)
 known_has new l w m f x = by (value_in w x) (new x) (f.has x) (f.fresh x)
   where
@@ -91,6 +93,7 @@ abbrev OnNext : (Position → Type 0) → Result Position Ended → Type 0
 OnNext P (Ok p) = P p
 OnNext P (Err end) = Unit {0}
 
+-- a ledger has what was written up to the position, and K holds of both
 abbrev pub Stands : Execution → Application → Ledger → (Position → Ledger → Type 0) → Position → Type 0
 Stands e row l K p = Over e row l (K p) p.writes
 
@@ -141,6 +144,7 @@ rest_stands : (e : Execution) (row : Application) (l : Ledger) (K : Position →
 rest_stands e row l K n p o next (Ok q) h = next q h
 rest_stands e row l K n p o next (Err end) h = o
 
+-- so it stays along a run, which asks for no key or counts of an application that is gone
 pub run_stands : (e : Execution) (row : Application) (l : Ledger) (K : Position → Ledger → Type 0) → StepsKeep e row K → (n : ℕ) (p : Position) → Stands e row l K p
     → Along (at l) (IsThere l) (λ end. Stands e row l K end.0) (run_from e n p)
 run_stands e row l K keep zero p o = o
@@ -154,6 +158,7 @@ ended_stands : (e : Execution) (row : Application) (l : Ledger) (K : Position �
 ended_stands e row l K End kept (p, Some end) o = record { ledger = o.ledger; follows = o.follows; current = o.current; keeps = kept p o.ledger o.keeps }
 ended_stands e row l K End kept (p, None) o = record { ledger = o.ledger; follows = o.follows; current = o.current; keeps = kept p o.ledger o.keeps }
 
+-- so it is of the result of a program, and End holds of its ledger
 pub result_stands : (e : Execution) (row : Application) (l : Ledger) (K : Position → Ledger → Type 0) (End : Ledger → Type 0) → StepsKeep e row K → ((p : Position) (m : Ledger) → K p m → End m) → (w : ItemMap) → Stands e row l K (start e.program w)
     → Along (at l) (IsThere l) (λ end. Over e row l End end.0) (program_result e w)
 result_stands e row l K End keep kept w o =

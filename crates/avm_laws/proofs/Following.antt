@@ -34,6 +34,7 @@ with_by : (w : ItemMap) (x : Item) (v : ItemValue) (y : Item) (b : Bool) → is_
 with_by w x v y true tied = ap (value_in (with_item w x v)) (item_same y x tied) ∙ lookup-inserted item_total x v w
 with_by w x v y false apart = lookup-inserted_other item_total y x v w apart
 
+-- one more item written has the value written, and every other item what it had
 pub value_with : (w : ItemMap) (x : Item) (v : ItemValue) (y : Item) → value_in (with_item w x v) y ≡ cond (is_eq (item_cmp y x)) (Some v) (value_in w y)
 value_with w x v y = with_by w x v y (is_eq (item_cmp y x)) refl
 
@@ -142,6 +143,7 @@ same_none None (Some b) e = absurd cc
 same_none (Some a) None e = absurd cc
 same_none (Some a) (Some b) e = refl
 
+-- where the counts have the same value, both applications stand or neither does
 pub same_counts : (a b : Option StoredApplication) → counts_value a ≡ counts_value b → is_none a ≡ is_none b
 same_counts None None e = refl
 same_counts None (Some b) e = absurd cc
@@ -157,6 +159,7 @@ rows_keep m n same (item.Local who id) = refl
 
 -- ---- local states, and the next id
 
+-- a local state that is set or taken away
 pub follows_local : (new : Known) (l : Ledger) (w : ItemMap) (m : Ledger) (who : Address) (id : ℕ) (v : ItemValue) → Follows new l w m → MaySet m (item.Local who id) v
     → Follows new l (with_item w (item.Local who id) v) (put_one m (item.Local who id) v)
 follows_local new l w m who id v f may =
@@ -164,6 +167,7 @@ follows_local new l w m who id v f may =
     follows_put new l w m x v f may refl (λ y. refl) (rows_keep m (put_one m x v) (λ other. keeps_others m x (item.App other) v refl refl))
     (λ other. keeps_others m x (item.Counts other) v refl refl) refl
 
+-- a new value of the next id
 pub follows_next : (new : Known) (l : Ledger) (w : ItemMap) (m : Ledger) (id : ℕ) → Follows new l w m
     → Follows new l (with_item w item.NextApp (value.NextApp id)) (put_one m item.NextApp (value.NextApp id))
 follows_next new l w m id f =
@@ -204,9 +208,11 @@ stored : {P : Type 0} (m : Ledger) (id : ℕ) (a : Option StoredApplication) →
 stored m id None is stands h = absurd cc
 stored m id (Some app) is stands h = h app is
 
+-- an application that isn't gone is stored in the ledger
 pub the_application : {P : Type 0} (m : Ledger) (id : ℕ) → is_none (application_at m id) ≡ false → ((app : StoredApplication) → application_at m id ≡ Some app → P) → P
 the_application m id stands h = stored m id (application_at m id) refl stands h
 
+-- the old value of a key, and the old counts, are those of the application's global state
 pub entry_there : (m : Ledger) (id : ℕ) (key : List ℕ) (app : StoredApplication) → application_at m id ≡ Some app → old_entry m id key ≡ value_of_key app.state key
 entry_there m id key app is = ap (λ a. entry_in (entry_value a key)) is ∙ entry_of (value_of_key app.state key)
 
@@ -237,6 +243,7 @@ same_kind_counts m id key v o stands same =
 keeps_apps_of_key : (m : Ledger) (id : ℕ) (key : List ℕ) (v : ItemValue) → KeepsApplications m (put_one m (item.Key id key) v)
 keeps_apps_of_key m id key v = rows_keep m (put_one m (item.Key id key) v) (λ other. keeps_others m (item.Key id key) (item.App other) v refl refl)
 
+-- a key set to a value of the kind that it had, where no counts are written
 pub follows_same_kind : (new : Known) (l : Ledger) (w : ItemMap) (m : Ledger) (id : ℕ) (key : List ℕ) (v : Value) → Follows new l w m → is_none (application_at m id) ≡ false → keeps_kind (old_entry m id key) (Some v) ≡ true
     → Follows new l (with_item w (item.Key id key) (value.Key v)) (put_one m (item.Key id key) (value.Key v))
 follows_same_kind new l w m id key v f stands same =
@@ -287,6 +294,7 @@ has_counted l m w x v id n o is has (item.Counts other) = has_counts l m w x v i
 has_counted l m w x v id n o is has (item.Key other key) = has_beside l m w x v id n o is (item.Key other key) refl (has (item.Key other key))
 has_counted l m w x v id n o is has (item.Local who other) = has_beside l m w x v id n o is (item.Local who other) refl (has (item.Local who other))
 
+-- a key that is set or deleted, with the counts after it
 pub follows_key : (new : Known) (l : Ledger) (w : ItemMap) (m : Ledger) (id : ℕ) (key : List ℕ) (v : Option Value) → Follows new l w m → is_none (application_at m id) ≡ false
     → Follows new l (with_item (with_item w (item.Key id key) (key_value v)) (item.Counts id) (value.Counts (counts_after (old_entry m id key) v (old_counts m id)))) (put_one m (item.Key id key) (key_value v))
 follows_key new l w m id key v f stands =

@@ -40,6 +40,7 @@ next_ids e = cc
 abbrev pub HasItems : Ledger → (Item → ItemValue) → Type 0
 HasItems m look = (x : Item) → is_counts x ≡ false → is_of_gone m x ≡ false → look x ≡ at m x
 
+-- two ledgers in order that agree on all those items are the same
 pub has_all : (l m : Ledger) → IsInOrder l → IsInOrder m → HasItems m (at l) → l ≡ m
 has_all l m o p same =
     let next : l.next_id ≡ m.next_id = next_ids (same item.NextApp refl refl) in
@@ -64,6 +65,7 @@ rest_by e es x v below true same =
     ap (λ found. unwrap_or found e.1) (below_none item_total x es (above_tied item_total x e.0 (keys_of es) (is_Equal (item_cmp x e.0) same) below))
 rest_by e es x v below false apart = refl
 
+-- the first item of a list is found there with its own value
 pub found_itself : (e : Item × ItemValue) (es : ItemMap) → value_in (e ∷ es) e.0 ≡ Some e.1
 found_itself e es = ap (λ r. cond (is_eq r) (Some e.1) (value_in es e.0)) (tied_itself item_total e.0)
 
@@ -118,6 +120,7 @@ may_first l m (item.Local who id) v es g =
     by_state None = tt
     by_state (Some state) = tt
 
+-- an application whose row is absent is gone
 pub gone_row : (a : Option StoredApplication) → row_value a ≡ value.Absent → is_none a ≡ true
 gone_row None e = refl
 gone_row (Some app) e = absurd cc
@@ -151,12 +154,14 @@ step l m e es g = record {
     later x v there true p = g.stands x e.1 (ap (λ b. cond b (Some e.1) (value_in es x)) p)
     later x v there false p = g.stands x v (ap (λ b. cond b (Some e.1) (value_in es x)) p ∙ there)
 
+-- with what remains put into it, the ledger is the other one
 pub put_gives : (l m : Ledger) (items : ItemMap) → IsInOrder m → PutGives l items m → put l items ≡ m
 put_gives l m [] o g = has_all l m g.order o g.has
 put_gives l m (e ∷ es) o g = put_gives (put_one l e.0 e.1) m es o (step l m e es g)
 
 -- ---- changes
 
+-- the changes between two ledgers, put into the first, give the second
 pub puts_changes : (before after : Ledger) (changes : ItemMap) → IsInOrder before → IsInOrder after → IsInItemOrder changes → AreChanges before after changes → put before changes ≡ after
 puts_changes before after changes o p s are = put_gives before after changes p (record {
   order = o;

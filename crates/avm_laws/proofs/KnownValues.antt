@@ -25,6 +25,7 @@ use Rattle.avm_laws.proofs.ReadCalls.{alike}
 
 -- ---- the run over the ledger is the run over what it read
 
+-- the ledger before with the run's own writes put into it
 pub record OverLedger (l : Ledger) (e : Environment) : Type 0 where
   pub ledger : Ledger
   pub follows : Follows (new_keys e.call e.current) l e.writes ledger

@@ -107,9 +107,11 @@ any_ok : (R : After → Type 0) → ((after : After) → R after) → (r : Stepp
 any_ok R h (Ok after) = h after
 any_ok R h (Err f) = tt
 
+-- the ledger at a position of a program is a later one
 abbrev pub IsLaterAt : Ledger → Position → Ledger → Type 0
 IsLaterAt l p m = IsLaterLedger l m
 
+-- each part of a call leads to a later ledger
 pub later_kept : (l : Ledger) (call : CallData) (header : Header) → IsKept call header (IsLaterLedger l) (IsLaterAt l)
 later_kept l call header = record {
   new = λ new m k few none. made l m (created call) k none;
@@ -126,9 +128,11 @@ later_kept l call header = record {
 
 -- ---- the laws
 
+-- an orderly ledger counts as a later ledger of itself, where no call is made
 pub begins : (l : Ledger) → IsOrderly l → IsLaterLedger l l
 begins l o = record { order = o.order; rises = omega arith; gone = λ id h none. none; below = o.below }
 
+-- a later ledger is orderly
 pub orderly_after : (l m : Ledger) → IsLaterLedger l m → IsOrderly m
 orderly_after l m k = record { order = k.order; below = k.below }
 

@@ -123,6 +123,7 @@ kept_other before (Some u) v e = by (is_same_value before u) refl e
           absurd cc,
     )
 
+-- the writes without those that change nothing are the changes to the ledger that is left
 pub are_changes : (l : Ledger) (K : Ledger → Type 0) (w : ItemMap) (left : Leaves l K w) → AreChanges l left.ledger (pruned (at l) w)
 are_changes l K w left = record {
   unchanged = λ x none stands. left.has x stands ∙ kept_same (at l x) (value_in w x) (sym (value_pruned (at l) w left.sorted x) ∙ none);
@@ -132,9 +133,11 @@ are_changes l K w left = record {
       (stands, left.has x stands ∙ ap (λ o. unwrap_or o (at l x)) kept.0, kept.1);
 }
 
+-- put into the ledger before, they give the ledger that is left
 pub put_pruned : (l : Ledger) (K : Ledger → Type 0) (w : ItemMap) → IsInOrder l → (left : Leaves l K w) → put l (pruned (at l) w) ≡ left.ledger
 put_pruned l K w o left =
     puts_changes l left.ledger (pruned (at l) w) o left.order (sorted_filter (λ e. not (is_same_value (at l e.0) e.1)) w left.sorted) (are_changes l K w left)
 
+-- and so do all the writes
 pub put_written : (l : Ledger) (K : Ledger → Type 0) (w : ItemMap) → IsInOrder l → (left : Leaves l K w) → put l w ≡ left.ledger
 put_written l K w o left = put_gives l left.ledger w left.order (record { order = o; sorted = left.sorted; has = λ x c stands. sym (left.has x stands); stands = left.stands })

@@ -40,6 +40,7 @@ HasReads l known = (x : Item) (v : ItemValue) → known x ≡ Some v → is_of_g
 abbrev pub IsReadAt : Ledger → Known → Item → Type 0
 IsReadAt l known x = value_before known x ≡ at l x
 
+-- over what was read and over the ledger, the same result, the same questions and values
 pub record Alike {A : Type 0} (l : Ledger) (known : Known) (t : Ask A) (a : A) : Type 0 where
   pub result : result_over (at l) t ≡ a
   pub asked : asked_while_known known t ≡ items_asked (at l) t
@@ -61,6 +62,7 @@ alike_at l known x k a has next there (Some v) is e =
       read = All-cons (IsReadAt l known) x (items_asked (at l) (k (at l x))) (before ∙ sym here) (subst (λ u. All (IsReadAt l known) (items_asked (at l) (k u))) (sym here) rest.read);
     }
 
+-- what ended over what was read ends so over a ledger that has it, if it asks for nothing gone
 pub alike : {A : Type 0} (l : Ledger) (known : Known) (t : Ask A) (a : A) → HasReads l known → All (IsThere l) (items_asked (at l) t) → answer_from known t ≡ Ok a → Alike l known t a
 alike l known (Gives b) a has there e = record { result = gives_same e; asked = refl; read = All-nil (IsReadAt l known) }
 alike l known (Asks x k) a has there e = alike_at l known x k a has (λ v. alike l known (k v) a has) there (known x) refl e
@@ -68,6 +70,7 @@ alike l known (Asks x k) a has there e = alike_at l known x k a has (λ v. alike
 call_alike : (l : Ledger) (reads : ItemMap) (call : CallData) (header : Header) (r : CallResult) → IsOrderly l → AgreesWithReads l reads → answer_from (value_in reads) (call_result call header) ≡ Ok r → Alike l (value_in reads) (call_result call header) r
 call_alike l reads call header r orderly agrees e = alike l (value_in reads) (call_result call header) r agrees (asks_for_none_gone l call header orderly) e
 
+-- a call that has ended over what it read ends so over each ledger that agrees with that
 pub ends_alike : (l : Ledger) (reads : ItemMap) (call : CallData) (header : Header) (r : CallResult) → IsOrderly l → AgreesWithReads l reads → answer_from (value_in reads) (call_result call header) ≡ Ok r
     → result_over (at l) (call_result call header) ≡ r
 ends_alike l reads call header r orderly agrees e = (call_alike l reads call header r orderly agrees e).result
@@ -86,6 +89,7 @@ used : {A : Type 0} (l : Ledger) (known : Known) (t : Ask A) (y : Item) → HasR
 used l known (Gives a) y has there e = absurd cc
 used l known (Asks x k) y has there e = used_at l known x k y has (λ v. used l known (k v) y has) there (known x) refl e
 
+-- an item that is asked for over what was read is used on each ledger that agrees with that
 pub asks_for_what_is_used : (l : Ledger) (reads : ItemMap) (call : CallData) (header : Header) (x : Item) → IsOrderly l → AgreesWithReads l reads → answer_from (value_in reads) (call_result call header) ≡ Err x
     → Contains (items_asked (at l) (call_result call header)) x
 asks_for_what_is_used l reads call header x orderly agrees e = used l (value_in reads) (call_result call header) x agrees (asks_for_none_gone l call header orderly) e
@@ -108,6 +112,7 @@ pruned_alike before look (e ∷ es) s all =
     let rest = pruned_alike before look es s.1 (λ x v there. all x v (later e es s.0 x v there (is_eq (item_cmp x e.0)) refl)) in
     λ i. cond (not (is_same_value (same i) e.1)) (e ∷ rest i) (rest i)
 
+-- its writes without those that leave what was read are the changes on such a ledger
 pub changes_what_it_read : (l : Ledger) (reads : ItemMap) (call : CallData) (header : Header) (r : CallResult) → IsOrderly l → AgreesWithReads l reads → AreAskedFor reads call header → answer_from (value_in reads) (call_result call header) ≡ Ok r
     → pruned (value_before (value_in reads)) r.1 ≡ changes_on l call header
 changes_what_it_read l reads call header r orderly agrees asked e =

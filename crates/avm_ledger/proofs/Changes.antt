@@ -22,6 +22,7 @@ account_total = then_total (on_total (λ x. x.0.0) byte_total) (on_total (λ x. 
 
 -- ---- keys that tie are the same
 
+-- addresses with the same bytes are the same
 pub address_is : (a b : Address) → a.0 ≡ b.0 → a ≡ b
 address_is a b e = λ i. record { 0 = e i }
 
@@ -39,6 +40,7 @@ account_same x y e =
 
 -- ---- the order stays
 
+-- an application that is set is found under its id
 pub set_application : (l : Ledger) (id : ℕ) (app : StoredApplication) → application_at (with_application l id app) id ≡ Some app
 set_application l id app = lookup-inserted nat_cmp_total id app l.applications
 
@@ -54,6 +56,7 @@ state_in_order l id app o s other found e true same =
 state_in_order l id app o s other found e false differs =
     o.global_states other found (sym (lookup-inserted_other nat_cmp_total other id app l.applications differs) ∙ e)
 
+-- a ledger stays in order when an application with its keys in order is set
 pub with_application_in_order : (l : Ledger) (id : ℕ) (app : StoredApplication) → IsInOrder l → IsInKeyOrder app.state → IsInOrder (with_application l id app)
 with_application_in_order l id app o s = record {
   applications = sorted-inserted nat_cmp_total id app l.applications o.applications;
@@ -61,6 +64,7 @@ with_application_in_order l id app o s = record {
   local_states = o.local_states;
 }
 
+-- no value is both absent and there
 pub no_application : {A : Type 0} {a : A} {P : Type 0} → None ≡ Some a → P
 no_application e = absurd cc
 
@@ -81,15 +85,18 @@ without_application_in_order l id o = record {
 
 -- ---- an application written in place
 
+-- writing over an application that stands gives the ledger with the new one set
 pub written_application : (l : Ledger) (id : ℕ) (app w : StoredApplication) (new : List (ℕ × StoredApplication)) → IsInOrder l → Some app ≡ application_at l id
     → new ≡ set_value (is_at (nat_cmp id)) l.applications w → record l { applications = new } ≡ with_application l id w
 written_application l id app w new o found is =
     ap (λ a. record l { applications = a }) (is ∙ set_value-there nat_cmp_total id w app l.applications o.applications (sym found))
 
+-- the ledger stays in order where the keys of the application written are in order
 pub written_in_order : (l : Ledger) (id : ℕ) (app w : StoredApplication) (new : List (ℕ × StoredApplication)) → IsInOrder l → Some app ≡ application_at l id
     → new ≡ set_value (is_at (nat_cmp id)) l.applications w → IsInKeyOrder w.state → IsInOrder (record l { applications = new })
 written_in_order l id app w new o found is s = subst IsInOrder (sym (written_application l id app w new o found is)) (with_application_in_order l id w o s)
 
+-- an application written with a changed global state gives the ledger with that change
 pub written_state : (l : Ledger) (id : ℕ) (app : StoredApplication) (change : Entries → Entries) (state : Entries) (new : List (ℕ × StoredApplication)) → IsInOrder l
     → Some app ≡ application_at l id → new ≡ set_value (is_at (nat_cmp id)) l.applications (record app { state = state }) → state ≡ change app.state
     → record l { applications = new } ≡ with_state l id change (application_at l id)
@@ -98,12 +105,14 @@ written_state l id app change state new o found is e =
     ∙ ap (λ s. with_application l id (record app { state = s })) e
     ∙ ap (with_state l id change) found
 
+-- an application written with the global state that it had leaves the ledger
 pub kept_state : (l : Ledger) (id : ℕ) (app : StoredApplication) (state : Entries) (new : List (ℕ × StoredApplication))
     → Some app ≡ application_at l id → new ≡ set_value (is_at (nat_cmp id)) l.applications (record app { state = state }) → state ≡ app.state → record l { applications = new } ≡ l
 kept_state l id app state new found is e =
     ap (λ a. record l { applications = a })
     (is ∙ ap (λ s. set_value (is_at (nat_cmp id)) l.applications (record app { state = s })) e ∙ set_value_same (is_at (nat_cmp id)) l.applications app (sym found))
 
+-- an application written with another row gives the ledger with that row set
 pub written_row : (l : Ledger) (id : ℕ) (app : StoredApplication) (row written : Application) (new : List (ℕ × StoredApplication)) → IsInOrder l → Some app ≡ application_at l id
     → new ≡ set_value (is_at (nat_cmp id)) l.applications (record app { row = written }) → written ≡ row → record l { applications = new } ≡ with_application l id (with_row (application_at l id) row)
 written_row l id app row written new o found is e =

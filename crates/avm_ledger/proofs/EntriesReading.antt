@@ -30,9 +30,11 @@ key_rule : (before : Option (List ℕ)) (rest k next : List ℕ) → key_at befo
 key_rule before rest k next e =
     from (short_string_at Truncated rest) _ (k, next) e (λ s es e1. (rule_kept (λ z. leb (length z.0) 64 && rises_from_key before z.0) s (k, next) e1).0)
 
+-- a key that is read has at most 64 bytes
 pub short_key : (before : Option (List ℕ)) (rest k next : List ℕ) → key_at before rest ≡ Ok (k, next) → length k ≤ 64
 short_key before rest k next e = leb-true (length k) 64 (and_first _ _ (key_rule before rest k next e))
 
+-- with no entries so far and all left to read, those meant are all that are read
 pub begins : (state : Entries) (kinds : Schema) (count left : ℕ) (bytes : List ℕ) → state ≡ [] → left ≡ count → ReadsOn state None kinds left bytes (entries_at count None kinds bytes)
 begins state kinds count left bytes e f = record {
   same = rw (e, f) (none_in_front _);
@@ -43,6 +45,7 @@ one_more : (before : Option (List ℕ)) (kinds : Schema) (n : ℕ) (rest k next 
     → entries_at (suc n) before kinds rest ≡ (entries_at n (Some k) (count_without v kinds) behind >>= λ es. Ok ((k, v) ∷ es.0, es.1))
 one_more before kinds n rest k next v behind ek ev = then _ _ _ _ ek (then _ _ _ _ ev refl)
 
+-- after one more entry is read and set, the rest still gives those that are meant
 pub goes_on : (state now : Entries) (before : Option (List ℕ)) (kinds fewer : Schema) (left n : ℕ) (rest k next : List ℕ) (v : Value) (behind : List ℕ) (meant : Front LedgerFault Entries)
     → ReadsOn state before kinds left rest meant → key_at before rest ≡ Ok (k, next) → value_at kinds next ≡ Ok (v, behind) → now ≡ with_entry state k v → fewer ≡ count_without v kinds → left ≡ suc n
     → ReadsOn now (Some k) fewer n behind meant
@@ -58,6 +61,7 @@ goes_on state now before kinds fewer left n rest k next v behind meant r ek ev p
       above = λ q rises. rw last (all_lower_more byte_total k q v state lower (less _ rises));
     }
 
+-- a failure at the next key or at its value is the failure of all that are meant
 pub no_key : (state : Entries) (before : Option (List ℕ)) (kinds : Schema) (left : ℕ) (rest : List ℕ) (d : Failure LedgerFault) (meant : Front LedgerFault Entries)
     → ReadsOn state before kinds left rest meant → Fails d (key_at before rest) → 0 < left → Fails d meant
 no_key state before kinds left rest failure.Memory meant r e some = tt
@@ -71,5 +75,6 @@ no_value state before kinds zero rest k next (failure.Fault f) meant r ek e some
 no_value state before kinds (suc n) rest k next (failure.Fault f) meant r ek e some =
     sym r.same ∙ ap (with_front state) (then _ _ _ _ ek (stopped (value_at kinds next) f _ e))
 
+-- where none are left to read, the entries so far are those that are meant
 pub is_done : (state : Entries) (before : Option (List ℕ)) (kinds : Schema) (left : ℕ) (rest : List ℕ) (meant : Front LedgerFault Entries) → ReadsOn state before kinds left rest meant → left ≡ 0 → meant ≡ Ok (state, rest)
 is_done state before kinds left rest meant r e = sym r.same ∙ ap (λ n. with_front state (entries_at n before kinds rest)) e ∙ ap (λ xs. Ok (xs, rest)) (append-nil state)

@@ -25,6 +25,7 @@ drop_front : (xs ys : List ℕ) → drop (length xs) (xs ++ ys) ≡ ys
 drop_front [] ys = refl
 drop_front (x ∷ xs) ys = drop_front xs ys
 
+-- a field within its size is read from its bytes, whatever stands behind them
 pub bytes_back : {F : Type 0} (truncated : F) (n : ℕ) (xs rest : List ℕ) → length xs ≡ n → bytes_at truncated n (xs ++ rest) ≡ Ok (xs, rest)
 bytes_back truncated n xs rest e =
     let enough : ltb (length (xs ++ rest)) n ≡ false = le-ltb (length (xs ++ rest)) n (omega (arith, length-append xs rest)) in
@@ -75,6 +76,7 @@ many_back one spelling P back (x ∷ xs) rest all =
     ∙ then _ _ _ _ (back x (flat_map spelling xs ++ rest) (All-head P x xs all))
     (then _ _ _ _ (many_back one spelling P back xs rest (All-tail P x xs all)) refl)
 
+-- fewer than 256 values are read from their count and bytes, where each is read from its own
 pub counted_back : {A F : Type 0} (truncated : F) (one : List ℕ → Front F A) (spelling : A → List ℕ) (P : A → Type 0) → ((x : A) (rest : List ℕ) → P x → one (spelling x ++ rest) ≡ Ok (x, rest))
     → (xs : List A) (rest : List ℕ) → All P xs → length xs < 256 → counted_at truncated one (u8_bytes (length xs) ++ (flat_map spelling xs ++ rest)) ≡ Ok (xs, rest)
 counted_back truncated one spelling P back xs rest all few =

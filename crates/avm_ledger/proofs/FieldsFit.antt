@@ -17,6 +17,7 @@ number_fits truncated w most bytes x all fits e =
     let is : (from_be_bytes w y.0, y.1) ≡ x = same_value _ _ e1 in
     subst (λ p. p.0 < most) is (fits y.0 (byte_below y.0 (front_bytes y.0 y.1 (subst AllBytes parts.0 all)))))
 
+-- a field that is read is within its size
 pub byte_fits : {F : Type 0} (truncated : F) (bytes : List ℕ) (x : ℕ × List ℕ) → AllBytes bytes → number_at truncated w8 bytes ≡ Ok x → x.0 < 256
 byte_fits truncated bytes x all e = number_fits truncated w8 256 bytes x all (λ bs below. below 0) e
 
@@ -61,6 +62,7 @@ many_fit {A} one spelling P spells fits (suc n) bytes x all e =
     let is : ◌≡◌ {A = List A × List ℕ} (a.0 ∷ m.0, m.1) x = same_value _ _ e2 in
     subst (λ p. All P p.0 × (length p.0 ≡ suc n)) is (All-cons P a.0 m.0 (fits bytes a all ea) more.0, ap suc more.1)))
 
+-- what holds of each value that is read holds of all behind a count, and they are under 256
 pub counted_fit : {A F : Type 0} (truncated : F) (one : List ℕ → Front F A) (spelling : A → List ℕ) (P : A → Type 0) → ((bytes : List ℕ) (x : A × List ℕ) → AllBytes bytes → one bytes ≡ Ok x → IsSpelled bytes (spelling x.0) x.1)
     → ((bytes : List ℕ) (x : A × List ℕ) → AllBytes bytes → one bytes ≡ Ok x → P x.0) → (bytes : List ℕ) (x : List A × List ℕ) → AllBytes bytes → counted_at truncated one bytes ≡ Ok x → All P x.0 × (length x.0 < 256)
 counted_fit truncated one spelling P spells fits bytes x all e =

@@ -20,11 +20,13 @@ pub from : {A B F G : Type 0} (r : Result A F) (f : A → Result B F) (y : B) �
 from (Ok x) f y e goal = goal x refl e
 from (Err d) f y e goal = absurd cc
 
+-- successes that are the same have the same value
 pub same_value : {A F : Type 0} (x y : A) → ◌≡◌ {A = Result A F} (Ok x) (Ok y) → x ≡ y
 same_value x y e = cc
 
 -- ---- what the bytes begin with
 
+-- the bytes begin with the spelling, and what stands behind it are bytes
 pub record IsSpelled (bytes spelling rest : List ℕ) : Type 0 where
   pub same : bytes ≡ spelling ++ rest
   pub rest_are_bytes : AllBytes rest
@@ -32,9 +34,11 @@ pub record IsSpelled (bytes spelling rest : List ℕ) : Type 0 where
 pub spelled : (bytes spelling rest : List ℕ) → AllBytes bytes → bytes ≡ spelling ++ rest → IsSpelled bytes spelling rest
 spelled bytes spelling rest all e = record { same = e; rest_are_bytes = rest_bytes spelling rest (subst AllBytes e all) }
 
+-- a spelling and the one behind it are one spelling
 pub join : (bytes s middle t rest : List ℕ) → IsSpelled bytes s middle → IsSpelled middle t rest → IsSpelled bytes (s ++ t) rest
 join bytes s middle t rest a b = record { same = a.same ∙ ap (λ xs. s ++ xs) b.same ∙ sym (append_assoc s t rest); rest_are_bytes = b.rest_are_bytes }
 
+-- the spelling of a value and those of the others behind it are the spelling of all
 pub one_more : {A : Type 0} (spelling : A → List ℕ) (x : A) (xs : List A) (bytes middle rest : List ℕ) → IsSpelled bytes (spelling x) middle → IsSpelled middle (flat_map spelling xs) rest → IsSpelled bytes (flat_map spelling (x ∷ xs)) rest
 one_more spelling x xs bytes middle rest a b = join bytes (spelling x) middle (flat_map spelling xs) rest a b
 
@@ -48,6 +52,7 @@ taken {F} truncated n bytes false test x e =
     let enough : n ≤ length bytes = ltb-false (length bytes) n test in
     (sym (take-append-drop n bytes) ∙ ap (λ p. p.0 ++ p.1) is, sym (ap (λ p. length p.0) is) ∙ length-take-le n bytes enough)
 
+-- bytes that are read stand at the front, and are as many as were asked for
 pub bytes_spelled : {F : Type 0} (truncated : F) (n : ℕ) (bytes : List ℕ) (x : List ℕ × List ℕ) → bytes_at truncated n bytes ≡ Ok x → (bytes ≡ x.0 ++ x.1) × (length x.0 ≡ n)
 bytes_spelled truncated n bytes x e = taken truncated n bytes (ltb (length bytes) n) refl x e
 
@@ -65,6 +70,7 @@ one_byte [] e all = absurd (omega (arith, e))
 one_byte (b ∷ []) e all = let same : b % 256 ≡ b = omega (arith, all 0) in ap (λ c. c ∷ []) same
 one_byte (b ∷ c ∷ bs) e all = absurd (omega (arith, e))
 
+-- a field that is read is spelled by the first bytes
 pub byte_spelled : {F : Type 0} (truncated : F) (bytes : List ℕ) (x : ℕ × List ℕ) → AllBytes bytes → number_at truncated w8 bytes ≡ Ok x → IsSpelled bytes (u8_bytes x.0) x.1
 byte_spelled truncated bytes x all e = number_spelled truncated w8 bytes x all one_byte e
 
@@ -110,6 +116,7 @@ schema_spelled truncated bytes x all e =
     let is : ◌≡◌ {A = Schema × List ℕ} (record { uints = u.0.0; bytes = s.0.0 }, s.0.1) x = same_value _ _ s.2 in
     subst (λ p. IsSpelled bytes (schema_bytes p.0) p.1) is (join bytes (u8_bytes u.0.0) u.0.1 (u8_bytes s.0.0) s.0.1 first second)
 
+-- values that are read in turn are spelled in turn, and are as many as were asked for
 pub many_spelled : {A F : Type 0} (one : List ℕ → Front F A) (spelling : A → List ℕ) → ((bytes : List ℕ) (x : A × List ℕ) → AllBytes bytes → one bytes ≡ Ok x → IsSpelled bytes (spelling x.0) x.1)
     → (n : ℕ) (bytes : List ℕ) (x : List A × List ℕ) → AllBytes bytes → many_at one n bytes ≡ Ok x → IsSpelled bytes (flat_map spelling x.0) x.1 × (length x.0 ≡ n)
 many_spelled {A} {F} one spelling back zero bytes x all e =
@@ -125,6 +132,7 @@ many_spelled {A} one spelling back (suc n) bytes x all e =
       sym (ap (λ p. length p.0) is) ∙ ap suc more.1,
     )
 
+-- values that are read behind their count are spelled behind it, where each is spelled
 pub counted_spelled : {A F : Type 0} (truncated : F) (one : List ℕ → Front F A) (spelling : A → List ℕ) → ((bytes : List ℕ) (x : A × List ℕ) → AllBytes bytes → one bytes ≡ Ok x → IsSpelled bytes (spelling x.0) x.1)
     → (bytes : List ℕ) (x : List A × List ℕ) → AllBytes bytes → counted_at truncated one bytes ≡ Ok x → IsSpelled bytes (counted_bytes u8_bytes spelling x.0) x.1
 counted_spelled truncated one spelling back bytes x all e =

@@ -19,6 +19,7 @@ pub application_rules : (l : Ledger) (id : ℕ) (app : StoredApplication) → Ke
 application_rules l id app keeps is =
     All-contains (IsApplicationBelow l.next_id) l.applications (id, app) keeps.applications (Contains-from_lookup {eq = λ x y. is_at (nat_cmp x) y} same_id id app l.applications is)
 
+-- a ledger that keeps the rules is in order, and no application has an id at or above the next
 pub orderly : (l : Ledger) → KeepsRules l → IsOrderly l
 orderly l keeps = record { order = in_order l keeps; below = λ id h. by id h (application_at l id) refl }
   where
@@ -26,5 +27,6 @@ orderly l keeps = record { order = in_order l keeps; below = λ id h. by id h (a
     by id h None is = refl
     by id h (Some app) is = absurd (omega (arith, (application_rules l id app keeps is).below))
 
+-- no application stands under the next id
 pub next_is_free : (l : Ledger) → IsOrderly l → application_at l l.next_id ≡ None
 next_is_free l o = o.below l.next_id (omega arith)

@@ -93,6 +93,7 @@ entries_back ((k, v) ∷ es) before left rest above sorted all uints strings =
     (then (entries_at (length es) (Some k) (count_without v left) behind) (es, rest) (λ fs. Ok ((k, v) ∷ fs.0, fs.1)) (Ok ((k, v) ∷ es, rest))
     (entries_back es (Some k) (count_without v left) rest sorted.0 sorted.1 more fewer.0 fewer.1) refl))
 
+-- a state that there is room for is read from its bytes, whatever stands behind them
 pub state_back : (room : Room) (state : Entries) (rest : List ℕ) → IsStateIn room state → room.entries < 256 → state_at room (u8_bytes (length state) ++ (flat_map entry_bytes state ++ rest)) ≡ Ok (state, rest)
 state_back room state rest is small =
     let few : leb (length state) room.entries ≡ true = le-leb (length state) room.entries is.few in
@@ -249,6 +250,7 @@ next_id_back n rest some small =
     let positive : leb 1 n ≡ true = le-leb 1 n some in
     then _ _ _ _ (u64_back Truncated n rest small) (rw positive refl)
 
+-- a countable ledger that keeps the rules is read from its bytes, whatever stands behind them
 pub ledger_back : (l : Ledger) (rest : List ℕ) → KeepsRules l → IsCountable l → ledger_front (ledger_bytes l ++ rest) ≡ Ok (l, rest)
 ledger_back l rest keeps count =
     let states = flat_map local_state_bytes l.local_states ++ rest in
@@ -268,10 +270,12 @@ ledger_back l rest keeps count =
     all_positive [] next all = tt
     all_positive (e ∷ es) next all = omega (arith, (All-head (IsApplicationBelow next) e es all).positive)
 
+-- a countable ledger that keeps the rules is what its bytes are read as
 pub ledger_back_alone : (l : Ledger) → KeepsRules l → IsCountable l → ledger_at (ledger_bytes l) ≡ Ok l
 ledger_back_alone l keeps count =
     ap ledger_at (sym (append-nil (ledger_bytes l))) ∙ then (ledger_front (ledger_bytes l ++ [])) (l, []) (alone Rest) (Ok l) (ledger_back l [] keeps count) refl
 
+-- no bytes begin with the spellings of two different countable ledgers that keep the rules
 pub none_begins : (l m : Ledger) (x y : List ℕ) → KeepsRules l → IsCountable l → KeepsRules m → IsCountable m → ledger_bytes l ++ x ≡ ledger_bytes m ++ y → (l ≡ m) × (x ≡ y)
 none_begins l m x y keeps count keeps' count' e =
     let same = sym (ledger_back l x keeps count) ∙ ap ledger_front e ∙ ledger_back m y keeps' count' in

@@ -43,6 +43,7 @@ pub and_second : (a b : Bool) → (a && b) ≡ true → b ≡ true
 and_second true b e = e
 and_second false b e = absurd cc
 
+-- what is tested as less is less
 pub less : (o : Ordering) → is_lt o ≡ true → o ≡ Less
 less Less e = refl
 less Equal e = absurd cc
@@ -151,6 +152,7 @@ schema_kept most bytes x e =
 program_kept : (bytes : List ℕ) (x : List ℕ × List ℕ) → program_at bytes ≡ Ok x → is_ok (checked x.0) ≡ true
 program_kept bytes x e = from (string_at Truncated bytes) _ x e (λ p ep e1. (rule_kept (λ z. is_ok (checked z.0)) p x e1).0)
 
+-- an id that is read is above the one before and below the next id
 pub id_kept : (before next : ℕ) (bytes : List ℕ) (x : ℕ × List ℕ) → id_between before next bytes ≡ Ok x → (before < x.0) × (x.0 < next)
 id_kept before next bytes x e =
     from (number_at Truncated w64 bytes) _ x e (λ i ei e1.
@@ -189,6 +191,7 @@ record AreApplications (before next : ℕ) (apps : List (ℕ × StoredApplicatio
   rising : IsStrictlySortedBy nat_cmp (keys_of apps)
   each : All (IsApplicationBelow next) apps
 
+-- a number below another compares as less
 pub nat_lower : (a b : ℕ) → a < b → nat_cmp a b ≡ Less
 nat_lower a b lt = let test : ltb a b ≡ true = lt-ltb a b lt in rw test refl
 
@@ -217,10 +220,12 @@ applications_kept (suc n) before next bytes x all e =
 
 -- ---- local states
 
+-- all accounts with applications are above the pair before, if there is one
 abbrev pub IsAbovePair : Option (Address × ℕ) → List (Address × ℕ) → Type 0
 IsAbovePair None keys = Unit {0}
 IsAbovePair (Some before) keys = AllByRecursion (λ k. account_cmp before k ≡ Less) keys
 
+-- the accounts with applications of local states rise, and are above the pair before
 pub record RiseFrom (before : Option (Address × ℕ)) (states : List ((Address × ℕ) × Entries)) : Type 0 where
   pub above : IsAbovePair before (keys_of states)
   pub rising : IsStrictlySortedBy account_cmp (keys_of states)
@@ -229,6 +234,7 @@ pair_above : (before : Option (Address × ℕ)) (k : Address × ℕ) (ks : List 
 pair_above None k ks rises above = tt
 pair_above (Some b) k ks rises above = let lower : account_cmp b k ≡ Less = less _ rises in (lower, all_below account_total b k ks lower above)
 
+-- local states that are read rise, and are above the pair before
 pub local_states_rise : (n : ℕ) (before : Option (Address × ℕ)) (next : ℕ) (apps : List (ℕ × StoredApplication)) (bytes : List ℕ) (x : List ((Address × ℕ) × Entries) × List ℕ) → local_states_at n before next apps bytes ≡ Ok x → RiseFrom before x.0
 unfolding IsStrictlySortedBy
 local_states_rise zero before next apps bytes x e =
@@ -309,6 +315,7 @@ front_kept bytes x all e =
     } in
     subst (λ p. KeepsRules p.0 × IsCountable p.0) is (rules, few)))))))
 
+-- a ledger that is read keeps the rules, and four bytes count its applications and local states
 pub ledger_kept : (bytes : List ℕ) (l : Ledger) → All (λ b. b < 256) bytes → ledger_at bytes ≡ Ok l → KeepsRules l × IsCountable l
 ledger_kept bytes l all e =
     from (ledger_front bytes) (alone Rest) l e (λ f ef e1.

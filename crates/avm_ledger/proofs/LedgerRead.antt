@@ -38,13 +38,16 @@ in_order l keeps = record {
   local_states = keeps.rising_accounts;
 }
 
+-- a ledger that is read keeps the rules
 pub rules_of : (bytes : List ℕ) (r : Result Ledger (Failure LedgerFault)) → All (λ b. b < 256) bytes → Gives (λ l. l) r (ledger_at bytes) → IfOk r (λ l. KeepsRules l)
 rules_of bytes (Ok l) all e = (ledger_kept bytes l all e).0
 rules_of bytes (Err d) all e = tt
 
+-- a ledger that is read is spelled by those very bytes
 pub spelling_of : (bytes : List ℕ) (r : Result Ledger (Failure LedgerFault)) → All (λ b. b < 256) bytes → Gives (λ l. l) r (ledger_at bytes) → IfOk r (λ l. ledger_bytes l ≡ bytes)
 spelling_of bytes (Ok l) all e = ledger_spelled bytes l all e
 spelling_of bytes (Err d) all e = tt
 
+-- bytes of a countable ledger that keeps the rules are read as it, unless memory is refused
 pub only_its_ledger : (bytes : List ℕ) (r : Result Ledger (Failure LedgerFault)) (l : Ledger) → Gives (λ x. x) r (ledger_at bytes) → KeepsRules l → IsCountable l → bytes ≡ ledger_bytes l → Gives (λ x. x) r (Ok l)
 only_its_ledger bytes r l given keeps few e = subst (λ m. Gives (λ x. x) r m) (ap ledger_at e ∙ ledger_back_alone l keeps few) given

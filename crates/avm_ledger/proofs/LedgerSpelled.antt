@@ -28,6 +28,7 @@ kept false x y e = absurd cc
 
 -- ---- states
 
+-- a key that is read is spelled by the first bytes
 pub key_spelled : (before : Option (List ℕ)) (bytes : List ℕ) (x : List ℕ × List ℕ) → AllBytes bytes → key_at before bytes ≡ Ok x → IsSpelled bytes (short_string_bytes x.0) x.1
 key_spelled before bytes x all e =
     let k = bind_ok (short_string_at Truncated bytes) _ x e in
@@ -37,6 +38,7 @@ pub and_first : (a b : Bool) → (a && b) ≡ true → a ≡ true
 and_first true b e = refl
 and_first false b e = absurd cc
 
+-- what succeeds behind a rule succeeds without it
 pub if_kept : {A F : Type 0} (rule : Bool) (r : Result A F) (d : F) (x : A) → cond rule r (Err d) ≡ Ok x → r ≡ Ok x
 if_kept true r d x e = e
 if_kept false r d x e = absurd cc
@@ -69,11 +71,13 @@ kind_spelled bytes n left x is e = at_uint (eqb n.0 1 && ltb 0 left.uints) refl 
     at_uint true test e = uint_value (eqb-true n.0 1 (and_first _ _ test)) e
     at_uint false test e = at_bytes (eqb n.0 2 && ltb 0 left.bytes) refl e
 
+-- a value that is read is spelled by the first bytes
 pub value_spelled : (left : Schema) (bytes : List ℕ) (x : Value × List ℕ) → AllBytes bytes → value_at left bytes ≡ Ok x → IsSpelled bytes (value_bytes x.0) x.1
 value_spelled left bytes x all e =
     let n = bind_ok (number_at Truncated w8 bytes) (value_of_kind left) x e in
     kind_spelled bytes n.0 left x (byte_spelled Truncated bytes n.0 all n.1) n.2
 
+-- entries that are read are spelled by the first bytes, and are as many as were asked for
 pub entries_spelled : (n : ℕ) (before : Option (List ℕ)) (left : Schema) (bytes : List ℕ) (x : Entries × List ℕ) → AllBytes bytes → entries_at n before left bytes ≡ Ok x
     → IsSpelled bytes (flat_map entry_bytes x.0) x.1 × (length x.0 ≡ n)
 entries_spelled zero before left bytes x all e =
@@ -111,6 +115,7 @@ program_spelled bytes x all e =
     let p = bind_ok (string_at Truncated bytes) _ x e in
     subst (λ q. IsSpelled bytes (string_bytes q.0) q.1) (kept _ p.0 x p.2) (string_spelled Truncated bytes p.0 all p.1)
 
+-- the bytes of an application behind its id
 pub stored_bytes : StoredApplication → List ℕ
 stored_bytes app =
     app.row.creator.0 ++ string_bytes app.row.approval ++ string_bytes app.row.clear ++ schema_bytes app.row.global_schema ++ schema_bytes app.row.local_schema ++ state_bytes app.state
@@ -121,6 +126,7 @@ unfolding stored_bytes
 stored_joined app bytes a b c d e rest creator approval clear global local state =
     join bytes _ e _ rest (join bytes _ d _ e (join bytes _ c _ d (join bytes _ b _ c (join bytes _ a _ b creator approval) clear) global) local) state
 
+-- an application that is read is spelled by the first bytes
 pub stored_spelled : (bytes : List ℕ) (x : StoredApplication × List ℕ) → AllBytes bytes → stored_application_at bytes ≡ Ok x → IsSpelled bytes (stored_bytes x.0) x.1
 stored_spelled bytes x all e =
     from (address_at Truncated bytes) _ x e (λ a ea e1.
@@ -144,6 +150,7 @@ id_spelled before next bytes x all e =
     let n = bind_ok (number_at Truncated w64 bytes) _ x e in
     subst (λ p. IsSpelled bytes (u64_bytes p.0) p.1) (kept _ n.0 x n.2) (u64_spelled Truncated bytes n.0 all n.1)
 
+-- applications that are read are spelled by the first bytes, and are as many as were asked for
 pub applications_spelled : (n before next : ℕ) (bytes : List ℕ) (x : List (ℕ × StoredApplication) × List ℕ) → AllBytes bytes → applications_at n before next bytes ≡ Ok x
     → IsSpelled bytes (flat_map application_bytes x.0) x.1 × (length x.0 ≡ n)
 unfolding stored_bytes
@@ -175,6 +182,7 @@ local_id_spelled before next who bytes x all e =
     let i = bind_ok (id_between 0 next bytes) _ x e in
     subst (λ p. IsSpelled bytes (u64_bytes p.0) p.1) (kept _ i.0 x i.2) (id_spelled 0 next bytes i.0 all i.1)
 
+-- local states that are read are spelled by the first bytes, and are as many as were asked for
 pub local_states_spelled : (n : ℕ) (before : Option (Address × ℕ)) (next : ℕ) (apps : List (ℕ × StoredApplication)) (bytes : List ℕ) (x : List ((Address × ℕ) × Entries) × List ℕ) → AllBytes bytes → local_states_at n before next apps bytes ≡ Ok x
     → IsSpelled bytes (flat_map local_state_bytes x.0) x.1 × (length x.0 ≡ n)
 local_states_spelled zero before next apps bytes x all e =
@@ -228,10 +236,12 @@ front_spelled bytes x all e =
     subst (λ p. IsSpelled bytes (ledger_bytes p.0) p.1) is
     (ledger_joined l bytes n.1 a.1 s.1 next (counted application_bytes n.1 c a.0 a.1 count apps.0 apps.1) (counted local_state_bytes a.1 d s.0 s.1 states locals.0 locals.1)))))))
 
+-- where a ledger is read, it is the one at the front, and no bytes stand behind it
 pub at_end : (l m : Ledger) (rest : List ℕ) (b : Bool) → eqb (length rest) 0 ≡ b → ◌≡◌ {A = Result Ledger LedgerFault} (cond b (Ok m) (Err Rest)) (Ok l) → (m ≡ l) × (rest ≡ [])
 at_end l m rest true test e = (same_value _ _ e, nil_from_length rest (eqb-true (length rest) 0 test))
 at_end l m rest false test e = absurd cc
 
+-- a ledger that is read is spelled by those very bytes
 pub ledger_spelled : (bytes : List ℕ) (l : Ledger) → All (λ b. b < 256) bytes → ledger_at bytes ≡ Ok l → ledger_bytes l ≡ bytes
 ledger_spelled bytes l all e =
     let f = bind_ok (ledger_front bytes) (alone Rest) l e in

@@ -18,6 +18,7 @@ pub none_in_front : {A F : Type 0} (r : Front F (List A)) → with_front [] r �
 none_in_front (Ok xs) = refl
 none_in_front (Err e) = refl
 
+-- a value that is read first may as well stand last among those in front
 pub one_in_front : {A F : Type 0} (front : List A) (x : A) (r : Front F (List A)) → with_front front (r >>= λ xs. Ok (x ∷ xs.0, xs.1)) ≡ with_front (front ++ x ∷ []) r
 one_in_front front x (Ok xs) = ap (λ ys. Ok (ys, xs.1)) (sym (append_assoc front (x ∷ []) xs.0))
 one_in_front front x (Err e) = refl
@@ -31,12 +32,14 @@ module _ {K X : Type 0} {R : K → K → Ordering} (o : IsTotalOrder R) where
   abbrev pub AllLower : List (K × X) → K → Type 0
   AllLower es k = AllByRecursion (λ y. R y k ≡ Less) (keys_of es)
 
+  -- an entry whose key is above all others is inserted last
   pub insert_last : (k : K) (v : X) (es : List (K × X)) → AllLower es k → insert_entry R es k v ≡ es ++ (k, v) ∷ []
   insert_last k v [] h = refl
   insert_last k v (e ∷ es) h =
       let above : R k e.0 ≡ Greater = o.antisymm k e.0 ∙ ap ordering_reverse h.0 in
       ap (λ r. match_ordering r ((k, v) ∷ e ∷ es) ((e.0, v) ∷ es) (e ∷ insert_entry R es k v)) above ∙ ap (λ xs. e ∷ xs) (insert_last k v es h.1)
 
+  -- entries below a key, and one at that key behind them, are all below a higher key
   pub all_lower_more : (k q : K) (v : X) (es : List (K × X)) → AllLower es k → R k q ≡ Less → AllLower (es ++ (k, v) ∷ []) q
   all_lower_more k q v [] h p = (p, tt)
   all_lower_more k q v (e ∷ es) h p = (o.trans e.0 k q h.0 p, all_lower_more k q v es h.1 p)

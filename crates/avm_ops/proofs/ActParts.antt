@@ -8,6 +8,7 @@ use Rattle.avm_items.specs.Items.{entry_in}
 use Rattle.avm_items.specs.Asks.{Gives, Asks, and_then}
 use Rattle.avm_items.specs.Acts.{Act, on_ok, found, test, reads}
 
+-- P holds of a part and what follows it, where it holds of faults and of what follows
 pub then_act : {A B F : Type 0} (P : Act F B → Type 0) → ((e : F) → P (Gives (Err e))) → (r : Result A F) (f : A → Act F B) → ((a : A) → r ≡ Ok a → P (f a)) → P (on_ok f r)
 then_act P stops (Ok a) f h = h a refl
 then_act P stops (Err e) f h = stops e

@@ -8,6 +8,7 @@ use Rattle.teal_value.specs.declared.fault.Fault.{Fault}
 use Rattle.avm_cpu.specs.Operands.{one_uint, one_bytes, one_value, two_uints, two_bytes, two_values, uint_and_bytes, bytes_and_uint, bytes_and_value, value_and_uint, bytes_and_two_uints, value_and_two_uints, two_values_and_uint, two_uints_and_bytes}
 use Rattle.avm_ops.specs.Frame.{there}
 
+-- G holds of the result, where there is no fault
 abbrev pub OkOf : {A : Type 0} → (A → Type 0) → Result A Fault → Type 0
 OkOf G (Ok a) = G a
 OkOf G (Err f) = Unit {0}
@@ -21,6 +22,7 @@ second P v w s all = first P w s (All-tail P v (w ∷ s) all)
 third : (P : Value → Type 0) (u v w : Value) (s : List Value) → All P (u ∷ v ∷ w ∷ s) → P w
 third P u v w s all = second P v w s (All-tail P u (v ∷ w ∷ s) all)
 
+-- what holds of each value on the stack holds of the operands, of whatever kinds they are
 pub one_uint_fits : (P : Value → Type 0) (stack : List Value) → All P stack → OkOf (λ a. P (Uint a)) (one_uint stack)
 one_uint_fits P [] all = tt
 one_uint_fits P (Uint a ∷ s) all = first P (Uint a) s all
@@ -145,6 +147,7 @@ two_uints_and_bytes_fits P (Bytes c ∷ Uint b ∷ Bytes a ∷ s) all = tt
 two_uints_and_bytes_fits P (Bytes c ∷ Bytes b ∷ Uint a ∷ s) all = tt
 two_uints_and_bytes_fits P (Bytes c ∷ Bytes b ∷ Bytes a ∷ s) all = tt
 
+-- what holds of all elements holds of the one at an index, if there is one
 pub get_fits : {A : Type 0} (P : A → Type 0) (xs : List A) (i : ℕ) → All P xs → IfSome (slice_get xs i) P
 get_fits P [] i all = tt
 get_fits P (x ∷ xs) zero all = All-head P x xs all

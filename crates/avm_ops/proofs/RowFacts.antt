@@ -58,6 +58,7 @@ questions op.AppLocalDel = 1
 questions op.AppGlobalDel = 2
 questions _ = 0
 
+-- whether an instruction may write items
 abbrev pub writes_items : Opcode → Bool
 writes_items op.AppLocalPut = true
 writes_items op.AppGlobalPut = true
@@ -67,6 +68,7 @@ writes_items _ = false
 
 -- ---- what holds where an instruction doesn't fault
 
+-- R holds of what an instruction leaves, where it doesn't fault
 abbrev pub OnOk : (After → Type 0) → Stepped → Type 0
 OnOk R (Ok after) = R after
 OnOk R (Err f) = Unit {0}
@@ -165,6 +167,7 @@ range_kind t false = tt
 
 -- ---- one part of a row after another
 
+-- R holds of a row, where it holds of what follows the first part
 pub then_ok : {A : Type 0} (R : After → Type 0) (r : Result A Fault) (f : A → Stepped) → ((a : A) → OnOk R (f a)) → OnOk R (r >>= f)
 then_ok R (Ok a) f h = h a
 then_ok R (Err e) f h = tt
@@ -177,6 +180,7 @@ then_kind R k (Err e) f is h = tt
 abbrev pub Row : ℕ → (After → Type 0) → Act Fault After → Type 0
 Row n R t = AsksAtMost Any n (OnOk R) t
 
+-- a part that asks nothing leaves the number of questions as it is
 pub then_act : {A : Type 0} (n : ℕ) (R : After → Type 0) (r : Result A Fault) (f : A → Act Fault After) → ((a : A) → Row n R (f a)) → Row n R (on_ok f r)
 then_act n R r f h = part.then_act (Row n R) (λ e. tt) r f (λ a _. h a)
 
@@ -186,6 +190,7 @@ then_found n R o e f h = part.then_found (Row n R) o e f tt (λ a _. h a)
 pub then_test : (n : ℕ) (R : After → Type 0) (b : Bool) (e : Fault) (f : Unit {0} → Act Fault After) → Row n R (f tt) → Row n R (and_then (test b e) (on_ok f))
 then_test n R b e f h = part.then_test (Row n R) b e f tt (λ _. h)
 
+-- an entry of a global state takes one question at most
 pub entry_asks : (n : ℕ) (R : After → Type 0) (id : ℕ) (key : List ℕ) (f : Option Value → Act Fault After) → 0 < n → ((v : Option Value) → Row (n - 1) R (f v)) → Row n R (and_then (global_entry id key) (on_ok f))
 entry_asks n R id key f some h =
     part.entry_by (Row n R) (item.Key id key) f (nat_le (length key) most_key_bytes) (λ _. (some, λ v _. h (entry_in v))) (λ _. at_most-more Any (n - 1) n (OnOk R) (f None) (omega arith) (h None))
@@ -193,6 +198,7 @@ entry_asks n R id key f some h =
 foreign_asks : (n : ℕ) (R : After → Type 0) (c : Context) (i : ℕ) (f : ℕ → Act Fault After) → ((id : ℕ) → Row n R (f id)) → Row n R (and_then (foreign_application c i) (on_ok f))
 foreign_asks n R c i f h = then_act n R (foreign_of c.call c.current i) f h
 
+-- the tests before a put ask nothing
 pub may_put_asks : (n : ℕ) (R : After → Type 0) (key : List ℕ) (v : Value) (f : Unit {0} → Act Fault After) → Row n R (f tt) → Row n R (and_then (may_put key v) (on_ok f))
 may_put_asks n R key v f h = part.may_put_by (Row n R) (λ e. tt) f (nat_le (length key) most_key_bytes) (nat_le (value_length v) most_value_bytes) (λ _ _. h)
 
@@ -219,6 +225,7 @@ global_asks c target (Some global.CurrentApplicationId) = pushed c target kind.A
 
 -- ---- row by row
 
+-- these facts, by the opcode and the immediates of an instruction
 abbrev pub FactsOf : Context → Opcode → Immediates → After → Type 0
 FactsOf c o i =
     Facts c (branch_target c.machine.place o i) (uints_after o i c.machine.uint_constants) (strings_after o i c.machine.byte_constants) (writes_items o) (row_of o).pops (row_of o).pushes
@@ -228,6 +235,7 @@ pub record RowFacts (c : Context) (o : Opcode) (i : Immediates) (t : Act Fault A
   pub takes : TestsFirst (row_of o).pops c.machine.stack t
   pub leaves : Row (questions o) (FactsOf c o i) t
 
+-- every instruction tests its operands first, and leaves what its row says
 pub row_facts : (c : Context) (o : Opcode) (i : Immediates) → RowFacts c o i (effect c o i)
 unfolding effect row_of
 row_facts c op.Err i = record { takes = takes_none c.machine.stack _; leaves = tt }
@@ -309,6 +317,7 @@ row_facts c op.Pushint i = record { takes = takes_none c.machine.stack _; leaves
 
 -- ---- what follows
 
+-- no instruction asks for more than three items
 pub questions_few : (o : Opcode) → questions o ≤ 3
 questions_few op.Global = omega arith
 questions_few op.AppOptedIn = omega arith
@@ -327,10 +336,12 @@ pub at_most-each : {A : Type 0} (n m : ℕ) (P S : A → Type 0) (t : Ask A) →
 at_most-each n m P S (Gives a) few f h = f a h
 at_most-each n m P S (Asks x k) few f h = (omega (arith, h.0), λ v any. at_most-each (n - 1) (m - 1) P S (k v) (omega arith) f (h.1 v any))
 
+-- what holds of each result holds of the one over these items
 pub at_most-result : {A : Type 0} (n : ℕ) (P : A → Type 0) (look : Look) (t : Ask A) → AsksAtMost Any n P t → P (result_over look t)
 at_most-result n P look (Gives a) h = h
 at_most-result n P look (Asks x k) h = at_most-result (n - 1) P look (k (look x)) (h.1 (look x) tt)
 
+-- an instruction asks for at most three items, and goes on as its opcode and immediates say
 pub effect_asks : AsksLittle
 effect_asks c o i = at_most-each (questions o) 3 (OnOk (FactsOf c o i)) _ (effect c o i) (questions_few o) goes (row_facts c o i).leaves
   where
@@ -338,9 +349,11 @@ effect_asks c o i = at_most-each (questions o) 3 (OnOk (FactsOf c o i)) _ (effec
     goes (Ok after) h = (h.goes, h.uints, h.strings)
     goes (Err f) h = tt
 
+-- fewer values than the row takes are an underflow
 pub underflows : Underflows
 underflows c o i = (row_facts c o i).takes.underflow
 
+-- where there are enough, a value of another type than the row takes is at fault
 pub tests_types : TestsTypes
 tests_types c o i = (row_facts c o i).takes.types
 

@@ -263,10 +263,12 @@ pub record Takes {A : Type 0} (pops : List ValueKind) (stack : List Value) (r : 
   pub underflow : length stack < length pops → r ≡ Err fault.Underflow
   pub types : length pops ≤ length stack → are_kinds (reverse pops) stack ≡ false → r ≡ Err fault.WrongType
 
+-- an instruction tests for underflow first, and then for the types of its operands
 pub record TestsFirst (pops : List ValueKind) (stack : List Value) (t : Act Fault After) : Type 0 where
   pub underflow : length stack < length pops → t ≡ stop fault.Underflow
   pub types : length pops ≤ length stack → are_kinds (reverse pops) stack ≡ false → t ≡ stop fault.WrongType
 
+-- each kind of operands tests for underflow, and then for types
 pub one_uint-takes : (stack : List Value) → Takes (kind.Uint ∷ []) stack (one_uint stack)
 one_uint-takes stack = record { underflow = one_uint-underflow stack; types = one_uint-types stack }
 
@@ -312,9 +314,11 @@ two_uints_and_bytes-takes stack = record { underflow = two_uints_and_bytes-under
 pub uint_bytes_and_value-takes : (stack : List Value) → Takes (kind.Uint ∷ kind.Bytes ∷ kind.Any ∷ []) stack (uint_bytes_and_value stack)
 uint_bytes_and_value-takes stack = record { underflow = uint_bytes_and_value-underflow stack; types = uint_bytes_and_value-types stack }
 
+-- an instruction that takes no operands has none to test
 pub takes_none : (stack : List Value) (t : Act Fault After) → TestsFirst [] stack t
 takes_none stack t = record { underflow = λ h. absurd (omega arith); types = λ h t. absurd cc }
 
+-- an instruction that reads its operands first tests them first
 pub takes_act : {A : Type 0} {pops : List ValueKind} {stack : List Value} {r : Result A Fault} (f : A → Act Fault After) → Takes pops stack r → TestsFirst pops stack (on_ok f r)
 takes_act f k = record { underflow = λ h. ap (on_ok f) (k.underflow h); types = λ h t. ap (on_ok f) (k.types h t) }
 

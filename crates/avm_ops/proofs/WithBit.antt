@@ -32,6 +32,7 @@ half_room n p h w positive below all =
 bit_room : (bit p : ℕ) → bit < 2 → bit * p ≤ p
 bit_room bit p small = omega (arith, mul-le-mul {n₁ = bit} {m₁ = p} {n₂ = 1} {m₂ = p} (omega (arith, small)) (omega arith))
 
+-- setting one of the w bits of a number leaves it below 2 ^ w
 pub with_bit_fits : (w k n bit : ℕ) → k < w → n < 2 ^ w → bit < 2 → with_bit n k bit < 2 ^ w
 with_bit_fits w k n bit place below small =
     let p = 2 ^ k in

@@ -43,6 +43,7 @@ use Rattle.avm_ops.proofs.Questions.{Along, along-each}
 
 -- ---- what may be written
 
+-- what a ledger has of an application: the entry of a key, the counts, and the limit of a schema
 abbrev pub old_entry : Ledger → ℕ → List ℕ → Option Value
 old_entry m id key = entry_in (at m (item.Key id key))
 
@@ -73,6 +74,7 @@ pub data Writes (m : Ledger) (c : Context) (writes : ItemMap) : Type 0 where
 
 -- ---- what holds where an instruction doesn't fault
 
+-- the item is no key and no count of an application that is gone
 abbrev pub IsThere : Ledger → Item → Type 0
 IsThere m x = is_of_gone m x ≡ false
 
@@ -80,9 +82,11 @@ IsThere m x = is_of_gone m x ≡ false
 abbrev pub Row : Ledger → (After → Type 0) → Act Fault After → Type 0
 Row m R t = Along (at m) (IsThere m) (OnOk R) t
 
+-- the items written stay as they were
 abbrev pub Same : Context → After → Type 0
 Same c after = after.writes ≡ c.writes
 
+-- an instruction that doesn't write items leaves those written as they were
 pub effect_same : (c : Context) (o : Opcode) (i : Immediates) → writes_items o ≡ false → AsksAtMost Any (questions o) (OnOk (Same c)) (effect c o i)
 effect_same c o i quiet = at_most-each (questions o) (questions o) (OnOk (FactsOf c o i)) (OnOk (Same c)) (effect c o i) (omega arith) same (row_facts c o i).leaves
   where
@@ -95,12 +99,14 @@ effect_same c o i quiet = at_most-each (questions o) (questions o) (OnOk (FactsO
 then_act : {A : Type 0} (m : Ledger) (R : After → Type 0) (r : Result A Fault) (f : A → Act Fault After) → ((a : A) → Row m R (f a)) → Row m R (on_ok f r)
 then_act m R r f h = part.then_act (Row m R) (λ e. tt) r f (λ a _. h a)
 
+-- where a value must be there, R holds if it holds of what follows
 pub then_found : {A : Type 0} (m : Ledger) (R : After → Type 0) (o : Option A) (e : Fault) (f : A → Act Fault After) → ((a : A) → Row m R (f a)) → Row m R (and_then (found o e) (on_ok f))
 then_found m R o e f h = part.then_found (Row m R) o e f tt (λ a _. h a)
 
 entry_read : (m : Ledger) (R : After → Type 0) (id : ℕ) (key : List ℕ) (f : Option Value → Act Fault After) → is_none (application_at m id) ≡ false → ((v : Option Value) → Row m R (f v)) → Row m R (and_then (global_entry id key) (on_ok f))
 entry_read m R id key f stands h = part.entry_by (Row m R) (item.Key id key) f (nat_le (length key) most_key_bytes) (λ _. (stands, h (old_entry m id key))) (λ _. h None)
 
+-- an application that has a row is there
 pub stands_if_row : (m : Ledger) (id : ℕ) (a : Option StoredApplication) → is_some (application_in (row_value a)) ≡ true → is_none a ≡ false
 stands_if_row m id None e = absurd cc
 stands_if_row m id (Some app) e = refl
@@ -125,6 +131,7 @@ global_reads m c (Some global.Round) = pushed c _
 global_reads m c (Some global.LatestTimestamp) = pushed c _
 global_reads m c (Some global.CurrentApplicationId) = pushed c _
 
+-- where an instruction names an application, R holds if it holds for each application
 pub foreign_by : (m : Ledger) (R : After → Type 0) (f : ℕ → Act Fault After) → ((id : ℕ) → Row m R (f id)) → (r : Result ℕ Fault) → Row m R (on_ok f r)
 foreign_by m R f h (Ok id) = h id
 foreign_by m R f h (Err e) = tt

@@ -7,6 +7,7 @@ use Rattle.std.proofs.lemmas.Bool.Decides.{nat_tests}
 use Rattle.avm_pool.specs.Proposals.{AreMarkedNumbers, left_to, times}
 use Rattle.avm_pool.proofs.Remaining.{left_no, left_yes}
 
+-- for an empty list no number is marked
 pub none_marked : (n : ℕ) → AreMarkedNumbers [] n (replicate n false)
 none_marked n = record { count = length-replicate n false; each = λ i d below. get_or-replicate n i false d below }
 

@@ -37,12 +37,14 @@ all_drawn-set_more (y ∷ ys) (suc i) v w x at more =
 all_drawn-more : (views : List Hand) (w : Hand) → w.drawn ≡ [] → all_drawn (views ++ w ∷ []) ≡ all_drawn views
 all_drawn-more views w none = flat_map-append (λ (v : Hand). v.drawn) views (w ∷ []) ∙ ap (λ d. all_drawn views ++ (d ++ [])) none ∙ append-nil (all_drawn views)
 
+-- the rule holds of an empty queue with one pass, which may put and has put nothing
 pub begins : Numbered [] (hand true 0 [] ∷ [])
 begins = (0, 0, (λ i v at puts. first i v at), IsPermutation-refl []) where
   first : (i : ℕ) (v : Hand) → get_elem? (hand true 0 [] ∷ []) i ≡ some v → (i ≡ 0) × (v.put ≡ 0)
   first zero v at = (refl, ap (λ (u : Hand). u.put) (sym (some-injective (hand true 0 []) v at)))
   first (suc i) v at = absurd (some-ne-none v (sym at))
 
+-- a put, a draw and a new pass each keep the rule
 pub puts : (n pass : ℕ) (v : Hand) (x : ℕ) → v.puts ≡ true → x ≡ v.put + 1 → Pushes Numbered n pass v x (λ w. w ≡ hand v.puts (v.put + 1) v.drawn)
 puts n pass v x may next items views room h at =
     let w = hand v.puts (v.put + 1) v.drawn in
@@ -80,6 +82,7 @@ forks pass v items views h at =
     let P : List Hand → Type 0 = λ vs. Numbered items (vs ++ worker ∷ []) in
     subst P (sym (set_again views pass v at)) now
 
+-- what a pass learns of the queue at a moment, the rule allows
 pub allows : (pass : ℕ) (v : Hand) → Learns Numbered pass v (Allows v)
 allows pass v items views h at = (pass, views, h, at)
 

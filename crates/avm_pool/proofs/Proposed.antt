@@ -20,6 +20,7 @@ within_counted n m (x ∷ xs) h some = by_test (x == m) refl (λ more. within_co
       let none : cond (x == m) 1 0 ≡ 0 = ap {B = ℕ} (λ (b : Bool). cond b 1 0) is in
       rest (omega (arith, c, none, some))
 
+-- a seal of a journal, with the numbers that are left, is a proposal
 pub sealed_is_proposal : (j : Journal) (p : Proposal) → IsSealed j p.block p.numbers.items → p.left.items ≡ left_to p.numbers.items (length j.calls) → IsProposal j.base j.header j.calls p
 sealed_is_proposal j p s left =
     let xs = p.numbers.items in

@@ -21,6 +21,7 @@ module _ {O : Type 0} (opcode : O → Opcode) where
   own_is_full_in [] own h = h
   own_is_full_in (set ∷ sets) own h = own_is_full_in sets own h.1
 
+  -- where no test fails, the caller's own set has an object of every opcode
   pub own_is_full : (sets : List (Slots O)) (own : Slots O) (header : Header) (calls : List CallData) → MayPropose opcode sets own header calls → IsFull opcode own
   own_is_full sets own header calls may = own_is_full_in sets own may.full
 
@@ -32,6 +33,7 @@ module _ {O : Type 0} (opcode : O → Opcode) where
   wants_are_refusals sets own header calls may (failure.Fault (fault.OpMissing code)) want = absurd want
   wants_are_refusals sets own header calls may (failure.Fault (fault.Profile number)) want = absurd want
 
+  -- where no test fails, a journal of the calls may be opened
   pub journal_opens : (sets : List (Slots O)) (own : Slots O) (header : Header) (calls : List CallData) → MayPropose opcode sets own header calls → open_fault header calls ≡ None
   journal_opens sets own header calls may =
       let few : nat_lt most_calls (length calls) ≡ false = let l = may.workers.calls_few in grind (arith, nat_tests) in
@@ -61,6 +63,7 @@ module _ {O : Type 0} (opcode : O → Opcode) where
   may_on_ok sets own header calls (Ok x) may = may
   may_on_ok sets own header calls (Err e) may = tt
 
+  -- where no test fails, a want of threads, timestamps or memory is a refusal
   pub wants_on_err : {A : Type 0} (sets : List (Slots O)) (own : Slots O) (header : Header) (calls : List CallData) (r : Result A (Failure PoolFault)) → MayPropose opcode sets own header calls → IfErr r IsWant → IfErr r (IsRefusal opcode sets own header calls)
   wants_on_err sets own header calls (Ok x) may want = tt
   wants_on_err sets own header calls (Err e) may want = wants_are_refusals sets own header calls may e want

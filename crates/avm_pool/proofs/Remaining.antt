@@ -82,12 +82,14 @@ inside : (xs : List ℕ) (n m : ℕ) → ((m : ℕ) → 0 < times m xs → (1 �
 inside xs n m within some true is = bounded xs n m (let e = eqb-true (times m xs) 0 is in omega arith)
 inside xs n m within some false is = within m (grind (arith, nat_tests))
 
+-- a list of numbers from 1 to n, each at most once, and those left are all of them
 pub all_numbers : (xs : List ℕ) (n : ℕ) → ((m : ℕ) → times m xs ≤ 1) → ((m : ℕ) → 0 < times m xs → (1 ≤ m) × (m ≤ n)) → AreNumbersTo n (xs ++ left_to xs n)
 all_numbers xs n once_each within = record {
   each = λ m low high. let a = times-append m xs (left_to xs n) in let p = present xs n m low high in let o = once (times m xs) (once_each m) in omega (arith, a, p, o);
   none = λ m some. let a = times-append m xs (left_to xs n) in inside xs n m within (omega (arith, a)) (times m xs == 0) refl;
 }
 
+-- the next number is left exactly where it does not stand in the list
 pub left_yes : (xs : List ℕ) (n : ℕ) → times (n + 1) xs ≡ 0 → left_to xs (n + 1) ≡ left_to xs n ++ (n + 1) ∷ []
 left_yes xs n none = rw add-one (ap (λ (b : Bool). left_to xs n ++ (if b then suc n ∷ [] else [])) (eq-eqb (times (suc n) xs) 0 (rw (← add-one) none)))
 
@@ -106,6 +108,7 @@ rising_more : (xs : List ℕ) (n : ℕ) (b : Bool) → All (λ k. k ≤ n) xs �
 rising_more xs n true h up = all_pairs_push ◌<◌ xs (suc n) up (λ k d l. let x = h k d l in omega arith)
 rising_more xs n false h up = rw (append-nil xs) up
 
+-- the numbers left rise
 pub rising : (xs : List ℕ) (n : ℕ) → AllPairs ◌<◌ (left_to xs n)
 rising xs zero = λ i j d a l. absurd (omega arith)
 rising xs (suc n) = rising_more (left_to xs n) n (times (suc n) xs == 0) (at_most xs n) (rising xs n)

@@ -13,16 +13,19 @@ use Rattle.avm_block.specs.BlockRoundTrip.{AreEntries}
 use Rattle.avm_replay.specs.Past.{entries_until}
 use Rattle.avm_replay.specs.Verdicts.{Compares, IsFirstWrong}
 
+-- lists that are the same have the same first element, and the same others
 pub heads : {A : Type 0} {x y : A} {xs ys : List A} → x ∷ xs ≡ y ∷ ys → x ≡ y
 heads e = cc
 
 pub tails : {A : Type 0} {x y : A} {xs ys : List A} → x ∷ xs ≡ y ∷ ys → xs ≡ ys
 tails e = cc
 
+-- one call more ends as it does on the ledger after those before it
 pub outcomes-append : (l : Ledger) (h : Header) (cs : List CallData) (c : CallData) → outcomes l h (cs ++ c ∷ []) ≡ outcomes l h cs ++ outcome_on (replayed l h cs) c h ∷ []
 outcomes-append l h [] c = refl
 outcomes-append l h (b ∷ bs) c = ap (λ os. outcome_on l b h ∷ os) (outcomes-append (ledger_after l b h) h bs c)
 
+-- one call more leads from the ledger after those before it to the one after it
 pub replayed-append : (l : Ledger) (h : Header) (cs : List CallData) (c : CallData) → replayed l h (cs ++ c ∷ []) ≡ ledger_after (replayed l h cs) c h
 replayed-append l h [] c = refl
 replayed-append l h (b ∷ bs) c = replayed-append (ledger_after l b h) h bs c

@@ -16,9 +16,11 @@ approved : outcome_on empty_ledger creating_call (zero_header profile.Two) ≡ o
 unfolding row_of opcodes opcode_at txn_field_at global_field_at effect
 approved = refl
 
+-- a block that says the creation was approved agrees, and leads to the ledger after it
 pub agrees : Judges empty_ledger (block_of_creation outcome.Approved) (verdict.Agrees ledger_after_creation)
 agrees = (record { base = refl; outcomes = λ i. approved i ∷ []; after = refl }, refl)
 
+-- a block that says it was rejected is wrong at its first entry, which is approved
 pub other_outcome : Judges empty_ledger (block_of_creation outcome.Rejected) (verdict.WrongOutcome 1 outcome.Approved)
 other_outcome = (
   refl,

@@ -112,6 +112,7 @@ same_at : (l : Ledger) (items others : List (Item × ItemValue)) → IsInOrder l
 same_at l items others o d e same m n x c p q =
     put_value l items x o d m c p ∙ ap (λ found. unwrap_or found (at l x)) (same x) ∙ sym (put_value l others x o e n c q)
 
+-- the order in which items are put doesn't matter, as long as each may be put in its turn
 pub any_order : (l : Ledger) (items others : List (Item × ItemValue)) → IsInOrder l → AreDistinct items → AreDistinct others → ((x : Item) → value_in items x ≡ value_in others x) → MayPutAll l items → MayPutAll l others → put l items ≡ put l others
 any_order l items others o d e same m n = has_all (put l items) (put l others) (put_in_order l items o) (put_in_order l others o) has
   where

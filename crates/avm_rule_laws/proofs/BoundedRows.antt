@@ -43,9 +43,11 @@ use Rattle.avm_ops.proofs.RowValues.{IsClosed, Holds, Leaves, creator_holds, row
 
 -- ---- what a row is given, and what it leaves
 
+-- at most 4096 bytes
 abbrev pub IsShort : List ℕ → Type 0
 IsShort s = length s ≤ most_bytes
 
+-- the byte strings of a call have at most 4096 bytes each
 pub record IsShortCall (c : CallData) : Type 0 where
   pub sender : IsShort c.sender.0
   pub note : IsShort c.note
@@ -56,6 +58,7 @@ pub record IsShortCall (c : CallData) : Type 0 where
   pub approval : IsShort c.approval
   pub clear : IsShort c.clear
 
+-- before an instruction, the stack is within its height, and byte strings have at most 4096 bytes
 pub record Bounds (m : Ledger) (c : Context) : Type 0 where
   pub here : IsWithinBounds c.machine.stack c.machine.scratch
   pub strings : All IsShort c.machine.byte_constants
@@ -63,11 +66,13 @@ pub record Bounds (m : Ledger) (c : Context) : Type 0 where
   pub items : (x : Item) → Holds IsShortValue (at m x)
   pub stands : is_none (application_at m c.current) ≡ false
 
+-- the byte strings in an instruction have at most 4096 bytes each
 abbrev pub AreShortImmediates : Immediates → Type 0
 AreShortImmediates (is.Bytes s) = IsShort s
 AreShortImmediates (is.ByteBlock ss) = All IsShort ss
 AreShortImmediates _ = Unit {0}
 
+-- the stack and the scratch space after an instruction are within their bounds
 abbrev pub Good : After → Type 0
 Good after = IsWithinBounds after.machine.stack after.machine.scratch
 
@@ -190,6 +195,7 @@ leaves_bounded : (c : Context) → IsWithinBounds c.machine.stack c.machine.scra
 leaves_bounded c b (Ok after) h = record { height = h.height b.height; operands = h.stack; stored = h.scratch }
 leaves_bounded c b (Err f) h = tt
 
+-- an instruction that doesn't fault leaves the stack and the scratch space within their bounds
 pub effect_bounded : (m : Ledger) (c : Context) → Bounds m c → (o : Opcode) (i : Immediates) → AreShortImmediates i → Row m Good (effect c o i)
 effect_bounded m c b o i h =
     along-each (at m) (IsThere m) (OnOk (Leaves IsShortValue c)) (OnOk Good) (effect c o i) (leaves_bounded c b.here) (row_values IsShortValue m c o i (record {

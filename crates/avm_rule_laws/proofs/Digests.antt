@@ -23,6 +23,7 @@ unfolding long.digest_bytes
 long_fits h zero = All-nil (λ b. b < 256)
 long_fits h (suc n) = All-append (λ b. b < 256) (long.digest_bytes h n) (to_be_bytes w64 (slice_index h n)) (long_fits h n) (high_first_fits 8 (slice_index h n))
 
+-- a digest is a byte string that a machine may have
 pub sha256_fits : (s : List ℕ) → IsMachineValue (Bytes (sha256 s))
 unfolding sha256
 sha256_fits s = (omega (arith, length-sha256 s), short_fits _ 8)

@@ -73,6 +73,7 @@ fault_place f g a b x y p q e =
     let rest = fronts (u16_bytes a) (u16_bytes b) x y refl first.1 in
     (same_fault f g first.0, same_place a b p q rest.0, rest.1)
 
+-- two outcomes with short places whose spellings begin the same bytes are the same, as is the rest
 pub outcomes_apart : (o p : Outcome) (x y : List ℕ) → HasShortPlace o → HasShortPlace p → outcome_bytes o ++ x ≡ outcome_bytes p ++ y → (o ≡ p) × (x ≡ y)
 outcomes_apart outcome.Approved outcome.Approved x y h n e = (refl, (heads e).1)
 outcomes_apart outcome.Approved outcome.Rejected x y h n e = absurd (omega (arith, (heads e).0))

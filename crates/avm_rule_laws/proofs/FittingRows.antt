@@ -52,6 +52,7 @@ use Rattle.avm_ops.proofs.RowValues.{IsClosed, Holds, Leaves, creator_holds, row
 
 -- ---- what a row is given, and what it leaves
 
+-- what an instruction is given holds numbers and bytes of their types, over a sound ledger
 pub record Fits (m : Ledger) (c : Context) : Type 0 where
   pub stack : All IsMachineValue c.machine.stack
   pub scratch : All IsMachineValue c.machine.scratch
@@ -63,6 +64,7 @@ pub record Fits (m : Ledger) (c : Context) : Type 0 where
   pub ledger : IsSound m
   pub stands : is_none (application_at m c.current) ≡ false
 
+-- the numbers and byte strings in an instruction are values that a machine may have
 abbrev pub FitsImmediates : Immediates → Type 0
 FitsImmediates (is.Uint n) = IsWord n
 FitsImmediates (is.UintBlock ns) = All IsWord ns
@@ -70,6 +72,7 @@ FitsImmediates (is.Bytes s) = IsMachineValue (Bytes s)
 FitsImmediates (is.ByteBlock ss) = All (λ s. IsMachineValue (Bytes s)) ss
 FitsImmediates _ = Unit {0}
 
+-- every value on the stack and in the scratch space is one that a machine may have
 abbrev pub Fit : After → Type 0
 Fit after = All IsMachineValue after.machine.stack × All IsMachineValue after.machine.scratch
 
@@ -163,6 +166,7 @@ profile_fits : (p : Profile) → IsWord (profile_version p)
 profile_fits profile.Two = omega arith
 profile_fits profile.Three = omega arith
 
+-- the row and the state of an application in a sound ledger hold bytes and machine values
 pub stored_fits : (m : Ledger) → IsSound m → (id : ℕ) → IfSome (application_at m id) (λ app. IsRowOfBytes app.row × AreMachineValues app.state)
 stored_fits m s id = All-lookup (λ app. IsRowOfBytes app.row × AreMachineValues app.state) (is_at (nat_cmp id)) m.applications s.of_bytes.applications
 
@@ -201,6 +205,7 @@ key_fits : (o : Option Value) → IfSome o IsMachineValue → Holds IsMachineVal
 key_fits None h = tt
 key_fits (Some v) h = h
 
+-- a local state in a sound ledger holds machine values alone
 pub local_fits : (m : Ledger) → IsSound m → (who : Address) (id : ℕ) (state : Entries) → local_state_in (at m (item.Local who id)) ≡ Some state → AreMachineValues state
 local_fits m s who id state is = by (local_state_at m who id) (All-lookup AreMachineValues (is_at (account_cmp (who, id))) m.local_states s.of_bytes.local_states) is
   where
@@ -249,6 +254,7 @@ leaves_fit : (c : Context) (r : Stepped) → OnOk (Leaves IsMachineValue c) r �
 leaves_fit c (Ok after) h = (h.stack, h.scratch)
 leaves_fit c (Err f) h = tt
 
+-- after an instruction that doesn't fault, stack and scratch space hold machine values alone
 pub effect_fits : (m : Ledger) (c : Context) → Fits m c → (o : Opcode) (i : Immediates) → FitsImmediates i → Row m Fit (effect c o i)
 effect_fits m c f o i h =
     along-each (at m) (IsThere m) (OnOk (Leaves IsMachineValue c)) (OnOk Fit) (effect c o i) (leaves_fit c) (row_values IsMachineValue m c o i (record {

@@ -21,6 +21,7 @@ use Rattle.avm_ops.proofs.OperandValues.{OkOf}
 use Rattle.avm_ops.proofs.WithBit.{with_bit_fits}
 use Rattle.avm_rule_laws.specs.Rules.{AreBytes, IsMachineValue}
 
+-- a number below 2^64
 abbrev pub IsWord : ℕ → Type 0
 IsWord n = n < 2 ^ 64
 
@@ -30,6 +31,7 @@ below_by : (n : ℕ) (f : Fault) (b : Bool) → nat_lt n (2 ^ 64) ≡ b → OkOf
 below_by n f true e = ltb-true n (2 ^ 64) e
 below_by n f false e = tt
 
+-- what an instruction computes of numbers below 2^64 is below it too, where it doesn't fault
 pub sum_fits : (a b : ℕ) → IsWord a → IsWord b → OkOf IsWord (sum_of a b)
 sum_fits a b p q = below_by (a + b) fault.Overflow (nat_lt (a + b) (2 ^ 64)) refl
 
@@ -70,6 +72,7 @@ and_fits a b p q = and_lt 64 a b p q
 pub xor_fits : (a b : ℕ) → IsWord a → IsWord b → OkOf IsWord (bits_xor a b)
 xor_fits a b p q = xor_lt 64 a b p q
 
+-- the high and the low half of a number below 2^128 are below 2^64
 pub high_fits : (n : ℕ) → n < 2 ^ 64 * 2 ^ 64 → IsWord (n / 2 ^ 64)
 high_fits n below = (div-lt_iff_lt-mul {k = 2 ^ 64} {x = n} {y = 2 ^ 64} (pow_pos 64)).1 below
 
@@ -97,6 +100,7 @@ byte_fits : (i n : ℕ) → byte_at i n < 256
 byte_fits zero n = mod-lt n (omega arith)
 byte_fits (suc i) n = mod-lt (n / 256 ^ suc i) (omega arith)
 
+-- the bytes of a number, highest first, are below 256
 pub high_first_fits : (k n : ℕ) → AreBytes (bytes_high_first k n)
 high_first_fits zero n = All-nil (λ b. b < 256)
 high_first_fits (suc k) n = All-cons (λ b. b < 256) (byte_at k n) (bytes_high_first k n) (byte_fits k n) (high_first_fits k n)

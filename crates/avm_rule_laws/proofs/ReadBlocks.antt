@@ -43,6 +43,7 @@ entries_may_be_made h before (e ∷ es) w are all =
     All-cons (λ c. MayCall c h) e.call (calls_in es) (record { call_of_bytes = call; programs = programs; words = w })
     (entries_may_be_made h e.timestamp es w are.1 (All-tail (λ x. AreBytes (block_entry_bytes x)) e es all))
 
+-- the calls of a block that is read from bytes may be made
 pub calls_may_be_made : (bytes : List ℕ) (b : Block) → AreBytes bytes → block_at is_accepted bytes ≡ Ok b → All (λ call. MayCall call b.header) (calls_of b)
 calls_may_be_made bytes b all e =
     let spelled = block_spelled is_accepted bytes b all e in

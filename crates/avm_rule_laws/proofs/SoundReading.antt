@@ -30,6 +30,7 @@ abbrev joined : List ℕ → List (List ℕ) → List ℕ
 joined front [] = front
 joined front (p ∷ ps) = joined (front ++ p) ps
 
+-- where parts joined behind a front are bytes, the front and each part are
 pub parts : (front : List ℕ) (ps : List (List ℕ)) → AreBytes (joined front ps) → AreBytes front × AllByRecursion AreBytes ps
 parts front [] all = (all, tt)
 parts front (p ∷ ps) all =
@@ -44,6 +45,7 @@ each_part spelling [] all = All-nil (λ x. AreBytes (spelling x))
 each_part spelling (x ∷ xs) all =
     All-cons (λ y. AreBytes (spelling y)) x xs (front_all (λ b. b < 256) (spelling x) (flat_map spelling xs) all) (each_part spelling xs (rest_all (λ b. b < 256) (spelling x) (flat_map spelling xs) all))
 
+-- where a list spelled behind its count is bytes, the spelling of each element is
 pub counted_parts : {A : Type 0} (count : ℕ → List ℕ) (spelling : A → List ℕ) (xs : List A) → AreBytes (counted_bytes count spelling xs) → All (λ x. AreBytes (spelling x)) xs
 counted_parts count spelling xs all = each_part spelling xs (rest_all (λ b. b < 256) (count (length xs)) (flat_map spelling xs) all)
 
@@ -77,6 +79,7 @@ local_part next apps e is all =
     let p = parts e.0.0.0 (u64_bytes e.0.1 ∷ state_bytes e.1 ∷ []) all in
     state_part e.1 is.state.entries p.1.1.0
 
+-- a ledger that is read from bytes keeps the rules
 pub ledger_sound : (bytes : List ℕ) (l : Ledger) → AreBytes bytes → ledger_at bytes ≡ Ok l → IsSound l
 ledger_sound bytes l all e =
     let rules = (ledger_kept bytes l all e).0 in
@@ -114,6 +117,7 @@ spelled_call c fields whole =
       clear = string_part c.clear programs.1.0;
     }
 
+-- a call that is read from bytes is of bytes
 pub call_of_bytes : (bytes : List ℕ) (c : CallData) (rest : List ℕ) → AreBytes bytes → call_front bytes ≡ Ok (c, rest) → IsCallOfBytes c
 call_of_bytes bytes c rest all e =
     let spelled = front_spells bytes c rest all e in

@@ -12,6 +12,7 @@ over_more_by : (f : CallRecord) (known : Known) → Extends (value_in f.reads) k
 over_more_by f known w (Ok r) e h = ap (then (λ t. Ok (with_changes f.reads t))) (result_with_more (value_in f.reads) known w (call_result f.call f.header) r e) ∙ h
 over_more_by f known w (Err x) e h = absurd cc
 
+-- a call that has ended gives the same over more items
 pub over_more : (f : CallRecord) → IsResult f.call f.header f.reads f.outcome f.writes → ResultOverMore f
 over_more f h = λ known w. over_more_by f known w (answer_from (value_in f.reads) (call_result f.call f.header)) refl h
 
@@ -22,5 +23,6 @@ on_ledgers_by f look w (Ok r) e h =
     ap (with_changes f.reads) (result_on_ledger (value_in f.reads) look (call_result f.call f.header) r w e) ∙ same
 on_ledgers_by f look w (Err x) e h = absurd cc
 
+-- a call that has ended gives the same on each ledger that has what it read
 pub on_ledgers : (f : CallRecord) → IsResult f.call f.header f.reads f.outcome f.writes → ResultOnLedgers f
 on_ledgers f h = λ look w. on_ledgers_by f look w (answer_from (value_in f.reads) (call_result f.call f.header)) refl h

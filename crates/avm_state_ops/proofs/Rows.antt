@@ -53,6 +53,7 @@ pub passed_on : (r : Result Flow Stop) (s : Stop) (m : Machine) (e : Environment
 passed_on (Ok flow) s m e t same h = absurd same
 passed_on (Err x) s m e t same h = subst (λ y. Does (Err y) m e t) (sym same) h
 
+-- an error that is handed on is the same error in what a part answers
 pub passed_answer : {A B : Type 0} (view : A → B) (r : Result A Stop) (s : Stop) (t : Answer (Result B Fault)) → IsErrAnd r (λ x. x ≡ s) → Answers view (Err s) t → Answers view r t
 passed_answer view (Ok a) s t same h = absurd same
 passed_answer view (Err x) s t same h = subst (λ y. Answers view (Err y) t) (sym same) h
@@ -70,6 +71,7 @@ there_is : {A : Type 0} (o : Option A) (f : Fault) (a : A) → there o f ≡ Ok 
 there_is (Some b) f a e = let same : b ≡ a = cc in ap done same
 there_is None f a e = absurd cc
 
+-- a delete from the global state, once the key and its entry are known
 pub global_delete_row : (m : Machine) (e : Environment) (key : List ℕ) (old : Option Value) (app : ℕ) → one_bytes m.stack ≡ Ok key → app ≡ e.current → answer_from (known_to e) (global_entry app key) ≡ Ok (Ok old)
     → known_row global_delete m e ≡ answer_from (known_to e) (global_delete_of (context_of m e) key old)
 global_delete_row m e key old app operands current entry =
@@ -79,6 +81,7 @@ global_delete_row m e key old app operands current entry =
 may_put_passes : (key : List ℕ) (v : Value) → nat_le (length key) 64 ≡ true → nat_le (value_length v) 64 ≡ true → may_put key v ≡ done tt
 may_put_passes key v short small = ap (λ b. and_then (test b fault.KeyLength) (on_ok (λ _. test (nat_le (value_length v) 64) fault.TooLong))) short ∙ ap (λ b. test b fault.TooLong) small
 
+-- a put into the global state, once the operands and the entry are known
 pub global_put_row : (m : Machine) (e : Environment) (key : List ℕ) (v : Value) (old : Option Value) (app : ℕ) → bytes_and_value m.stack ≡ Ok (key, v)
     → nat_le (length key) 64 ≡ true → nat_le (value_length v) 64 ≡ true → app ≡ e.current → answer_from (known_to e) (global_entry app key) ≡ Ok (Ok old)
     → known_row global_put m e ≡ answer_from (known_to e) (global_put_over (context_of m e) key v old (keeps_kind old (Some v)))

@@ -17,6 +17,7 @@ use Rattle.avm_states.specs.Schemas.{IsCounted, no_entries, count_with, count_wi
 use Rattle.avm_states.proofs.Maps.{below_none, all_below, is_Equal}
 use Rattle.avm_states.proofs.KeyOrder.{byte_same, byte_total}
 
+-- a state without entries has no uints and no byte strings, and is in order
 pub none_counted : IsCounted [] (record { uints = 0; bytes = 0 }) × IsInKeyOrder []
 unfolding IsStrictlySortedBy
 none_counted = (record { counts = refl; room = omega arith; keys = All-nil _ }, tt)
@@ -100,6 +101,7 @@ put_by key v e es above h Greater is =
     ∙ sym (ap (count_with v) (uncounted_first (value_of_key es key) e.1 (counts_in es) (found_is_counted es key)))
     ∙ sym (ap (λ o. counts_after o (Some v) (counts_in (e ∷ es))) rest)
 
+-- the counts after a put follow from the counts before, the old value and the new one
 pub follow_puts : (state : Entries) (key : List ℕ) (v : Value) → IsInKeyOrder state → counts_in (with_entry state key v) ≡ counts_after (value_of_key state key) (Some v) (counts_in state)
 unfolding IsStrictlySortedBy
 follow_puts [] key v s = refl
@@ -110,6 +112,7 @@ delete_by : (key : List ℕ) (e : List ℕ × Value) (es : Entries) → counts_i
 delete_by key e es h true = sym (with_without e.1 (counts_in es))
 delete_by key e es h false = ap (count_with e.1) h ∙ sym (uncounted_first (value_of_key es key) e.1 (counts_in es) (found_is_counted es key))
 
+-- the counts after a delete follow from the counts before and the old value
 pub follow_deletes : (state : Entries) (key : List ℕ) → counts_in (without_entry state key) ≡ counts_after (value_of_key state key) None (counts_in state)
 follow_deletes [] key = refl
 follow_deletes (e ∷ es) key = delete_by key e es (follow_deletes es key) (is_eq (byte_cmp key e.0))
@@ -121,6 +124,7 @@ same_kind_counts (Some (Bytes a)) (Bytes b) n h k = without_with (Bytes a) n h
 same_kind_counts (Some (Uint a)) (Bytes b) n h k = absurd cc
 same_kind_counts (Some (Bytes a)) (Uint b) n h k = absurd cc
 
+-- a put of a value of the old one's kind leaves the counts
 pub stay_with_kind : (state : Entries) (key : List ℕ) (v : Value) → IsInKeyOrder state → keeps_kind (value_of_key state key) (Some v) ≡ true → counts_in (with_entry state key v) ≡ counts_in state
 stay_with_kind state key v s k = follow_puts state key v s ∙ same_kind_counts (value_of_key state key) v (counts_in state) (found_is_counted state key) k
 
@@ -134,6 +138,7 @@ total-counts_in : (es : Entries) → (counts_in es).uints + (counts_in es).bytes
 total-counts_in [] = refl
 total-counts_in (e ∷ es) = omega (arith, total-count_with e.1 (counts_in es) (length es) (total-counts_in es))
 
+-- the counts that a state keeps are each below 2 ^ 64
 pub few : (es : Entries) (n : Schema) → IsCounted es n → (n.uints < 2 ^ 64) × (n.bytes < 2 ^ 64)
 few es n h =
     let total : (counts_in es).uints + (counts_in es).bytes ≡ length es = total-counts_in es in
@@ -150,6 +155,7 @@ unfolding both
 count_with-by_sum (Uint a) n = schema_is _ _ refl (omega arith)
 count_with-by_sum (Bytes a) n = schema_is _ _ (omega arith) refl
 
+-- after a put the counts are those without the old value, and one more of the new value's kind
 pub counted_after_put : (es es' : Entries) (key : List ℕ) (v : Value) (n rest count : Schema) (old : Option Value) → IsInKeyOrder es → IsCounted es n → es' ≡ with_entry es key v
     → old ≡ value_of_key es key → rest ≡ uncounted old n → count ≡ count_with v no_entries → length es' < 2 ^ 64 → length key ≤ 64
     → IsCounted es' (record { uints = rest.uints + count.uints; bytes = rest.bytes + count.bytes })
@@ -161,6 +167,7 @@ counted_after_put es es' key v n rest count old s h is was left one room short =
   keys = subst (λ xs. All (λ k. length k ≤ 64) (keys_of xs)) (sym is) (All-keys-insert_entry byte_cmp key v (λ k. length k ≤ 64) es h.keys short);
 }
 
+-- after a delete the counts are those without the old value
 pub counted_after_delete : (es es' : Entries) (key : List ℕ) (n rest : Schema) (old : Option Value) → IsCounted es n → es' ≡ without_entry es key
     → old ≡ value_of_key es key → rest ≡ uncounted old n → length es' < 2 ^ 64 → IsCounted es' rest
 counted_after_delete es es' key n rest old h is was left room = record {

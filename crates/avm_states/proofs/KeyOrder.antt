@@ -9,5 +9,6 @@ use Rattle.avm_states.specs.Entries.{byte_cmp}
 pub byte_total : IsTotalOrder byte_cmp
 byte_total = nat_list_cmp_total
 
+-- byte strings that tie are the same
 pub byte_same : (x y : List ℕ) → byte_cmp x y ≡ Equal → x ≡ y
 byte_same = slice_cmp-IsAntisymmetric nat_cmp-IsAntisymmetric

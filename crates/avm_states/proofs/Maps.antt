@@ -68,6 +68,7 @@ module _ {K X : Type 0} {R : K → K → Ordering} (o : IsTotalOrder R) where
 
   -- ---- after a removal
 
+  -- a key that is below all others is not found
   pub below_none : (k : K) (es : List (K × X)) → AllByRecursion (λ y. R k y ≡ Less) (keys_of es) → lookup (is_at (R k)) es ≡ None
   below_none k [] h = refl
   below_none k (e ∷ es) h = ap (λ s. cond (is_eq s) (Some e.1) (lookup (is_at (R k)) es)) h.0 ∙ below_none k es h.1
@@ -226,11 +227,13 @@ module _ {K X : Type 0} {R : K → K → Ordering} (o : IsTotalOrder R) (same : 
   inserted_twice q k v w es true p = refl
   inserted_twice q k v w es false p = found_inserted q k v es false p
 
+  -- a second insertion at the same key replaces the first
   pub insert-insert_same : (k : K) (v w : X) (es : List (K × X)) → IsStrictlySortedBy R (keys_of es) → insert_entry R (insert_entry R es k v) k w ≡ insert_entry R es k w
   insert-insert_same k v w es s =
       same_map o same _ _ (sorted-inserted o k w _ (sorted-inserted o k v es s)) (sorted-inserted o k w es s)
       (λ q. found_inserted q k w (insert_entry R es k v) (is_eq (R q k)) refl ∙ inserted_twice q k v w es (is_eq (R q k)) refl ∙ sym (found_inserted q k w es (is_eq (R q k)) refl))
 
+  -- inserting the value that is already there changes nothing
   pub insert_same : (k : K) (v : X) (es : List (K × X)) → IsStrictlySortedBy R (keys_of es) → lookup (is_at (R k)) es ≡ Some v → insert_entry R es k v ≡ es
   insert_same k v es s found = sym (set_value-there o k v v es s found) ∙ set_value_same (is_at (R k)) es v found
 
@@ -239,6 +242,7 @@ module _ {K X : Type 0} {R : K → K → Ordering} (o : IsTotalOrder R) (same : 
   inserted_then_removed q k v es true p = refl
   inserted_then_removed q k v es false p = found_inserted q k v es false p
 
+  -- a removal leaves nothing of an insertion at the same key
   pub remove-insert_same : (k : K) (v : X) (es : List (K × X)) → IsStrictlySortedBy R (keys_of es) → remove_entry (is_at (R k)) (insert_entry R es k v) ≡ remove_entry (is_at (R k)) es
   remove-insert_same k v es s =
       let t = sorted-inserted o k v es s in

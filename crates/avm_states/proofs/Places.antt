@@ -83,6 +83,7 @@ module _ {K X : Type 0} {R : K → K → Ordering} (o : IsTotalOrder R) where
   rises (e ∷ es) s zero d within = ap is_lt (turned o e.0 (get_or es zero d).0 Less (below_next es e s.0 zero d (omega (arith, within))))
   rises (e ∷ es) s (suc i) d within = rises es s.1 i d (omega (arith, within))
 
+  -- a binary search by key among entries in order finds where the key stands or would go
   pub searched : (es : List (K × X)) (k : K) → IsStrictlySortedBy R (keys_of es) → (r : Result ℕ ℕ) → IsSearchInRange r (length es) → IsBinarySearchResult (λ e. R e.0 k) es r → IsPlaceOf R k es r
   searched es k s (Ok i) within same = stands es k s i within same
   searched es k s (Err i) within parted =

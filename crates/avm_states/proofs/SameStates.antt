@@ -24,5 +24,6 @@ entry-Decides d e =
       λ p. λ i. keys.1 (ap (λ x. x.0) p) i && values.1 (ap (λ x. x.1) p) i,
     )
 
+-- states are equal exactly where their entries are the same one by one
 pub states-Decides : (s t : Entries) (r : Bool) → r ≡ pointwise is_same_entry s t → Decides r (s ≡ t)
 states-Decides s t r e = slice_eq-Decides entry-Decides s t r e

@@ -36,6 +36,7 @@ same_run e = cc
 
 -- ---- the items that they ask for
 
+-- the program has still not begun, and one more item was read
 pub record StartsNext (l : Ledger) (old here now : Option Progress) : Type 0 where
   pub starts : StartsOver l old now
   pub few : length (reads_in here) < most_items
@@ -60,6 +61,7 @@ next_by l old asking now p x s asks is =
       longer = ap (λ r. length (reads_in r)) now_is ∙ one_longer p.reads x (at l x) asks.not_supplied;
     }
 
+-- an item that the tests ask for is supplied with the ledger's value
 pub starts_next : (l : Ledger) (old here asking now : Option Progress) (b : StartOutcome) (x : Item) → StartsOver l old here → Begins here asking b → b ≡ begun.Need x → now ≡ supplied l x asking → StartsNext l old here now
 starts_next l old None asking now b x s begins need is = absurd (subst (Begins None asking) need begins)
 starts_next l old (Some p) asking now b x s begins need is = next_by l old asking now p x s (subst (Begins (Some p) asking) need begins) is
@@ -81,6 +83,7 @@ begun_by l old now p s step =
       holds = (ap (λ n. Some (next_step_number n)) none, subst (λ n. HasStep p.call p.header p.reads (next_step_number n)) none step.there);
     }
 
+-- a run whose tests lead to a program stands before its first instruction
 pub program_begun : (l : Ledger) (old here now : Option Progress) (b : StartOutcome) → StartsOver l old here → Begins here now b → b ≡ begun.Program → HasBegun l old now
 program_begun l old None now b s begins is = absurd (subst (Begins None now) is begins)
 program_begun l old (Some p) now b s begins is = begun_by l old now p s (subst (Begins (Some p) now) is begins)
@@ -111,6 +114,7 @@ nothing_by l old p o s none =
           (none_by (at l) p.call p.header o (result_over (at l) (admitted p.call)) (subst (IsOutcomeAt p.call.completion o) (sym reached ∙ path_begins (at l) p.call p.header) none.outcome));
     }
 
+-- where the tests lead to no program, the call has none over the ledger
 pub nothing_begun : (l : Ledger) (old here now : Option Progress) (b : StartOutcome) → StartsOver l old here → Begins here now b → b ≡ begun.Nothing → HasNothing l old
 nothing_begun l old None now b s begins is = absurd (subst (Begins None now) is begins)
 nothing_begun l old (Some p) now b s begins is = let none = subst (Begins (Some p) now) is begins in nothing_by l old p none.0 s none.1
@@ -125,6 +129,7 @@ runs_by : (look : Look) (call : CallData) (header : Header) (r : Position × Opt
 runs_by look call header r (Ok t) is = runs_by_row look call header t.id r t.row is
 runs_by look call header r (Err w) is = absurd cc
 
+-- the run of a call that has a program is kept, and seen with no step made
 pub record Opened (l : Ledger) (call : CallData) (header : Header) (now : Option Progress) : Type 0 where
   pub kept : IsKeptDebug l None (Some now)
   pub is : seen l None (Some now) ≡ Some (record { ledger = l; call = call; header = header; steps = 0; fault = None })
@@ -139,9 +144,11 @@ opened_by l call header p same_call same_header counted agrees there =
       program = subst (λ c. HasProgram l c) same_call (runs_by (at l) p.call p.header (there.position, None) (result_over (at l) (admitted p.call)) (sym (path_begins (at l) p.call p.header) ∙ reached));
     }
 
+-- the run of a call before its tests, with nothing read
 abbrev pub first_run : CallData → Header → Progress
 first_run call header = record { call = call; header = header; reads = []; asked = None; steps = None }
 
+-- a run whose program has begun is opened
 pub opened : (l : Ledger) (call : CallData) (header : Header) (old now : Option Progress) → old ≡ Some (first_run call header) → HasBegun l old now → Opened l call header now
 opened l call header old now start b =
     let first : b.first ≡ first_run call header = same_run (sym b.was ∙ start) in
@@ -165,6 +172,7 @@ starts_at_first l call header run is = record {
   holds = refl;
 }
 
+-- a call whose tests lead to no program has none
 pub nothing_opened : (l : Ledger) (call : CallData) (header : Header) (old : Option Progress) → old ≡ Some (first_run call header) → HasNothing l old → HasNoProgram l call
 nothing_opened l call header old start n = subst (λ c. HasNoProgram l c) (ap (λ (q : Progress). q.call) (same_run (sym n.was ∙ start))) n.none
 

@@ -20,6 +20,7 @@ unfolding IsStrictlySortedBy
 all_below [] e ys s = tt
 all_below (x ∷ xs) e ys s = (below_one x.0 xs e ys s.0, all_below xs e ys s.1)
 
+-- with the next item copied, the copy and the rest are still all the items
 pub copied_next : (items copy : ItemMap) (x : Item) (v : ItemValue) (rest : ItemMap) → IsInItemOrder items → copy ++ (x, v) ∷ rest ≡ items → with_item copy x v ++ rest ≡ items
 copied_next items copy x v rest s is =
     ap (λ c. c ++ rest) (insert_last item_total x v copy (all_below copy (x, v) rest (rw is s))) ∙ append_assoc copy ((x, v) ∷ []) rest ∙ is

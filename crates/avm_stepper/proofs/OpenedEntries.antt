@@ -24,6 +24,7 @@ pub record IsMet (base : Ledger) (b : Block) (number : ℕ) (e : Entry) (l : Led
 abbrev first_of : Ledger → Entry → Header → Option Debugged
 first_of l e header = Some (record { ledger = l; call = e.call; header = header; steps = 0; fault = None })
 
+-- the call of the entry is opened over the ledger that it met
 pub opens_met : (base : Ledger) (b : Block) (number : ℕ) (e : Entry) (l : Ledger) (header : Header) (r : Result (Option Debugged) (Failure OpenFault)) → IsMet base b number e l header
     → IfOk r (λ d. d ≡ first_of l e header) → IfOk r (λ d. HasProgram l e.call) → IfOk r (λ d. IsOpened base b number d)
 opens_met base b number e l header (Ok d) met is program = record {
@@ -39,6 +40,7 @@ some_there : (o : Option Entry) (e : Entry) → o ≡ Some e → IsSome o
 some_there (Some d) e is = refl
 some_there None e is = absurd cc
 
+-- a refusal to start the call is one to open the entry
 pub refuses_met : (base : Ledger) (b : Block) (number : ℕ) (e : Entry) (l : Ledger) (header : Header) (r : Result (Option Debugged) (Failure OpenFault)) → IsMet base b number e l header
     → IfErr r (IsStartRefusal l e.call) → IfErr r (IsDebugRefusal base b number)
 refuses_met base b number e l header (Ok d) met refused = tt

@@ -73,6 +73,7 @@ rest_alike e n p look other alike next (Ok q) is s =
     ∙ sym (run_parts other e n p (Ok q) (sym s.alike ∙ is))
 rest_alike e n p look other alike next (Err end) is s = run_parts look e n p (Err end) is ∙ sym (run_parts other e n p (Err end) (sym s.alike ∙ is))
 
+-- look-ups alike on what a call doesn't know by itself lead to the same position
 pub run_alike : (e : Execution) (n : ℕ) (p : Position) (look other : Look) → AlikeAt e p.writes look other → result_over look (run_from e n p) ≡ result_over other (run_from e n p)
 run_alike e zero p look other alike = refl
 run_alike e (suc n) p look other alike = rest_alike e n p look other alike (λ q. run_alike e n q look other) (result_over look (step e p)) refl (step_alike e p look other alike)

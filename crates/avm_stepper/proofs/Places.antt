@@ -15,6 +15,7 @@ one_place i (Uint zero) values = refl
 one_place i (Uint (suc n)) values = refl
 one_place i (Bytes s) values = refl
 
+-- with one more value looked at, the places found and those to come are all as before
 pub places_more : (values : List Value) (i : ℕ) (v : Value) (before now all : List (ℕ × Value)) → slice_get values i ≡ Some v → before ++ set_places i (drop i values) ≡ all → now ≡ before ++ place_if_set i v → now ++ set_places (i + 1) (drop (i + 1) values) ≡ all
 places_more values i v before now all there so_far is =
     let rest = drop (i + 1) values in

@@ -129,6 +129,7 @@ spared_by call id y true is none keys =
     apart : (other : ℕ) (key : List ℕ) → new_keys call id (item.Key other key) ≡ None → eqb other id ≡ false
     apart other key e = key_apart (eqb other id) (ap (λ b. if (b && eqb other id) then Some value.Absent else None) (sym is) ∙ e)
 
+-- an item neither prepared nor known without a look keeps its value
 pub prepared_alike : (l : Ledger) (call : CallData) (id : ℕ) (y : Item) → over (value_in (prepared call id)) (new_keys call id) y ≡ None → at (put l (prepared call id)) y ≡ at l y
 prepared_alike l call id y e =
     let none = parts_none (value_in (prepared call id) y) (new_keys call id y) e in

@@ -51,6 +51,7 @@ rest_space : (e : Execution) (n : ℕ) (p : Position) (look : Look) → ((q : Po
 rest_space e n p look next (Ok q) is h = ap (λ (r : Position × Option Ended). length r.0.scratch) (run_parts look e n p (Ok q) is) ∙ next q ∙ h
 rest_space e n p look next (Err end) is h = ap (λ (r : Position × Option Ended). length r.0.scratch) (run_parts look e n p (Err end) is)
 
+-- the steps of a run keep the size of the scratch space
 pub run_space : (e : Execution) (n : ℕ) (p : Position) (look : Look) → length (result_over look (run_from e n p)).0.scratch ≡ length p.scratch
 run_space e zero p look = refl
 run_space e (suc n) p look = rest_space e n p look (λ q. run_space e n q look) (result_over look (step e p)) refl (step_by e p look (eqb p.place (length e.program)))

@@ -115,6 +115,7 @@ view_by_fault l call header steps s items (Some f) o h is =
 
 -- ---- from what is kept
 
+-- a run that a debugger keeps shows this over the ledger
 pub record KeptShows (l : Ledger) (fault : Option Fault) (run : Option Progress) (s : Sight) : Type 0 where
   pub progress : Progress
   pub is : run ≡ Some progress
@@ -124,6 +125,7 @@ pub record KeptShows (l : Ledger) (fault : Option Fault) (run : Option Progress)
 shows_there : (call : CallData) (header : Header) (reads : ItemMap) (steps : Option ℕ) (n : ℕ) (s : Shown) → steps ≡ Some n → ShowsAt call header reads steps (Some s) → ShowsPath call header reads n (sight_of s)
 shows_there call header reads steps n s counted shows = subst (λ m. ShowsAt call header reads m (Some s)) counted shows
 
+-- what a run that is kept shows holds over the ledger
 pub kept_shows : (l : Ledger) (fault : Option Fault) (run : Option Progress) (o : Option Shown) (s : Shown) → IsKeptDebug l fault (Some run) → Shows run o → o ≡ Some s → KeptShows l fault run (sight_of s)
 kept_shows l fault None o s kept shows is = absurd kept
 kept_shows l fault (Some p) o s kept shows is = record {
@@ -133,6 +135,7 @@ kept_shows l fault (Some p) o s kept shows is = record {
   over = shows_over l p.call p.header p.reads kept.steps (sight_of s) kept.agrees (shows_there p.call p.header p.reads p.steps kept.steps s kept.counted (subst (λ m. Shows (Some p) m) is shows));
 }
 
+-- a run that is kept always shows something
 pub always_shows : (l : Ledger) (fault : Option Fault) (run : Option Progress) (o : Option Shown) → IsKeptDebug l fault (Some run) → Shows run o → o ≡ None → ⊥
 always_shows l fault None o kept shows is = kept
 always_shows l fault (Some p) o kept shows is = subst (λ n. ShowsAt p.call p.header p.reads n None) kept.counted (subst (λ m. Shows (Some p) m) is shows)
@@ -140,10 +143,12 @@ always_shows l fault (Some p) o kept shows is = subst (λ n. ShowsAt p.call p.he
 seen_run : (l : Ledger) (fault : Option Fault) (p : Progress) (steps : ℕ) → p.steps ≡ Some steps → debug_view (record { ledger = l; call = p.call; header = p.header; steps = steps_made p.steps; fault = fault }) ≡ view_after l p.call p.header (steps_shown steps fault)
 seen_run l fault p steps counted = ap (λ n. view_after l p.call p.header (steps_shown (steps_made n) fault)) counted
 
+-- there is a call that is stepped through, and this is its view
 abbrev pub IsViewBy : Option Debugged → views.View → Type 0
 IsViewBy (Some d) w = debug_view d ≡ Some w
 IsViewBy None w = ⊥
 
+-- what the run shows, with the items prepared, makes the view of the call
 pub kept_view : (l : Ledger) (items : ItemMap) (fault : Option Fault) (run : Option Progress) (s : Sight) → KeptShows l fault run s → IsPreparedFor l items (Some run)
     → IsViewBy (seen l fault (Some run)) (view_by l items fault s)
 kept_view l items fault run s k prepared =
@@ -153,6 +158,7 @@ kept_view l items fault run s k prepared =
     subst (λ m. IsViewBy (seen l fault (Some m)) (view_by l items fault s)) (sym k.is)
     (seen_run l fault p k.kept.steps k.kept.counted ∙ view_by_fault l p.call p.header k.kept.steps s items fault k.over k.kept.faulted items_are)
 
+-- a view that shows what the definition has is the one to be answered
 pub shown_view : (m : Option Debugged) (w : views.View) (v : View) → IsViewBy m w → view_seen v ≡ w → IsShown m (Ok v)
 shown_view None w v by is = absurd by
 shown_view (Some d) w v by is = by ∙ ap (λ u. Some u) (sym is)
@@ -163,11 +169,13 @@ shown_machine (Some d) w v by is = (w, by, is)
 
 -- ---- the ledger and the program
 
+-- the ledger that is kept is the one that the call met
 pub ledger_kept : (l : Ledger) (fault : Option Fault) (run : Option (Option Progress)) → IsLedgerOf (seen l fault run) l
 ledger_kept l fault None = tt
 ledger_kept l fault (Some None) = tt
 ledger_kept l fault (Some (Some p)) = refl
 
+-- the program that the run shows is that of the call
 pub shown_program : (l : Ledger) (fault : Option Fault) (run : Option Progress) (s : Sight) (program : WellFormed) → KeptShows l fault run s → program ≡ s.program → IsProgramShown (seen l fault (Some run)) (Some program)
 shown_program l fault run s program k is =
     subst (λ m. IsProgramShown (seen l fault (Some m)) (Some program)) (sym k.is)
@@ -178,6 +186,7 @@ shown_program l fault run s program k is =
 writes_there : (call : CallData) (header : Header) (reads : ItemMap) (steps : Option ℕ) (n : ℕ) (items : ItemMap) → steps ≡ Some n → WritesAt call header reads steps items → (s : Sight) × ShowsPath call header reads n s × (items ≡ s.writes)
 writes_there call header reads steps n items counted writes = subst (λ m. WritesAt call header reads m items) counted writes
 
+-- the items written at the start of a program are those prepared for it
 pub prepared_begun : (l : Ledger) (items : ItemMap) (old now : Option Progress) → HasBegun l old now → ShowsWrites now items → IsPreparedFor l items (Some now)
 prepared_begun l items old now b writes =
     let p = b.here in

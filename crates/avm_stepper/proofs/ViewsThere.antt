@@ -37,6 +37,7 @@ prepared_path l call header id row steps =
 abbrev shown_at : Ledger → CallData → Header → ℕ → Application → Position × Option Ended → View
 shown_at l call header id row r = view_of (execution call header id row) (put l (prepared call id)) r
 
+-- the view after so many steps is that of where the path has come to
 pub view_there : (l : Ledger) (call : CallData) (header : Header) (id : ℕ) (row : Application) (steps : ℕ) (r : Position × Option Ended) → result_over (at l) (admitted call) ≡ Ok (record { id = id; row = Some row })
     → result_over (at l) (call_path call header steps) ≡ Some r → view_after l call header steps ≡ Some (shown_at l call header id row r)
 view_there l call header id row steps r admits comes =
@@ -53,22 +54,27 @@ ends_there place end e = grind (arith, nat_tests)
 next_end : (program : List ℕ) (p : Position) → p.place ≡ length program → next_step program p None ≡ AtEnd
 next_end program p is = rw (ends_there p.place (length program) is) refl
 
+-- where the step from a place before the end faults, its fault is shown to come next
 pub next_faulted : (program : List ℕ) (p : Position) (f : Fault) (place : ℕ) → eqb p.place (length program) ≡ false → next_step program p (Some (ended.Faulted f place)) ≡ Faults f
 next_faulted program p f place inside = rw inside refl
 
+-- an instruction, or the end
 abbrev pub next_of : Option Instr → NextStep
 next_of (Some i) = Runs i
 next_of None = AtEnd
 
+-- where nothing has ended the path, the instruction at the place comes next, or the end
 pub next_is : (program : List ℕ) (p : Position) (o : Option Instr) → ComesNext program p.place o → next_step program p None ≡ next_of o
 next_is program p (Some i) (next, there) = next_inside program p i next there
 next_is program p None is = next_end program p is
 
 -- ---- from what a run shows over items of the ledger
 
+-- the position that a run shows, with the places passed
 abbrev pub position_of : Sight → List ℕ → Position
 position_of s passed = record { place = s.place; passed = passed; stack = s.machine.stack; scratch = s.machine.scratch; writes = s.writes }
 
+-- what a run shows is so over the ledger after so many steps
 pub record ShowsOver (l : Ledger) (call : CallData) (header : Header) (steps : ℕ) (s : Sight) : Type 0 where
   pub row : Application
   pub passed : List ℕ
@@ -79,6 +85,7 @@ pub record ShowsOver (l : Ledger) (call : CallData) (header : Header) (steps : �
   pub strings : s.machine.byte_constants ≡ byte_constants_at (program_of call.completion row) passed
   pub next : ComesNext (program_of call.completion row) s.place s.instruction
 
+-- what a run shows over items that agree with the ledger is so over the ledger
 pub shows_over : (l : Ledger) (call : CallData) (header : Header) (reads : ItemMap) (steps : ℕ) (s : Sight) → LookAgrees (value_in reads) (at l) → ShowsPath call header reads steps s → ShowsOver l call header steps s
 shows_over l call header reads steps s agrees shows = record {
   row = shows.row;
@@ -91,6 +98,7 @@ shows_over l call header reads steps s agrees shows = record {
   next = shows.next;
 }
 
+-- what a run shows to come next is what its view has
 pub next_over : (l : Ledger) (call : CallData) (header : Header) (steps : ℕ) (s : Sight) → ShowsOver l call header steps s → option_map (λ (v : View). v.next) (view_after l call header steps) ≡ Some (next_of s.instruction)
 next_over l call header steps s o =
     ap (option_map (λ (v : View). v.next)) (view_there l call header s.application o.row steps (position_of s o.passed, None) o.admits o.comes)

@@ -220,6 +220,7 @@ module _ (P C : List ℕ → Type 0) (weakens : Weakens P C) (sources : Sources)
       by true e = absurd cc
       by false e = each_keeps nothing_asked (All (IsCall C)) (with_signed sources) [] (λ so k y q all is. with_signed_keeps so k y all is) (All-nil (IsCall C)) j x tt e
 
+  -- a call of a document breaks no rule of calls, is of bytes, and has programs that keep C
   pub optional_calls_are : (j : Json) (x : List CallData) → optional (codes "txns") (transactions sources) [] j ≡ Ok x → All (IsCall C) x
   optional_calls_are j x e = optional_gives nothing_asked (All (IsCall C)) (codes "txns") (transactions sources) [] (All-nil (IsCall C)) (λ k y q is. calls_are k y is) j x tt e
 
@@ -265,5 +266,6 @@ few_calls sources j x e = by (is_some (at most_calls j)) refl e
         let few = few_at j js (there (as_array j) what.NotArray js ej) is in
         omega (arith, lengths, few))
 
+-- the calls of a document are no more than a block takes
 pub optional_calls_are_few : (sources : Sources) (j : Json) (x : List CallData) → optional (codes "txns") (transactions sources) [] j ≡ Ok x → length x ≤ most_calls
 optional_calls_are_few sources j x e = optional_gives nothing_asked (λ calls. length calls ≤ most_calls) (codes "txns") (transactions sources) [] (omega arith) (λ k y q is. few_calls sources k y is) j x tt e

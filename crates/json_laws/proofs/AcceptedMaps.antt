@@ -8,6 +8,7 @@ use Rattle.std.specs.BTreeMap.{insert_entry}
 use Rattle.std.specs.Map.{lookup}
 use Rattle.std.proofs.lemmas.List.Elements.{All-nil, All-cons, All-head, All-tail}
 
+-- what holds of all entries and of a new one holds of all after its insertion
 pub all_inserted : {K X : Type 0} (R : K → K → Ordering) (P : K × X → Type 0) → ((x y : K) → R x y ≡ Equal → x ≡ y) → (k : K) (v : X) (es : List (K × X)) → P (k, v) → All P es → All P (insert_entry R es k v)
 all_inserted R P same k v [] p all = All-cons P (k, v) [] p (All-nil P)
 all_inserted R P same k v (e ∷ es) p all = at_order (R k e.0) refl (all_inserted R P same k v es p (All-tail P e es all))

@@ -12,6 +12,7 @@ use Rattle.json_laws.proofs.DocumentsOfBytes.{accepted_documents_are_of_bytes}
 use Rattle.json_laws.proofs.ExecutableDocuments.{accepted_documents_may_be_executed}
 use Rattle.json_laws.proofs.TextsOfBytes.{value_of_bytes}
 
+-- a text that is an accepted document is the text of a value that is one
 pub by_value : (P : Type 0) (text : List ℕ) (x : Document) → ((j : Json) → value_of_text text ≡ Some j → document j ≡ Ok x → P) → document_of_text text ≡ Ok x → P
 by_value P text x h e = by (value_of_text text) refl e
   where

@@ -68,6 +68,7 @@ and_then_small : (o : Option (List ℕ)) (n : ℕ) → option_and_then decimal_o
 and_then_small None n e = absurd cc
 and_then_small (Some digits) n e = decimal_small digits n e
 
+-- a number that was read is below 2^64
 pub uint_small : (j : Json) (n : ℕ) → uint j ≡ Ok n → n < 2 ^ 64
 uint_small j n e = and_then_small (as_number j) n (there _ _ n e)
 
@@ -100,6 +101,7 @@ address_whole_of : (s : List ℕ) (who : Address) → address_of s ≡ Ok who �
 unfolding address_of
 address_whole_of s who e = address_whole_in (length s) (base32_decoded s) who (λ bytes is. (reads_back s bytes is).0) e
 
+-- an address that a text spells is of bytes
 pub address_of_bytes : (s : List ℕ) (who : Address) → address_of s ≡ Ok who → AreBytes who.0
 address_of_bytes s who e = (address_whole_of s who e).of_bytes
 
@@ -107,6 +109,7 @@ on_address_ok : (r : Result Address AddressFault) (who : Address) → on_address
 on_address_ok (Ok a) who e = let same : a ≡ who = same_value a who e in cc
 on_address_ok (Err f) who e = absurd cc
 
+-- an address that was read has 32 bytes
 pub address_whole : (j : Json) (who : Address) → address j ≡ Ok who → IsWholeAddress who
 address_whole j who e = from (text j) _ who e (λ s es e1. address_whole_of s who (on_address_ok (address_of s) who e1))
 
@@ -128,18 +131,22 @@ base64_ok : (r : Result (List ℕ) DecodeError) (x : List ℕ) → result_ok r �
 base64_ok (Ok y) x e = cc
 base64_ok (Err f) x e = absurd cc
 
+-- what base64 writes is bytes
 pub bytes_are : (j : Json) (s : List ℕ) → bytes j ≡ Ok s → AreBytes s
 bytes_are j s e = from (text j) _ s e (λ t et e1. decoded_are_bytes t s (base64_ok (decode_of standard t) s (there _ _ s e1)))
 
 -- ---- members that may be missing
 
+-- a member that may be missing is a number below 2^64 where its default is
 pub word_in : (name : List ℕ) (default : ℕ) (j : Json) (n : ℕ) → default < 2 ^ 64 → optional name uint default j ≡ Ok n → n < 2 ^ 64
 word_in name default j n small e = optional_gives nothing_asked (λ m. m < 2 ^ 64) name uint default small (λ k m q is. uint_small k m is) j n tt e
 
+-- a schema has no more entries than it may, also where it is missing
 pub schema_in : (name bytes_name uints_name : List ℕ) (most : ℕ) (j : Json) (s : Schema) → optional name (schema bytes_name uints_name most) no_entries j ≡ Ok s → s.uints + s.bytes ≤ most
 schema_in name bytes_name uints_name most j s e =
     optional_gives nothing_asked (λ (t : Schema). t.uints + t.bytes ≤ most) name (schema bytes_name uints_name most) no_entries (omega arith) (λ k t q is. schema_limited bytes_name uints_name most k t is) j s tt e
 
+-- a member of bytes is of bytes, also where it is missing
 pub bytes_in : (name : List ℕ) (j : Json) (s : List ℕ) → optional name bytes [] j ≡ Ok s → AreBytes s
 bytes_in name j s e = optional_gives nothing_asked AreBytes name bytes [] (All-nil (λ b. b < 256)) (λ k t q is. bytes_are k t is) j s tt e
 
@@ -238,10 +245,12 @@ no_entries_are : AreStateEntries []
 unfolding IsStrictlySortedBy
 no_entries_are = record { rising = tt; entries = All-nil IsStateEntry; of_bytes = All-nil IsEntryOfBytes }
 
+-- an empty state fits in any room
 pub nothing_in : (room : Room) → IsStateOf room []
 unfolding IsStrictlySortedBy
 nothing_in room = record { fits = record { rising = tt; entries = All-nil IsStateEntry; few = omega arith; uints = omega arith; strings = omega arith }; of_bytes = All-nil IsEntryOfBytes }
 
+-- a state that was read fits in its room and is of bytes
 pub state_kept : (room : Room) (j : Json) (x : Entries) → state room j ≡ Ok x → IsStateOf room x
 unfolding state
 state_kept room j x e =

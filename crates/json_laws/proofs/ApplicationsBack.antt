@@ -30,6 +30,7 @@ use Rattle.json_laws.proofs.OrderBack.{goes_last, not_there}
 use Rattle.json_laws.proofs.PlainBack.{address_back, bytes_back, uint_back}
 use Rattle.json_laws.proofs.StatesBack.{state_back}
 
+-- an id below the end of ids is read back
 pub id_back : (end id : ℕ) → 1 ≤ id → id < end → end < 2 ^ 64 → id_below end (uint id) ≡ Ok id
 id_back end id positive below small =
     let above : leb 1 id ≡ true = le-leb 1 id positive in
@@ -82,5 +83,6 @@ module _ (next : ℕ) (apps : List (ℕ × StoredApplication)) (small : next < 2
       rw (not_there nat_cmp_total before rest e order, goes_last nat_cmp_total before rest e order, kept) refl in
       application_back next e rules (at_seam IsApplicationOfBytes before e rest apps is of) (with_applications next before) small ∙ added
 
+  -- the applications of a ledger are read back from how they are shown
   pub applications_back : each (application next no_sources) (with_applications next []) (array_of shown_application apps) ≡ Ok (with_applications next apps)
   applications_back = array_back (application next no_sources) shown_application (with_applications next) apps applications_add

@@ -28,6 +28,7 @@ module _ {A X : Type 0} (one : A → Json → Result A Fault) (shown : X → Jso
   from_index i before (x ∷ rest) xs is add =
       then_in _ _ _ _ _ (add before x rest is) (from_index (i + 1) (before ++ x ∷ []) rest xs (append_assoc before (x ∷ []) rest ∙ is) add)
 
+  -- an array of elements that add themselves is read back
   pub array_back : (xs : List X) → AddItself xs → each one (so_far []) (array_of shown xs) ≡ Ok (so_far xs)
   array_back xs add = from_index 0 [] xs xs refl add
 

@@ -352,6 +352,7 @@ meaning_fits : (text : List ℕ) (m : Meaning) → AreBytes text → meaning tex
 unfolding meaning
 meaning_fits text m all e = from (on_text (lines_of text)) _ m e (λ ls el e1. lines_mean (words_of_lines text ls) m (words_are text ls all) e1)
 
+-- source text of bytes assembles to a program of bytes
 pub assembled_is_bytes : (text code : List ℕ) → AreBytes text → assembled text ≡ Ok code → AreBytes code
 unfolding assembled
 assembled_is_bytes text code all e =

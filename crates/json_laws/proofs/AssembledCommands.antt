@@ -45,6 +45,7 @@ found_passes p q (y ∷ ys) x e all =
       | inr (n, other) ↦ found_passes p q ys x other parts.1
     ]
 
+-- the number of an opcode is a byte
 pub code_is_byte : (o : Opcode) → code_of o < 256
 unfolding opcode_at opcodes row_of
 code_is_byte o = ltb-true (code_of o) 256 (found_passes (λ q. eqb (code_of q) (code_of o)) (λ q. ltb (code_of q) 256) opcodes o (opcode_at-code_of o) refl)
@@ -124,6 +125,7 @@ one a h = All-cons (λ x. x < 256) a [] h (All-nil (λ x. x < 256))
 two : (a b : ℕ) → a < 256 → b < 256 → AreBytes (a ∷ b ∷ [])
 two a b h k = All-cons (λ x. x < 256) a (b ∷ []) h (one b k)
 
+-- immediates of bytes are spelled in bytes
 pub immediates_are : (m : Immediates) → AreFit m → AreBytes (immediates_spelling m)
 immediates_are is.Nothing h = All-nil (λ x. x < 256)
 immediates_are (is.Index i) h = one i h
@@ -224,6 +226,7 @@ opcode_fits : (version : Version) (o : Option Opcode) (ws : List Word) (c : Comm
 opcode_fits version None ws c all e = absurd cc
 opcode_fits version (Some o) ws c all e = operands_fit version o (row_of o).immediates ws c all e
 
+-- a command in words of bytes has immediates of bytes
 pub command_fits : (version : Version) (name : Word) (ws : List Word) (c : Command) → All AreBytes ws → command version name ws ≡ Ok c → IsFitCommand c
 unfolding command
 command_fits version name ws c all e =

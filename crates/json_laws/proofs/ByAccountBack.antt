@@ -36,6 +36,7 @@ module _ {A : Type 0} where
   items_with who x [] = refl
   items_with who x (first ∷ more) = items_with_by who x first more (are_same_bytes who.0 first.who.0) refl
 
+  -- items that are gathered by account are the same items in the same order
   pub items_of_accounts : (es : List (Address × A)) → items_in (by_account es) ≡ es
   items_of_accounts [] = refl
   items_of_accounts (e ∷ es) = items_with e.0 e.1 (by_account es) ∙ ap (λ more. e ∷ more) (items_of_accounts es)

@@ -11,6 +11,7 @@ use Rattle.json_laws.proofs.MembersBack.{Place, in_front, present, unless}
 abbrev pub schema_places : Schema → List Place
 schema_places s = (codes "nbs", unless (eqb s.bytes 0) (uint s.bytes)) ∷ (codes "nui", unless (eqb s.uints 0) (uint s.uints)) ∷ []
 
+-- a schema is shown as those of its members that are there
 pub schema_is : (s : Schema) → object_of (schema_members s) ≡ object_of (present (schema_places s))
 schema_is s =
     let last = uint_if_any (codes "nui") s.uints in
@@ -38,5 +39,6 @@ call_places c =
     ∷ (codes "type", Some (text (codes "appl")))
     ∷ []
 
+-- a call is shown as those of its members that are there
 pub call_is : (c : CallData) → shown_call c ≡ object_of (present (call_places c))
 call_is c = ap object_of (simp append_assoc (simp in_front))

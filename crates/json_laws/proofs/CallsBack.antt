@@ -198,6 +198,7 @@ module _ (c : CallData) (ps : List Place) (is : ShowsCall c ps) (of : IsCallOfBy
 
 -- ---- calls
 
+-- a call of bytes that breaks no rule of calls is read back from how it is shown
 pub call_back : (c : CallData) (i : ℕ) → IsCallOfBytes c → call_fault c ≡ None → transaction no_sources i (shown_call c) ≡ Ok c
 call_back c i of none =
     let ps = call_places c in

@@ -30,5 +30,6 @@ within false g l e =
     let both = and_parts (eqb g 0) (eqb l 0) e in
     (omega (arith, eqb-true g 0 both.0), omega (arith, eqb-true l 0 both.1))
 
+-- the schemas of a call that breaks no rule of calls have no more entries than they may
 pub schemas_fit : (c : CallData) → call_fault c ≡ None → (entries_in c.global_schema ≤ most_global_entries) × (entries_in c.local_schema ≤ most_local_entries)
 schemas_fit c e = within (creates c) (entries_in c.global_schema) (entries_in c.local_schema) (fitting c (none_of_both (field_fault c) (programs_fault c) e).0)

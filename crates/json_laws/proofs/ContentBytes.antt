@@ -137,6 +137,7 @@ IsBehindUnit (after_high h) = h < 56320
 behind : (x : ℕ) (xs : List ℕ) → AreBytes (x ∷ xs) → AreBytes xs
 behind x xs all = All-tail (λ y. y < 256) x xs all
 
+-- the content of a string in a text of bytes is of bytes
 pub content_are : (w : Within) (xs : List ℕ) → IsBehindUnit w → AreBytes xs → GivesBytes (content w xs)
 unfolding content
 content_are plain [] h all s e = absurd cc

@@ -119,6 +119,7 @@ document_count j x e =
     from (targets sources l (length calls)) _ x e5 (λ v ev e6.
     subst (λ (y : Document). count y.ledger ≤ 2 * weight j) (same_value (record { ledger = l; header = f.header; calls = calls }) x e6) (ledger_count f.next_id sources j l el)))))))
 
+-- where arrays have fewer than 2^31 elements in all, four bytes count applications and states
 pub is_countable : (j : Json) (x : Document) → weight j < 2 ^ 31 → document j ≡ Ok x → IsCountable x.ledger
 unfolding count
 is_countable j x few e = let total = document_count j x e in record { applications = omega (arith, few, total); local_states = omega (arith, few, total) }

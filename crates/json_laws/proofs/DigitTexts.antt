@@ -66,6 +66,7 @@ digits_first bytes rest all = line_first (encode_lower bytes) rest (are_digits b
 first_blank : (c : ℕ) (cs : List ℕ) → is_blank c ≡ false → list_all is_blank (c ∷ cs) ≡ false
 first_blank c cs e = rw e refl
 
+-- the digits of some bytes are no blank line
 pub not_blank : (bytes : List ℕ) → AreBytes bytes → 0 < length bytes → list_all is_blank (encode_lower bytes) ≡ false
 unfolding encode_with
 not_blank [] all some = absurd (omega (arith, some))
@@ -75,6 +76,7 @@ not_blank (b ∷ bs) all some =
 
 -- ---- bytes
 
+-- bytes are read back from their digits
 pub digits_back : (bytes : List ℕ) → AreBytes bytes → decode_of (encode_lower bytes) ≡ Ok bytes
 digits_back bytes all = decode_of-encode_lower bytes each
   where

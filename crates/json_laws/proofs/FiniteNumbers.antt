@@ -40,6 +40,7 @@ no_plus : (n : ℕ) → n < 2 ^ 64 → get_or (decimal n) 0 0 ≢ 43
 no_plus zero small e = let is : get_or (decimal 0) 0 0 ≡ 48 = ap (λ s. get_or s 0 0) (decimal_digit 0 (omega arith)) in omega arith
 no_plus (suc n) small e = let first = first_decimal (suc n) (omega arith) small in omega arith
 
+-- a number below 2^64 is finite as a double
 pub number_finite : (n : ℕ) → n < 2 ^ 64 → is_finite (parse_float binary64 (decimal n)) ≡ true
 number_finite n small =
     let plain = without_leading_plus_none (decimal n) (no_plus n small) in

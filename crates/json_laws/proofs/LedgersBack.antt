@@ -29,6 +29,7 @@ unfolding least_unknown targets_from
 empty_document_read = refl
 
 module _ (l : Ledger) (rules : KeepsRules l) (of : IsWholeLedgerOfBytes l) where
+  -- the next id of a ledger is read back
   pub next_back : next_id (uint l.next_id) ≡ Ok (Some l.next_id)
   next_back = then _ _ _ _ (uint_back l.next_id rules.small) (rw (le-leb 1 l.next_id rules.next_id) refl)
 
@@ -46,6 +47,7 @@ module _ (l : Ledger) (rules : KeepsRules l) (of : IsWholeLedgerOfBytes l) where
   front_back : front (shown_ledger l) ≡ Ok (record { header = default_header; next_id = Some l.next_id })
   front_back = then_in _ _ _ _ _ next_back refl
 
+  -- a ledger is read back from how it is shown
   pub shown_ledger_back : document (shown_ledger l) ≡ Ok (shown_as l None)
   unfolding least_unknown targets_from
   shown_ledger_back = then _ _ _ _ front_back (then _ _ _ _ (ledger_back (shown_ledger l) refl refl) refl)

@@ -149,6 +149,7 @@ literal_are : (first : Word) (second : Option Word) (b : List ℕ) → AreBytes 
 literal_are first None b all e = token_are first b all e
 literal_are first (Some s) b all e = encoded_are first s b e
 
+-- a literal of bytes has a value of bytes
 pub literal_value_are : (l : Literal) (b : List ℕ) → IsLiteralOfBytes l → literal_value l ≡ Ok b → AreBytes b
 literal_value_are l b all e = literal_are l.0 l.1 b all (or_bad (literal_bytes l.0 l.1) BadBytes b e)
 
@@ -156,11 +157,13 @@ key_of_bytes : (o : Option Address) (b : List ℕ) → ((who : Address) → o �
 key_of_bytes None b h e = absurd cc
 key_of_bytes (Some who) b h e = let same : who.0 ≡ b = cc in subst AreBytes same (h who refl)
 
+-- the value of an address literal is of bytes
 pub address_value_are : (l : Literal) (b : List ℕ) → address_value l ≡ Ok b → AreBytes b
 address_value_are (w, None) b e =
     key_of_bytes (result_ok (address_of w)) b (λ who is. address_of_bytes w who (ok_value (address_of w) who is)) (or_bad (option_map (λ (a : Address). a.0) (result_ok (address_of w))) BadBytes b e)
 address_value_are (w, Some t) b e = absurd cc
 
+-- the literals in words of bytes are of bytes
 pub literals_are : (ws : List Word) → All AreBytes ws → All IsLiteralOfBytes (literals_in ws)
 literals_are [] all = All-nil IsLiteralOfBytes
 literals_are (w ∷ []) all = All-cons IsLiteralOfBytes (w, None) [] (All-head AreBytes w [] all) (All-nil IsLiteralOfBytes)

@@ -80,6 +80,7 @@ module _ (next : ℕ) (apps : List (ℕ × StoredApplication)) (small : next < 2
     unfolding IsAccount
     accounts_of_bytes = All-map (OfItem IsAccount) local_of states (λ k d lt. ((all k d lt).account, (of k d lt).account))
 
+    -- the local states of a ledger are read back from the accounts that are shown
     pub local_states_back : each (account next) (so_far []) (shown_accounts (record { next_id = next; applications = apps; local_states = states })) ≡ Ok (record { next_id = next; applications = apps; local_states = states })
     local_states_back =
         grouped_back (local next) shown_local so_far locals_name (account next) IsAccount (map local_of states) (account_by_items next) accounts_of_bytes locals_add

@@ -222,6 +222,7 @@ located_with_source p i s v is names ends come = located_at (into p (at_index i)
         once_located q source (with_source_at s for (index_of for app txn)) (is_some (program_at s for (index_of for app txn)))
         (λ twice. second named.0 for (index_of for app txn) named.2 twice (then _ _ _ _ a (then _ _ _ _ f (then _ _ _ _ t refl)))) e)))))
 
+-- a fault of sources leads to where it says
 pub located_sources : (p : Spot) → source_names ≡ table p.path → Ends (codes "sources") p.path → Located p (each with_source no_sources p.value)
 located_sources p names ends = located_each (ComeFrom p.document p.path) with_source no_sources p (record {
   begins = none_come p.document p.path;
@@ -281,6 +282,7 @@ none_at p l calls = record { located = tt }
 none_located : (p : Spot) (l : Ledger) (calls : ℕ) (s : Sources) → s ≡ no_sources → Located p (targets s l calls)
 none_located p l calls s e = subst (λ (x : Sources). Located p (targets x l calls)) (sym e) (none_at p l calls)
 
+-- the fault of a source whose target is missing leads to the source
 pub located_targets : (p : Spot) (s : Sources) (l : Ledger) (calls : ℕ) → sources_of p.value ≡ Ok s → ((i : ℕ) (at : Place) (v : Json) → place v ≡ Ok at → is_there l calls at ≡ false → LacksTarget p.document (at_index i ∷ (at_name (codes "sources") ∷ p.path)) v) → Located p (targets s l calls)
 located_targets p s l calls e says =
     elim (optional_read (codes "sources") (each with_source no_sources) no_sources p.value s e) [

@@ -139,6 +139,7 @@ located_key_value p i entries e is names are =
     located_bind (into p (at_index i) e is) (needed (codes "value") value e) _ (located_needed (codes "value") refl value (into p (at_index i) e is) (known_object key_value_names e u known_are) (λ w m. located_value (into (into p (at_index i) e is) (at_name (codes "value")) w m) refl)) (λ v m.
     new_located p i entries e is k v (is_some (value_of_key entries k)) are refl read)))
 
+-- a fault of a state leads to where it says
 pub located_state : (room : Room) (p : Spot) → key_value_names ≡ table p.path → (state room p.value ≡ Err (here what.Schema) → IsRefusedState p.document p.path p.value) → Located p (state room p.value)
 unfolding state
 located_state room p names full =
@@ -155,6 +156,7 @@ checked_located : (p : Spot) (code : List ℕ) (r : Result WellFormed CheckFault
 checked_located p code (Ok w) h = record { located = tt }
 checked_located p code (Err f) h = located_here p _ (h f refl)
 
+-- a fault of code or of a program leads to the value that gives it
 pub located_checked_code : (p : Spot) (code : List ℕ) → ((f : CheckFault) → checked code ≡ Err f → IsWrong p.document (what.Program f) p.path p.value) → Located p (checked_code code)
 located_checked_code p code h = checked_located p code (checked code) h
 

@@ -38,6 +38,7 @@ abbrev pub IsPlain : Step → Type 0
 IsPlain (at_name name) = list_all is_plain name ≡ true
 IsPlain (at_index i) = Unit {0}
 
+-- steps of which no text needs an escape
 abbrev pub ArePlain : List Step → Type 0
 ArePlain [] = Unit {0}
 ArePlain (s ∷ ss) = IsPlain s × ArePlain ss
@@ -51,6 +52,7 @@ abbrev pub OnFault : {A : Type 0} → (Fault → Type 0) → Result A Fault → 
 OnFault P (Ok x) = Unit {0}
 OnFault P (Err f) = P f
 
+-- where there is a fault, its path leads to where it says
 pub record Located {A : Type 0} (p : Spot) (r : Result A Fault) : Type 0 where
   pub located : OnFault (IsLocated p) r
 
@@ -60,6 +62,7 @@ located_here p what.Syntax h = absurd h
 located_here p what.Missing h = absurd h
 located_here p w h = record { located = ((p.value, p.leads, h), tt) }
 
+-- where the faults of two readings lead to where they say, so do those of both in a row
 pub located_bind : {A B : Type 0} (p : Spot) (r : Result A Fault) (k : A → Result B Fault) → Located p r → ((x : A) → r ≡ Ok x → Located p (k x)) → Located p (r >>= k)
 located_bind p (Ok x) k one rest = rest x refl
 located_bind p (Err f) k one rest = record { located = one.located }
@@ -70,6 +73,7 @@ plain_on : (path : List Step) (s : Step) → IsPlain s → ArePlain path → Are
 plain_on [] s p h = (p, tt)
 plain_on (t ∷ ts) s p h = (h.0, plain_on ts s p h.1)
 
+-- a fault in the value behind a step leads there also from the value before it
 pub located_step : {A : Type 0} (s : Step) → IsPlain s → (p : Spot) (v : Json) (r : Result A Fault) (e : behind s p.value ≡ Some v) → Located (into p s v e) r → Located p (in_step s r)
 located_step s plain p v (Ok x) e h = record { located = tt }
 located_step s plain p v (Err f) e h = record { located = (subst (λ path. Locates f.what path p.document) (sym (append_assoc f.path (s ∷ []) p.path)) h.located.0, plain_on f.path s plain h.located.1) }
@@ -84,6 +88,7 @@ needed_located : {A : Type 0} (name : List ℕ) → list_all is_plain name ≡ t
 needed_located name plain meaning p None is e h = record { located = ((p.value, p.leads, (is, e)), (plain, tt)) }
 needed_located name plain meaning p (Some v) is e h = located_step (at_name name) plain p v (meaning v) e (h v e)
 
+-- a fault of a member, needed or not, leads to where it says
 pub located_needed : {A : Type 0} (name : List ℕ) → list_all is_plain name ≡ true → (meaning : Json → Result A Fault) (p : Spot) → IsObject p.value → ReadsMember p name meaning → Located p (needed name meaning p.value)
 located_needed name plain meaning p is h = needed_located name plain meaning p (member name p.value) is refl h
 
@@ -96,13 +101,16 @@ located_optional name plain meaning default p h = optional_located name plain me
 
 -- ---- what was read
 
+-- a reading that succeeds gives its value to what follows
 pub then : {A B : Type 0} (r : Result A Fault) (x : A) (k : A → Result B Fault) (z : Result B Fault) → r ≡ Ok x → k x ≡ z → (r >>= k) ≡ z
 then r x k z e h = ap (λ r. r >>= k) e ∙ h
 
+-- where two readings in a row succeed, each of them does
 pub bind_ok : {A B : Type 0} (r : Result A Fault) (k : A → Result B Fault) (y : B) → (r >>= k) ≡ Ok y → (x : A) × (r ≡ Ok x) × (k x ≡ Ok y)
 bind_ok (Ok x) k y e = (x, refl, e)
 bind_ok (Err f) k y e = absurd cc
 
+-- a value that is read behind a step is the same without the step
 pub in_step_ok : {A : Type 0} (s : Step) (r : Result A Fault) (x : A) → in_step s r ≡ Ok x → r ≡ Ok x
 in_step_ok s (Ok y) x e = e
 in_step_ok s (Err f) x e = absurd cc
@@ -119,6 +127,7 @@ needed_is : {A : Type 0} (name : List ℕ) (meaning : Json → Result A Fault) (
 needed_is name meaning None x e = absurd cc
 needed_is name meaning (Some v) x e = (v, refl, in_step_ok (at_name name) (meaning v) x e)
 
+-- a needed member that was read is there
 pub needed_read : {A : Type 0} (name : List ℕ) (meaning : Json → Result A Fault) (j : Json) (x : A) → needed name meaning j ≡ Ok x → (v : Json) × (member name j ≡ Some v) × (meaning v ≡ Ok x)
 needed_read name meaning j x e = needed_is name meaning (member name j) x e
 
@@ -132,6 +141,7 @@ known_located : (names : List (List ℕ)) (p : Spot) (o : Option Members) → as
 known_located names p None is e = located_here p _ is
 known_located names p (Some ms) is e = unknown_located names p (least_unknown names ms) e
 
+-- a fault of the names of an object leads to where it says
 pub located_known : (names : List (List ℕ)) (p : Spot) → names ≡ table p.path → Located p (known names p.value)
 located_known names p e = known_located names p (as_object p.value) refl (ap (λ names. known names p.value) e)
 
@@ -146,6 +156,7 @@ known_object names (object ms) u e = refl
 
 -- ---- arrays
 
+-- what is taken as an array is the array of its elements
 pub array_is : (j : Json) (js : Items) → as_array j ≡ Some js → j ≡ array js
 array_is null js e = absurd cc
 array_is (boolean b) js e = absurd cc
@@ -195,6 +206,7 @@ unfolding gathered
 each_located P one start p None is h = located_here p _ is
 each_located P one start p (Some js) is h = gathered_located P one start p js (array_is p.value js is) h 0 start js (λ k. ap (λ n. get_item n js) (omega arith)) h.begins refl
 
+-- a fault in an element of an array leads to where it says
 pub located_each : {A : Type 0} (P : ℕ → A → Type 0) (one : A → Json → Result A Fault) (start : A) (p : Spot) → ReadsEach P one start p → Located p (each one start p.value)
 located_each P one start p h = each_located P one start p (as_array p.value) refl h
 

@@ -34,6 +34,7 @@ no_zero_in_front (suc k) lt =
     let other : eqb (get_or (decimal (suc k)) 0 0) 48 ≡ false = grind (arith, nat_tests) in
     rw other (never_both (ltb 1 (length (decimal (suc k)))))
 
+-- a number below 2^64 is read back from how it is shown
 pub uint_back : (n : ℕ) → n < 2 ^ 64 → uint (shown.uint n) ≡ Ok n
 uint_back n lt = rw (no_zero_in_front n lt, decimal_back n lt) refl
 
@@ -45,6 +46,7 @@ each_is_byte s all i = elim (cases_lt i (length s)) [
   | inr past ↦ rw (get_or_past s i 0 past) (omega arith)
 ]
 
+-- bytes are read back from their base64
 pub bytes_back : (s : List ℕ) → AreBytes s → bytes (shown.base64 s) ≡ Ok s
 bytes_back s all = rw (decode_of-encode_of standard s refl (each_is_byte s all)) refl
 
@@ -67,9 +69,11 @@ digest_fits : (s : List ℕ) → AreBytes (sha512_256 s)
 unfolding sha512_256
 digest_fits s = All-take (λ b. b < 256) 32 _ (words_fit _ 8)
 
+-- the checksum of an address is of bytes
 pub checksum_fits : (key : List ℕ) → AreBytes (checksum key)
 checksum_fits key = All-drop (λ b. b < 256) 28 (sha512_256 key) (digest_fits key)
 
+-- an address of 32 bytes is read back from how it is shown
 pub address_back : (who : Address) → length who.0 ≡ 32 → AreBytes who.0 → address (shown.address who) ≡ Ok who
 address_back who size all =
     let sum : length (checksum who.0) ≡ 4 = omega (arith, length-drop 28 (sha512_256 who.0), length-sha512_256 who.0) in

@@ -31,20 +31,24 @@ use Rattle.json_laws.proofs.DigitTexts.{digits_back, digits_first, not_blank}
 abbrev pub spelled_line : ℕ → List ℕ → DigitLine
 spelled_line n bytes = record { number = n; digits = encode_lower bytes }
 
+-- a line that spells some bytes comes first, and those after it have the next numbers
 pub line_first : (before : ℕ) (bytes rest : List ℕ) → AreBytes bytes → 0 < length bytes → lines_after before (lines (line bytes ++ rest)) ≡ spelled_line (before + 1) bytes ∷ lines_after (before + 1) (lines rest)
 line_first before bytes rest all some =
     ap (λ t. lines_after before (lines t)) (append_assoc (encode_lower bytes) (10 ∷ []) rest)
     ∙ ap (lines_after before) (digits_first bytes rest all)
     ∙ rw (not_blank bytes all some) refl
 
+-- the line is read as its bytes
 pub spelled_bytes : (n : ℕ) (bytes : List ℕ) → AreBytes bytes → line_bytes (spelled_line n bytes) ≡ Ok bytes
 spelled_bytes n bytes all = ap (on_digits n) (digits_back bytes all)
 
+-- where a line is needed, the first is taken and the others are left
 pub needed_first : (n : ℕ) (bytes : List ℕ) (more : List DigitLine) → AreBytes bytes → needed_bytes (spelled_line n bytes ∷ more) ≡ Ok (bytes, more)
 needed_first n bytes more all = then (line_bytes (spelled_line n bytes)) bytes (λ b. Ok (b, more)) (Ok (bytes, more)) (spelled_bytes n bytes all) refl
 
 -- ---- ledgers
 
+-- a ledger that keeps the rules, and is not too large to count, is read from the first line
 pub ledger_first : (n : ℕ) (l : Ledger) (more : List DigitLine) → KeepsRules l → IsCountable l → AreBytes (ledger_bytes l) → first_ledger (spelled_line n (ledger_bytes l) ∷ more) ≡ Ok (l, more)
 ledger_first n l more keeps countable all =
     then (needed_bytes (spelled_line n (ledger_bytes l) ∷ more)) (ledger_bytes l, more) (λ first. on_ledger (ledger_at first.0) >>= λ k. Ok (k, first.1)) (Ok (l, more)) (needed_first n (ledger_bytes l) more all)
@@ -73,6 +77,7 @@ header_back h is = ap (header_at h.profile) (sym (append-nil (header_bytes h))) 
 
 -- ---- calls
 
+-- a call that breaks no rule of calls is read back from its bytes, and is accepted
 pub call_back_checked : (c : CallData) → IsAllowedCall c → checked_call (call_bytes c) ≡ Ok c
 call_back_checked c is = ap (λ r. on_bytes r >>= λ fields. unless_broken fields (call_fault fields)) (call_back_alone c is.fields) ∙ ap (unless_broken c) is.rules
 
@@ -81,6 +86,7 @@ call_back_checked c is = ap (λ r. on_bytes r >>= λ fields. unless_broken field
 more_left : (a b : List ℕ) → 0 < length a → 0 < length (a ++ b)
 more_left a b h = omega (arith, length-append a b)
 
+-- the bytes of ledgers, headers and calls are not empty
 pub ledger_not_empty : (l : Ledger) → 0 < length (ledger_bytes l)
 ledger_not_empty l = omega arith
 

@@ -146,6 +146,7 @@ profile_small : (p : Profile) → profile_number p < 2 ^ 64
 profile_small Two = omega arith
 profile_small Three = omega arith
 
+-- a ledger and a block that are shown have a text that is read back
 pub block_shown : (l : Ledger) (b : Block) → KeepsRules l → IsWholeLedgerOfBytes l → IsBlock is_accepted b → All IsCallOfBytes (calls_of b) → IsShown 127 (shown_block l b)
 unfolding EntryShown
 block_shown l b rules of is calls =

@@ -39,6 +39,7 @@ use Rattle.json_laws.proofs.TextsBack.{IsShown, array_shown, beside, deeper, obj
 
 -- ---- plain values
 
+-- bytes in base64 or in digits, and addresses, have a text that is read back
 pub base64_shown : (d : ℕ) (s : List ℕ) → IsShown d (base64 s)
 base64_shown d s = text_shown d (encode_of standard s) (IsUtf8-from_ascii (encode_of standard s) (IsAscii-encode_of standard s))
 
@@ -114,6 +115,7 @@ module _ (l : Ledger) (rules : KeepsRules l) (of : IsWholeLedgerOfBytes l) where
   owners_of_bytes : All (λ e. AreBytes e.0.0) (map local_of l.local_states)
   owners_of_bytes = All-map (λ e. AreBytes e.0.0) local_of l.local_states (λ k e lt. (of.local_states k e lt).account)
 
+  -- the accounts and applications of a ledger are shown with a text, nested at most 7 deep
   pub accounts_shown : IsShown 7 (shown_accounts l)
   unfolding HasAll
   accounts_shown =
@@ -128,6 +130,7 @@ module _ (l : Ledger) (rules : KeepsRules l) (of : IsWholeLedgerOfBytes l) where
       deeper 6 7 _ (omega arith) (array_shown 5 shown_application l.applications (λ k e lt.
       application_shown l.next_id _ (rules.applications k e lt) (of.applications k e lt) rules.small))
 
+  -- a ledger that is shown has a text that is read back
   pub ledger_shown : IsShown 127 (shown_ledger l)
   ledger_shown =
       deeper 8 127 _ (omega arith) (object_shown 7 _ (beside (refl, accounts_shown)

@@ -40,6 +40,7 @@ high_first : (k n : ℕ) → AreBytes (bytes_high_first k n)
 high_first zero n = All-nil (λ x. x < 256)
 high_first (suc k) n = All-cons (λ x. x < 256) (byte_at k n) (bytes_high_first k n) (byte_small k n) (high_first k n)
 
+-- the big-endian spelling of a number is of bytes
 pub number : (w : Width) (n : ℕ) → AreBytes (to_be_bytes w n)
 number w n = high_first (byte_len w) n
 
@@ -84,6 +85,7 @@ local_state e is = all e.0.0.0 (u64_bytes e.0.1 ∷ state_bytes e.1 ∷ []) is.a
 counted : {A : Type 0} (w : Width) (spelling : A → List ℕ) (xs : List A) → AreBytes (flat_map spelling xs) → AreBytes (counted_bytes (to_be_bytes w) spelling xs)
 counted w spelling xs are = and (to_be_bytes w (length xs)) (flat_map spelling xs) (number w (length xs)) are
 
+-- the spelling of a ledger of bytes is of bytes
 pub ledger_is_bytes : (l : Ledger) → IsWholeLedgerOfBytes l → AreBytes (ledger_bytes l)
 ledger_is_bytes l is =
     all (u64_bytes l.next_id) (counted_bytes u32_bytes application_bytes l.applications ∷ counted_bytes u32_bytes local_state_bytes l.local_states ∷ []) (number w64 l.next_id) (
@@ -93,6 +95,7 @@ ledger_is_bytes l is =
 
 -- ---- headers and calls
 
+-- the spelling of each header is of bytes
 pub header_is_bytes : (h : Header) → AreBytes (header_bytes h)
 header_is_bytes h =
     all (u64_bytes h.round) (u64_bytes h.latest_timestamp ∷ u64_bytes h.min_fee ∷ u64_bytes h.min_balance ∷ u64_bytes h.max_life ∷ []) (number w64 h.round)
@@ -123,5 +126,6 @@ programs c is =
     all (string_bytes c.approval) (string_bytes c.clear ∷ schema_bytes c.global_schema ∷ schema_bytes c.local_schema ∷ []) (string c.approval is.approval)
     (string c.clear is.clear, (schema c.global_schema, (schema c.local_schema, tt)))
 
+-- the spelling of a call of bytes is of bytes
 pub call_is_bytes : (c : CallData) → IsCallOfBytes c → AreBytes (call_bytes c)
 call_is_bytes c is = all (terms_bytes c) (target_bytes c ∷ lists_bytes c ∷ programs_bytes c ∷ []) (terms c is) (target c is, (lists c is, (programs c is, tt)))

@@ -22,6 +22,7 @@ calls_parts accepted before (e ∷ es) are all =
 entry_part : (e : Entry) → AreBytes (block_entry_bytes e) → AreBytes (call_bytes e.call)
 entry_part e all = (parts (u64_bytes e.timestamp) (call_bytes e.call ∷ _ ∷ []) all).1.0
 
+-- the calls of an accepted block are of bytes where its body is
 pub block_parts : (b : Block) → IsBlock is_accepted b → AreBytes (body_bytes b) → All IsCallOfBytes (calls_of b)
 block_parts b is all =
     let fields = parts magic (format_bytes b.header.profile ∷ b.base ∷ header_bytes b.header ∷ counted_bytes u32_bytes block_entry_bytes b.entries ∷ b.after ∷ []) all in

@@ -19,6 +19,7 @@ abbrev pub joined : List ℕ → List (List ℕ) → List ℕ
 joined front [] = front
 joined front (p ∷ ps) = joined (front ++ p) ps
 
+-- bytes that start a list of bytes are bytes
 pub front_part : (x y : List ℕ) → AreBytes (x ++ y) → AreBytes x
 front_part x y all = front_all (λ b. b < 256) x y all
 
@@ -31,9 +32,11 @@ each_part spelling P [] f all = All-nil P
 each_part spelling P (x ∷ xs) f all =
     All-cons P x xs (f x (front_part (spelling x) (flat_map spelling xs) all)) (each_part spelling P xs f (rest_part (spelling x) (flat_map spelling xs) all))
 
+-- what is spelled behind its count has parts of bytes
 pub counted_part : {A : Type 0} (count : ℕ → List ℕ) (spelling : A → List ℕ) (P : A → Type 0) (xs : List A) → ((x : A) → AreBytes (spelling x) → P x) → AreBytes (counted_bytes count spelling xs) → All P xs
 counted_part count spelling P xs f all = each_part spelling P xs f (rest_part (count (length xs)) (flat_map spelling xs) all)
 
+-- a string whose spelling is of bytes is of bytes
 pub string_part : (s : List ℕ) → AreBytes (string_bytes s) → AreBytes s
 string_part s all = rest_part (u16_bytes (length s)) s all
 
@@ -64,6 +67,7 @@ local_state_part e all =
     let p = parts e.0.0.0 (u64_bytes e.0.1 ∷ state_bytes e.1 ∷ []) all in
     record { account = p.0; state = state_part e.1 p.1.1.0 }
 
+-- a ledger is of bytes where its spelling is
 pub ledger_parts : (l : Ledger) → AreBytes (ledger_bytes l) → IsWholeLedgerOfBytes l
 ledger_parts l all =
     let p = parts (u64_bytes l.next_id) (counted_bytes u32_bytes application_bytes l.applications ∷ counted_bytes u32_bytes local_state_bytes l.local_states ∷ []) all in

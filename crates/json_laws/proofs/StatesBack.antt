@@ -56,6 +56,7 @@ module _ (es : Entries) (rising : IsInKeyOrder es) (all : All IsStateEntry es) (
       let added : new_entry before e.0 e.1 ≡ Ok (before ++ e ∷ []) = rw (not_there byte_total before rest e order, goes_last byte_total before rest e order) refl in
       then_in _ _ _ _ _ (key_back e.0 rules.0 of.0) (then _ _ _ _ (value_there e.0 e.1 rules.1 of.1) added)
 
+-- a state of bytes that fits in its room is read back from how it is shown
 pub state_back : (room : Room) (es : Entries) → IsStateIn room es → All IsEntryOfBytes es → state room (shown_state es) ≡ Ok es
 unfolding state
 state_back room es is of =

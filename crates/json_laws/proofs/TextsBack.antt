@@ -67,6 +67,7 @@ pub record IsTextOf (s : List ℕ) (j : Json) : Type 0 where
   pub utf8 : is_utf8 s ≡ true
   pub value : value_of_text s ≡ Some j
 
+-- a value that is nested no deeper than may be is read back from its text
 pub text_back : (j : Json) → IsShown most_nested j → IsTextOf (document_text j) j
 text_back j h =
     let ts = json_tokens j in
@@ -82,12 +83,14 @@ text_back j h =
 
 -- ---- what is shown
 
+-- what is nested no deeper than d is nested no deeper than any larger number
 pub deeper : (d e : ℕ) (j : Json) → d ≤ e → IsShown d j → IsShown e j
 deeper d e j le h = record { plain = h.plain; shallow = omega (arith, h.shallow) }
 
 bracket_plain : (t : Token) → IsPrintable t → is_in_range t ≡ true → are_ascii (token_text t) ≡ true → IsPlain t
 bracket_plain t printable ranged small = record { printable = printable; ranged = ranged; utf8 = IsUtf8-are_ascii (token_text t) small }
 
+-- texts in UTF-8, and numbers below 2^64, have a text that is read back
 pub text_shown : (d : ℕ) (s : List ℕ) → IsUtf8 s → IsShown d (text s)
 text_shown d s u = record { plain = (record { printable = tt; ranged = refl; utf8 = IsUtf8-quoted s u }, tt); shallow = omega arith }
 
@@ -119,6 +122,7 @@ members_plain d (member name j ms) h =
       omega (arith, first.shallow, more.1),
     )
 
+-- an object is nested at most one deeper than its members
 pub object_shown : (d : ℕ) (ms : Members) → MembersShown d ms → IsShown (suc d) (object ms)
 object_shown d ms h =
     let inner = members_plain d ms h in
@@ -132,6 +136,7 @@ items_plain d shown (x ∷ xs) h =
     let more = items_plain d shown xs (All-tail (λ y. IsShown d (shown y)) x xs h) in
     (plain_both (json_tokens (shown x)) (items_tokens (items_of (map shown xs))) first.plain more.0, omega (arith, first.shallow, more.1))
 
+-- an array is nested at most one deeper than its elements
 pub array_shown : {A : Type 0} (d : ℕ) (shown : A → Json) (xs : List A) → All (λ x. IsShown d (shown x)) xs → IsShown (suc d) (array_of shown xs)
 array_shown d shown xs h =
     let inner = items_plain d shown xs h in

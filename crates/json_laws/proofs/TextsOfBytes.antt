@@ -151,6 +151,7 @@ closed = record {
 
 -- ---- texts
 
+-- the value of a text of bytes has strings of bytes
 pub value_of_bytes : (text : List ℕ) (j : Json) → AreBytes text → value_of_text text ≡ Some j → HasStringsOfBytes j
 value_of_bytes text j all e =
     elim (chosen (list_all is_in_range (tokens text)) _ _ _ e) [

@@ -40,6 +40,7 @@ member_weight : (name : List ℕ) (ms : Members) (k : Json) → get_member name 
 member_weight name no_members k e = absurd cc
 member_weight name (member own j ms) k e = later (get_member name ms) (bytes_eq own name) j k (members_weight ms) (λ i is. member_weight name ms i is) e
 
+-- the arrays in the value of a member have no more elements in all than those of the object
 pub got_weight : (name : List ℕ) (j k : Json) → get name j ≡ Some k → weight k ≤ weight j
 got_weight name json.null k e = absurd cc
 got_weight name (json.boolean b) k e = absurd cc
@@ -139,6 +140,7 @@ punctuated after_key (colon ∷ ls) = omega (arith, punctuated fresh ls)
 
 -- ---- texts
 
+-- a text has at least as many bytes as the arrays in its value have elements
 pub text_weight : (text : List ℕ) (j : Json) → value_of_text text ≡ Some j → weight j ≤ length text
 text_weight text j e =
     elim (chosen (list_all is_in_range (tokens text)) _ _ _ e) [

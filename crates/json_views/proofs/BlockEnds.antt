@@ -4,6 +4,7 @@ use Rattle.std.proofs.Math.Seq.{drop-append_seam}
 use Rattle.sha2.specs.Sha256.{sha256}
 use Rattle.sha2.proofs.Facts256.{length-sha256}
 
+-- the last 32 bytes are the digest of those before them
 pub digest_at_end : (body bytes : List ℕ) → body ++ sha256 body ≡ bytes → drop (length bytes - 32) bytes ≡ sha256 body
 digest_at_end body bytes e =
     let seam : length bytes - 32 ≡ length body = omega (arith, ap length e, length-append body (sha256 body), length-sha256 body) in

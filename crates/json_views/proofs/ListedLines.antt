@@ -35,6 +35,7 @@ no_line (b ∷ bs) begun e = elim (b == 10) as (λ t. (b == 10) ≡ t → lines_
 
 -- ---- written
 
+-- the tokens of the lines of a text, and the closing bracket of their array
 abbrev pub line_items : List ℕ → List Token
 line_items rest = items_tokens (items_of (map text (lines_of rest)))
 

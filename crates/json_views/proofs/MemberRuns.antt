@@ -9,6 +9,7 @@ use Rattle.json_views.proofs.Steps.{◌then◌}
 
 -- what is written first, and all members that are written after it
 infixr 6 ◌and◌
+-- what two groups of members in a row add is what each of them adds
 pub ◌and◌ : {old now new : List Token} {first more : List Member} → AddsMembers old now first → AddsMembers now new more → AddsMembers old new (first ++ more)
 ◌and◌ {old = old} {first = first} {more = more} wrote writes = record {
   is = writes.is ∙ ap (λ ts. ts ++ member_tokens more) wrote.is ∙ append_assoc old (member_tokens first) (member_tokens more)

@@ -27,5 +27,6 @@ number_or_within : (o : Option ℕ) (end : ℕ) → ((n : ℕ) → o ≡ Some n 
 number_or_within None end below = omega arith
 number_or_within (Some n) end below = omega (arith, below n refl)
 
+-- the number of an instruction is at most the number of instructions of the program
 pub number_at_within : (placed : List Placed) (place : ℕ) → number_at placed place ≤ length placed
 number_at_within placed place = number_or_within (first_index place (places placed)) (length placed) (λ n. number_within placed place n)

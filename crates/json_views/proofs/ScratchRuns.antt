@@ -12,6 +12,7 @@ use Rattle.json_views.specs.MachineStates.{filled}
 use Rattle.json_views.specs.ValueTokens.{value_tokens}
 use Rattle.json_views.proofs.TokenRuns.{items_behind}
 
+-- the tokens of values, and the closing bracket of their array
 abbrev pub value_items : List Value → List Token
 value_items values = items_tokens (items_of (map shown_value values))
 

@@ -64,6 +64,7 @@ module _ (l : Ledger) (call : CallData) (header : Header) where
   has_view n next (Some v) is = (v, is)
   has_view n next None is = absurd (view_of_next n (view_after l call header n) next.0 next.1 is)
 
+  -- the first n states weigh at least n, where an instruction comes next in each
   pub states_count : (n : ℕ) → CanGo l call header n → n ≤ states_weight (first_states l call header n)
   states_count zero can = omega arith
   states_count (suc n) can =
@@ -74,6 +75,7 @@ module _ (l : Ledger) (call : CallData) (header : Header) where
   step_more : (n : ℕ) → states_weight (first_states l call header n) ≤ states_weight (first_states l call header (suc n))
   step_more n = omega (arith, weights-append (first_states l call header n) (state_in (view_after l call header n)))
 
+  -- more of the first states weigh no less
   pub states_grow : (n m : ℕ) → n ≤ m → states_weight (first_states l call header n) ≤ states_weight (first_states l call header m)
   states_grow n zero le = let same : n ≡ zero = omega arith in rw same (omega arith)
   states_grow n (suc m) le = elim (cases_lt m n) [
@@ -103,6 +105,7 @@ module _ (l : Ledger) (call : CallData) (header : Header) where
       pub light : total ≤ states_weight (first_states l call header (n + 1))
       pub told : goes_on ≡ is_instruction view.next
 
+    -- where n states were written and the next state is, the first n + 1 were written
     pub state_written : (now : Option Debugged) (begun old new : List Token) (n total weight more : ℕ) (goes_on : Bool) → StatesRun now begun old n total → WritesState p now old new weight goes_on → more ≤ total + weight
         → WrittenState begun new n more goes_on
     state_written now begun old new n total weight more goes_on s w sum =
@@ -120,19 +123,23 @@ module _ (l : Ledger) (call : CallData) (header : Header) where
           told = told;
         }
 
+    -- a step from the state that was written leads to the state after it
     pub goes_on : (now after : Option Debugged) (begun old out : List Token) (n total more : ℕ) → StatesRun now begun old n total → WrittenState begun out n more true → StepsTo now after (Ok tt)
         → StatesRun after begun out (n + 1) more
     goes_on now after begun old out n total more s w steps = record { made = made_more l call header n now after s.made steps; written = w.written; light = w.light }
 
+    -- where an instruction comes next, only a lack of memory can refuse the step
     pub never_ended : (now after : Option Debugged) (begun old out : List Token) (n total more : ℕ) (f : StepFault) → StatesRun now begun old n total → WrittenState begun out n more true → StepsTo now after (Err (failure.Fault f)) → ⊥
     never_ended now after begun old out n total more fault.Ended s w steps = ended_there l call header n now after s.made steps (runs_on n w.view w.there w.view.next refl (sym w.told))
     never_ended now after begun old out n total more fault.Spent s w steps = subst (λ m. StepsTo m after (Err (failure.Fault fault.Spent))) s.made.is steps
 
+    -- where the states written weigh more than a text may have, the program is heavy
     pub heavy_now : (now : Option Debugged) (begun old out : List Token) (n total more : ℕ) (goes_on : Bool) → StatesRun now begun old n total → WrittenState begun out n more goes_on → most_text < more → IsHeavy l call header
     heavy_now now begun old out n total more goes_on s w lt =
         let next : n + 1 ≡ suc n = omega arith in
         (n, s.made.can_go, subst (λ m. most_text < states_weight (first_states l call header m)) next (omega (arith, lt, w.light)))
 
+    -- where no instruction comes next and the array is closed, all states were written
     pub all_states : (now : Option Debugged) (start begun old out new : List Token) (n total more : ℕ) → StatesRun now begun old n total → WrittenState begun out n more false → begun ≡ start ++ begin_array ∷ []
         → new ≡ out ++ end_array ∷ []
         → (count : ℕ) × HasStates l call header count × HasMade l call header (count - 1) now × (new ≡ start ++ json_tokens (array_of (shown_state p) (first_states l call header count)))
@@ -154,10 +161,12 @@ module _ (l : Ledger) (call : CallData) (header : Header) where
 
 -- ---- from a stepper at the start
 
+-- n states were written from the start of an array on, and the stepper stands in the next one
 abbrev pub StatesOn : WellFormed → Option Debugged → Option Debugged → List Token → List Token → ℕ → ℕ → Type 0
 StatesOn p None now start out n total = ⊥
 StatesOn p (Some d) now start out n total = StatesRun d.ledger d.call d.header p now (start ++ begin_array ∷ []) out n total
 
+-- behind the opening bracket, none is written yet
 pub first_on : (p : WellFormed) (d : Option Debugged) (start out : List Token) → IsAtStart d → Adds start out (begin_array ∷ []) → StatesOn p d d start out 0 0
 first_on p None start out at adds = absurd at
 first_on p (Some d) start out at adds = record {
@@ -166,39 +175,48 @@ first_on p (Some d) start out at adds = record {
   light = omega arith;
 }
 
+-- the state in which the stepper stands was written too, and it is told whether it goes on
 abbrev pub WrittenOn : WellFormed → Option Debugged → List Token → List Token → ℕ → ℕ → Bool → Type 0
 WrittenOn p None start out n total goes_on = ⊥
 WrittenOn p (Some d) start out n total goes_on = WrittenState d.ledger d.call d.header p (start ++ begin_array ∷ []) out n total goes_on
 
+-- a state that is written is one more
 pub written_on : (p : WellFormed) (d now : Option Debugged) (start old new : List Token) (n total weight more : ℕ) (goes_on : Bool) → StatesOn p d now start old n total → WritesState p now old new weight goes_on → more ≤ total + weight
     → WrittenOn p d start new n more goes_on
 written_on p None now start old new n total weight more goes_on s w sum = absurd s
 written_on p (Some d) now start old new n total weight more goes_on s w sum = state_written d.ledger d.call d.header p now (start ++ begin_array ∷ []) old new n total weight more goes_on s w sum
 
+-- a step leads to the next state, which is not written yet
 pub next_on : (p : WellFormed) (d now after : Option Debugged) (start old out : List Token) (n total more : ℕ) → StatesOn p d now start old n total → WrittenOn p d start out n more true → StepsTo now after (Ok tt) → StatesOn p d after start out (n + 1) more
 next_on p None now after start old out n total more s w steps = absurd s
 next_on p (Some d) now after start old out n total more s w steps = goes_on d.ledger d.call d.header p now after (start ++ begin_array ∷ []) old out n total more s w steps
 
+-- where it goes on, only a lack of memory can refuse the step
 pub never_on : (p : WellFormed) (d now after : Option Debugged) (start old out : List Token) (n total more : ℕ) (f : StepFault) → StatesOn p d now start old n total → WrittenOn p d start out n more true → StepsTo now after (Err (failure.Fault f)) → ⊥
 never_on p None now after start old out n total more f s w steps = s
 never_on p (Some d) now after start old out n total more f s w steps = never_ended d.ledger d.call d.header p now after (start ++ begin_array ∷ []) old out n total more f s w steps
 
+-- some states of the program take more than the text of a trace may have
 abbrev pub HeavyOn : Option Debugged → Type 0
 HeavyOn None = ⊥
 HeavyOn (Some d) = IsHeavy d.ledger d.call d.header
 
+-- so it is where what was written weighs more than such a text
 pub heavy_on : (p : WellFormed) (d now : Option Debugged) (start old out : List Token) (n total more : ℕ) (goes_on : Bool) → StatesOn p d now start old n total → WrittenOn p d start out n more goes_on → most_text < more → HeavyOn d
 heavy_on p None now start old out n total more goes_on s w lt = s
 heavy_on p (Some d) now start old out n total more goes_on s w lt = heavy_now d.ledger d.call d.header p now (start ++ begin_array ∷ []) old out n total more goes_on s w lt
 
+-- so it is where more states were written than such a text has bytes
 pub heavy_end : (p : WellFormed) (d now : Option Debugged) (start old : List Token) (n total : ℕ) → StatesOn p d now start old n total → most_text < n → HeavyOn d
 heavy_end p None now start old n total s lt = s
 heavy_end p (Some d) now start old n total s lt = heavy_after d.ledger d.call d.header n s.made.can_go lt
 
+-- where it does not go on and the array is closed, all states were written
 pub all_on : (p : WellFormed) (d now : Option Debugged) (start old out new : List Token) (n total more : ℕ) → StatesOn p d now start old n total → WrittenOn p d start out n more false → new ≡ out ++ end_array ∷ [] → AddsStates p d now start new
 all_on p None now start old out new n total more s w ends = absurd s
 all_on p (Some d) now start old out new n total more s w ends = all_states d.ledger d.call d.header p now start (start ++ begin_array ∷ []) old out new n total more s w refl ends
 
+-- then the states are refused as too long
 pub too_long : (d : Option Debugged) → HeavyOn d → IsStatesFailure d (failure.Fault refusal.TooLong)
 too_long None heavy = absurd heavy
 too_long (Some d) heavy = heavy

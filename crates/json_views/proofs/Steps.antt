@@ -7,6 +7,7 @@ use Rattle.json_views.specs.Writing.{Adds}
 
 -- what is written first, and all that is written after it
 infixr 6 ◌then◌
+-- what two writes in a row add is what each of them adds
 pub ◌then◌ : {old now new first more : List Token} → Adds old now first → Adds now new more → Adds old new (first ++ more)
 ◌then◌ {old = old} {first = first} {more = more} wrote writes = record { is = writes.is ∙ ap (λ ts. ts ++ more) wrote.is ∙ append_assoc old first more }
 

@@ -100,6 +100,7 @@ states_within call p states last found recorded =
       states_fit p states,
     )
 
+-- where states take more than a text may have, so does the text of the trace
 pub heavy_is_long : (l : Ledger) (call : CallData) (header : Header) (recorded : Outcome) (document : Json) → IsHeavy l call header → IsTraceOf l call header recorded document → most_text < length (document_text document)
 heavy_is_long l call header recorded document (n, can, heavy) t =
     let states = first_states l call header t.count in
@@ -108,6 +109,7 @@ heavy_is_long l call header recorded document (n, can, heavy) t =
     let fits = subst (λ d. states_weight states ≤ tokens_weight (json_tokens d)) (sym t.is) within in
     omega (arith, heavy, more, fits, text_fits document)
 
+-- where the states are not written, the trace fails for the same reason
 pub states_failure : (d : Option Debugged) (recorded : Outcome) (why : Failure TraceRefusal) → IsStatesFailure d why → IsTraceFailure d recorded why
 states_failure d recorded failure.Memory f = tt
 states_failure None recorded (failure.Fault why) f = absurd f
@@ -183,6 +185,7 @@ trace_written (Some d) now l call header found recorded first second all bytes (
 
 -- ---- in an entry of a block
 
+-- what was opened at an entry stands before the first instruction of its call
 pub start_of : (base : Ledger) (b : Block) (number : ℕ) (d : Option Debugged) (e : Entry) (header : Header) → IsOpened base b number d → entry_numbered b.entries number ≡ Some e → header ≡ b.header → IsStartOf d e.call header
 start_of base b number d e header o there same =
     let entry : o.entry ≡ e = some_same o.entry e (sym o.there ∙ there) in
@@ -198,6 +201,7 @@ module _ (base : Ledger) (b : Block) (number : ℕ) (d : Option Debugged) (e : E
   opened_entry : o.entry ≡ e
   opened_entry = same_entry o.entry e (sym o.there ∙ there)
 
+  -- the text of a trace is found in the entry where it is no longer than a text may be
   pub found_text : (text : List ℕ) → IsTraceText d e.outcome text → length text ≤ most_text → FindsText (base, b) number text
   found_text text t short =
       let (document, trace, is) = subst (λ m. IsTraceText m e.outcome text) o.now t in (
@@ -216,6 +220,7 @@ module _ (base : Ledger) (b : Block) (number : ℕ) (d : Option Debugged) (e : E
       subst (λ r. IsTraceOf (ledger_before base b o.entry) o.entry.call b.header r document) (ap (λ (x : Entry). x.outcome) opened_entry)
       (subst (λ (x : Entry). IsTraceOf (ledger_before base b x) x.call b.header x.outcome document) same t.trace)
 
+  -- where the trace fails, what is found in the entry is a refusal
   pub refused_text : (why : Failure TraceRefusal) → IsTraceFailure d e.outcome why → IsTraceRefused base b number why
   refused_text failure.Memory f = tt
   refused_text (failure.Fault refusal.TooLong) f =

@@ -36,6 +36,7 @@ token_weight (boolean b) = 0
 token_weight null = 0
 token_weight bad = 0
 
+-- how many bytes tokens surely take
 abbrev pub tokens_weight : List Token → ℕ
 tokens_weight [] = 0
 tokens_weight (t ∷ ts) = token_weight t + tokens_weight ts
@@ -84,6 +85,7 @@ unfolding pretty_from
 pretty_fits s [] = omega arith
 pretty_fits s (t ∷ ts) = omega (arith, piece_fits s t, pretty_fits (step s t) ts, length-append (piece s t) (pretty_from (step s t) ts))
 
+-- the text of a document is no shorter than its tokens weigh
 pub text_fits : (document : Json) → tokens_weight (json_tokens document) ≤ length (document_text document)
 text_fits document = omega (arith, pretty_fits (Last.nothing, 0) (json_tokens document), length-append (pretty (json_tokens document)) (10 ∷ []))
 
@@ -133,6 +135,7 @@ state_fits p m =
       values_fit (reverse m.stack),
     )
 
+-- states weigh no more than the tokens that show them
 pub states_fit : (p : WellFormed) (ms : List MachineState) → states_weight ms ≤ tokens_weight (run (shown_state p) ms)
 states_fit p [] = omega arith
 states_fit p (m ∷ ms) = omega (arith, state_fits p m, states_fit p ms, weight-append (json_tokens (shown_state p m)) (run (shown_state p) ms))

@@ -12,6 +12,7 @@ module _ {V : Type 0} where
   found t v [] = v
   found t v (w ∷ ws) = if nat_le w.timestamp t then found t w ws else v
 
+  -- where the first version is not above a timestamp, the newest one that is not is found so
   pub newest_at-found : (t : ℕ) (v : Version V) (ws : List (Version V)) (d : Version V) → v.timestamp ≤ t → newest_at t (v ∷ ws) d ≡ found t v ws
   newest_at-found t v [] d h = rw (le-leb v.timestamp t h) refl
   newest_at-found t v (w ∷ ws) d h = rw (le-leb v.timestamp t h) (at_test (nat_le w.timestamp t) (at_most w.timestamp t) (λ k. newest_at-found t w ws d k))
@@ -53,6 +54,7 @@ module _ {V : Type 0} where
   from low v [] = v ∷ []
   from low v (w ∷ ws) = if nat_le w.timestamp low then from low w ws else v ∷ w ∷ ws
 
+  -- pruning at a low mark leaves these of a chain
   pub versions_from-from : (low : ℕ) (v : Version V) (ws : List (Version V)) → AreRising v.timestamp ws → versions_from low (v ∷ ws) ≡ from low v ws
   versions_from-from low v [] r = at_test (nat_le v.timestamp low)
     where
@@ -104,6 +106,7 @@ module _ {V : Type 0} where
           found-next t v w ws below = rw (le-leb w.timestamp t below) refl
       at_test c (above m) rest = newest_at-found t v (w ∷ ws) d k
 
+  -- the version found is not older than the first
   pub found-at_least : (t : ℕ) (v : Version V) (ws : List (Version V)) → AreRising v.timestamp ws → v.timestamp ≤ (found t v ws).timestamp
   found-at_least t v [] r = omega arith
   found-at_least t v (w ∷ ws) r = at_test (nat_le w.timestamp t) (found-at_least t w ws r.1)
@@ -161,6 +164,7 @@ module _ {V : Type 0} where
       at_test true = refl
       at_test false = refl
 
+  -- a read not below the first version leaves these two parts
   pub versions_read_at-first : (r : ℕ) (v : Version V) (ws : List (Version V)) → v.timestamp ≤ r → versions_read_at r (v ∷ ws) ≡ first_read r v ws ∷ others_read r v ws
   versions_read_at-first r v [] h = rw (le-leb v.timestamp r h) refl
   versions_read_at-first r v (w ∷ ws) h = rw (le-leb v.timestamp r h) (at_test (nat_le w.timestamp r) (at_most w.timestamp r) (λ k. versions_read_at-first r w ws k))

@@ -61,6 +61,7 @@ module _ {Item Value Outcome V : Type 0} (give : Value → V) (same : Item → I
   marked_raised x None t n vs h above = record { more = omega arith; not_more = omega arith }
   marked_raised x (Some value) t n vs h above = read_raised x t n vs h above
 
+  -- where an entry read an item, the version below is marked at its timestamp or above
   pub marked_found : (x : Item) (o : Option Value) (t : ℕ) (vs : List (Version V)) → IsSome o → HoldsVersions give same base from es x vs → from ≤ t → t ≤ mark_in (version_below same base es (suc t) x).0 (marked_where o t vs)
   marked_found x None t vs some h above = absurd cc
   marked_found x (Some value) t vs some h above = read_marked x t vs h above
@@ -70,6 +71,7 @@ module _ {Item Value Outcome V : Type 0} (give : Value → V) (same : Item → I
   written_marks None t n vs absent = refl
   written_marks (Some value) t n vs absent = every_install_keeps_marks_lem V t n (give value) vs absent
 
+  -- the versions after an entry's write of the item, if any, agree with the entries and this one
   pub written_holds : (x : Item) (e : Entry Item Value Outcome) (vs : List (Version V)) → HoldsVersions give same base from es x vs → IsRising 0 es → from ≤ e.timestamp → AllByRecursion (λ version. version.timestamp ≢ e.timestamp) vs
       → (o : Option Value) → lookup (same x) e.writes ≡ o → HoldsVersions give same base from (entries_with e es) x (written_where give o e.timestamp vs)
   written_holds x e vs h rising above absent None is = after_unwritten give same base from es x vs h rising e above absent is

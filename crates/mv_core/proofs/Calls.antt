@@ -72,6 +72,7 @@ module _ (j : Journal) (shard_slots : ShardSlots) (slots : CallSlots) where
   refusal_shown n failure.Memory h = same_fault n ∙ h
   refusal_shown n (failure.Fault f) h = same_fault n ∙ h
 
+  -- after a begin the store keeps its facts, and shows the world after it
   pub store_begun : (new : Journal) (n : ℕ) (a : CallAttempt) → begin_fault j n ≡ None → new ≡ record j { world = after_begin j.world n } → a ≡ fresh_attempt n (j.world.clock + 1) → IsKeptByJournal j shard_slots slots
       → IsKeptByJournal new shard_slots (set slots (n - 1) (Some a)) × (shown_by new shard_slots (set slots (n - 1) (Some a)) ≡ record (shown_by j shard_slots slots) { world = after_begin (shown_by j shard_slots slots).world n })
   store_begun new n a none is begun k =
@@ -80,6 +81,7 @@ module _ (j : Journal) (shard_slots : ShardSlots) (slots : CallSlots) where
       (subst (λ i. IsKeptByJournal i shard_slots (set slots (n - 1) (Some (fresh_attempt n (j.world.clock + 1)))) × (shown_by i shard_slots (set slots (n - 1) (Some (fresh_attempt n (j.world.clock + 1)))) ≡ record (shown_by j shard_slots slots) { world = after_begin (shown_by j shard_slots slots).world n })) (sym is)
       (let h = kept_begun j.base j.header j.calls j.world shard_slots slots k.kept n b.above b.within b.uncommitted b.idle in (record { kept = h.0; marks = k.marks }, h.1)))
 
+  -- a call that begins has a slot
   pub begun_within : (n : ℕ) → begin_fault j n ≡ None → IsKeptByJournal j shard_slots slots → n - 1 < length slots
   begun_within n none k = let b = begins_at j n none in omega (arith, b.above, b.within, k.kept.count)
 
@@ -95,6 +97,7 @@ module _ (j : Journal) (shard_slots : ShardSlots) (slots : CallSlots) where
     is_live : HasLiveNumber j.world.live n t
     is_live = subst (λ u. HasLiveNumber j.world.live n u) p.time is_here.0
 
+    -- the attempt in the slot of its call is live
     pub store_placed : HasLiveNumber (shown_by j shard_slots slots).world.live n t
     store_placed = live_here slots j.world.live n t is_live
 
@@ -103,6 +106,7 @@ module _ (j : Journal) (shard_slots : ShardSlots) (slots : CallSlots) where
     live_in_journal a found = subst (λ (b : CallAttempt). journal.IsLive j.world b) (same_Some _ _ (sym p.found ∙ found))
         (subst (λ o. IsOfNumber p.attempt.number o) (sym is_here.0.live) (is_here.0.number ∙ sym is_here.1))
 
+    -- after the attempt is abandoned the store keeps its facts, and shows the world after it
     pub store_abandoned : (new : Journal) (a : CallAttempt) → get_or slots index None ≡ Some a → new ≡ record j { world = after_abandon j.world a.timestamp }
         → IsKeptByJournal new shard_slots (set slots index None) × (shown_by new shard_slots (set slots index None) ≡ record (shown_by j shard_slots slots) { world = after_abandon (shown_by j shard_slots slots).world t })
     store_abandoned new a found is =
@@ -127,6 +131,7 @@ module _ (j : Journal) (shard_slots : ShardSlots) (slots : CallSlots) where
         by None over = absurd over
         by (Some s) over = refl
 
+    -- no item is pruned above the timestamp of a live attempt
     pub store_never_pruned : (x : Item) → IsPrunedAttempt shard_slots slots index x → ⊥
     store_never_pruned x pruned = by (shard_for shard_slots x) refl (subst (λ o. IsPrunedFor shard_slots o x) p.found pruned)
       where
@@ -137,6 +142,7 @@ module _ (j : Journal) (shard_slots : ShardSlots) (slots : CallSlots) where
             value_of : Shard → Item → ItemValue
             value_of s x = at s.base x
 
+    -- a read in the shards is a read of the store, which keeps its facts
     pub store_read : (new : ShardSlots) (new_slots : CallSlots) (x : Item) (v : ItemValue) → IsReadSlot shard_slots new slots new_slots index x v
         → IsKeptByJournal j new new_slots × (IsFirstRead (shown_by j shard_slots slots) (shown_by j new new_slots) n t x v ⊎ IsReadAgain (shown_by j shard_slots slots) (shown_by j new new_slots) n t x v)
     store_read new new_slots x v r =
@@ -169,6 +175,7 @@ module _ (j : Journal) (shard_slots : ShardSlots) (slots : CallSlots) where
             let same : versions_for shard_slots ≡ versions_for (set shard_slots (shard_of x) (Some r.read.read_shard)) = ap (λ (s : Store). versions_for s.shard_slots) (sym h.1.unchanged) in
             (record { kept = h.0; marks = subst (AreMarksBelow j.base j.world.low j.world.entries (versions_indexed j)) same k.marks }, inr (subst (λ u. IsReadAgain (shown_by j shard_slots slots) (shown_by j (set shard_slots (shard_of x) (Some r.read.read_shard)) (set slots (n - 1) (Some r.after))) n u x v) time h.1))
 
+  -- a call is not live at a timestamp at which its slot has no attempt
   pub store_nowhere : (n t : ℕ) → IsNowhere slots n t → IsKeptByJournal j shard_slots slots → HasLiveNumber (shown_by j shard_slots slots).world.live n t → ⊥
   store_nowhere n t nowhere k live = by (get_or slots (n - 1) None) refl
     where
@@ -187,6 +194,7 @@ module _ (j : Journal) (shard_slots : ShardSlots) (slots : CallSlots) where
 
   -- ---- a prune
 
+  -- after a prune of the journal and the shards the store keeps its facts, and shows a prune
   pub store_pruned : (new_journal : Journal) (new : ShardSlots) (t : ℕ) → new_journal ≡ record j { world = record (j.world) { low = low_after_prune j.world t } } → ArePruned (low_after_prune j.world t) shard_slots new → IsKeptByJournal j shard_slots slots
       → IsKeptByJournal new_journal new slots × IsPrune (shown_by j shard_slots slots) (shown_by new_journal new slots) t
   store_pruned new_journal new t is pruned k = subst (λ i. IsKeptByJournal i new slots × IsPrune (shown_by j shard_slots slots) (shown_by i new slots) t) (sym is)
@@ -208,5 +216,6 @@ module _ (j : Journal) (shard_slots : ShardSlots) (slots : CallSlots) where
 pub only_pruned : (r : ReadFault) → r ≡ Pruned
 only_pruned Pruned = refl
 
+-- a read of the store has one fault alone, that the attempt is unknown
 pub only_unknown : (r : StoreReadFault) → r ≡ Unknown
 only_unknown Unknown = refl

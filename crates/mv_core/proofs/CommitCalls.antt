@@ -37,6 +37,7 @@ put_back [] i o left d a b taken there is same = refl
 put_back (x ∷ xs) zero o left d a b taken there is same = ap (λ y. y ∷ xs) (ap Some same ∙ sym is ∙ taken ∙ there)
 put_back (x ∷ xs) (suc i) o left d a b taken there is same = ap (λ ys. x ∷ ys) (put_back xs i o left d a b taken there is same)
 
+-- a store keeps its facts where its journal, shards and slots stay the same
 pub same_parts : (j : Journal) (shard_slots : ShardSlots) (slots : CallSlots) (new : Journal) (new_shard_slots : ShardSlots) (new_slots : CallSlots) → new ≡ j → new_shard_slots ≡ shard_slots → new_slots ≡ slots → IsKeptByJournal j shard_slots slots → IsKeptByJournal new new_shard_slots new_slots
 same_parts j shard_slots slots new new_shard_slots new_slots same_journal same_shard_slots same_slots k = subst (λ i. IsKeptByJournal i new_shard_slots new_slots) (sym same_journal) (subst (λ ps. IsKeptByJournal j ps new_slots) (sym same_shard_slots) (subst (λ ss. IsKeptByJournal j shard_slots ss) (sym same_slots) k))
 
@@ -90,6 +91,7 @@ module _ (j : Journal) (shard_slots : ShardSlots) (slots : CallSlots) (n t index
       never e = cc
   known_by (failure.Fault (parts_fault.Late x version mark)) h = refl
 
+  -- each refusal by the journal and the shards is a refusal by the store
   pub error_known : (error : Failure PartsFault) → IsRefusedFor j shard_slots (get_or slots index None) f error → IsSome (store_error error)
   error_known error refused = known_by error (subst (λ o. IsRefusedFor j shard_slots o f error) p.found refused)
 
@@ -109,6 +111,7 @@ module _ (j : Journal) (shard_slots : ShardSlots) (slots : CallSlots) (n t index
 
   -- ---- the commit
 
+  -- a commit by the journal and the shards is a commit by the store
   pub store_committed : (new : Journal) (new_shard_slots : ShardSlots) (new_slots : CallSlots) (u : ℕ) → IsCommittedSlot j new shard_slots new_shard_slots slots new_slots index f u → CommitsStore s new new_shard_slots new_slots n t f
   store_committed new new_shard_slots new_slots u r =
       subst (λ v. CommitsStore s new new_shard_slots new_slots n v f) p.time

@@ -101,6 +101,7 @@ module _ (base : Ledger) (header : Header) (calls : List CallData) (w : CallWorl
   is_here : (HasLiveNumber w.live n a.timestamp) × (a.number ≡ n) × (attempt_at a.timestamp (live_in slots w.live) ≡ Some a)
   is_here = attempt_here slots w.live n a above inside here k.attempts
 
+  -- the timestamp of the commit is positive, not below the low mark, and no entry's
   pub from : w.low ≤ a.timestamp
   from = found_attempt (λ (b : CallAttempt). w.low ≤ b.timestamp) a.timestamp a (live_in slots w.live) is_here.2 k.store.consistent.schedule.low_live
 
@@ -121,6 +122,7 @@ module _ (base : Ledger) (header : Header) (calls : List CallData) (w : CallWorl
 
   -- ---- no read has moved, and no shard is foreign
 
+  -- what the attempt has read is still what the entries below it leave
   pub unmoved : moved_item (state_below same_item (at base) w.entries a.timestamp) a.reads ≡ None
   unmoved = agrees_unmoved (state_below same_item (at base) w.entries a.timestamp) a.reads agrees
 
@@ -134,6 +136,7 @@ module _ (base : Ledger) (header : Header) (calls : List CallData) (w : CallWorl
           ap (λ c. c || has_write_at i a.timestamp es s) (none_at a.timestamp (versions_held s e.0) own) ∙ rest
       by b (unequal h) rest = rest
 
+  -- no shard keeps the attempt from writing, by its low mark or by a version at the timestamp
   pub none_foreign : (writes : ItemMap) → NoneForeign a.timestamp writes shard_slots
   none_foreign writes i = by (get_or shard_slots i None) refl (low_over base w.low a.timestamp shard_slots k.shards from i)
     where
@@ -178,6 +181,7 @@ module _ (base : Ledger) (header : Header) (calls : List CallData) (w : CallWorl
         by true rest = refl
         by false rest = refl
 
+    -- where no write is late for the journal, none is late for the store
     pub in_time_here : (writes : ItemMap) → parts.late_write (lateness_of base w.entries shard_slots a.timestamp) writes ≡ None → late_write (store_shown base header calls w shard_slots slots) a.timestamp writes ≡ None
     in_time_here writes none = by (late_write (store_shown base header calls w shard_slots slots) a.timestamp writes) (sym (late_same writes) ∙ none)
       where
@@ -185,6 +189,7 @@ module _ (base : Ledger) (header : Header) (calls : List CallData) (w : CallWorl
         by None h = refl
         by (Some f) h = absurd cc
 
+    -- a write that is late for the journal is late for the store, by the same version and mark
     pub late_shown : (writes : ItemMap) (x : Item) (version mark : ℕ) → parts.late_write (lateness_of base w.entries shard_slots a.timestamp) writes ≡ Some (parts_fault.Late x version mark)
         → late_write (store_shown base header calls w shard_slots slots) a.timestamp writes ≡ Some (fault.Late x version mark)
     late_shown writes x version mark is = by (late_write (store_shown base header calls w shard_slots slots) a.timestamp writes) (sym (late_same writes) ∙ is)
@@ -226,6 +231,7 @@ module _ (base : Ledger) (header : Header) (calls : List CallData) (w : CallWorl
       in_time = in_time_by f.writes in_time;
     }
 
+    -- each item's versions are then those that the entry makes of the old ones
     pub versions_new : (x : Item) → versions_for new x ≡ after_entry (λ value. value) same_item e (versions_for shard_slots) x
     versions_new x =
         versions_written a.timestamp a.reads f.writes shard_slots new written x (held_all base w.low shard_slots k.shards x)
@@ -256,6 +262,7 @@ module _ (base : Ledger) (header : Header) (calls : List CallData) (w : CallWorl
             (subst (λ y. a.timestamp ≤ mark_in (version_below same_item (at base) w.entries a.timestamp y).0 (versions_for shard_slots y)) (sym (items_have_an_equality.exact x r.0 same)) h.0)))
         by false other rest = rest
 
+    -- after the commit the store keeps its facts, and has committed the attempt
     pub kept_committed : IsKeptStore base header calls (after_commit w e) new (set slots (n - 1) None) × IsCommitted (store_shown base header calls w shard_slots slots) (store_shown base header calls (after_commit w e) new (set slots (n - 1) None)) n a.timestamp f
     kept_committed = (
       record {

@@ -74,6 +74,7 @@ one_more_idle n ws is = ap (λ xs. xs ++ worker.Idle ∷ []) is ∙ by n
     by zero = refl
     by (suc m) = ap (λ xs. worker.Idle ∷ xs) (by m) ∙ ap (λ k. replicate k worker.Idle) (let same : suc (m + 1) ≡ suc m + 1 = omega arith in same)
 
+-- a first store with eight idle workers is a run of no events
 pub first_run : (base : Ledger) (header : Header) (calls : List CallData) (s : Store) (ws : List Worker) → s ≡ first_store base header calls → ws ≡ replicate 8 worker.Idle → IsRunTo (input_of s) [] s ws
 first_run base header calls s ws first idle =
     subst (λ (q : Store). IsRunTo (input_of q) [] q ws) (sym first)
@@ -84,6 +85,7 @@ first_run base header calls s ws first idle =
       sound = (tt, (tt, (tt, (tt, (tt, (tt, (tt, (tt, tt))))))));
     }))
 
+-- a run over the input of a first store is one over its ledger, header and calls
 pub run_of_input : (base : Ledger) (header : Header) (calls : List CallData) (events : List Event) (first s : Store) (ws : List Worker) → first ≡ first_store base header calls → IsRunTo (input_of first) events s ws
     → IsRunTo (record { base = base; header = header; calls = calls }) events s ws
 run_of_input base header calls events first s ws is k = subst (λ (q : Store). IsRunTo (input_of q) events s ws) is k

@@ -68,16 +68,19 @@ module _ (base : Ledger) (header : Header) (calls : List CallData) (w : CallWorl
   pub marks_are : (x : Item) (n : ℕ) → greatest_mark same_item (marks_in shard_slots) x n ≡ marks_of (versions_for shard_slots) x n
   marks_are = marks_of_slots shard_slots (λ x. (k.store.holds x).chain)
 
+  -- the facts hold of the world that the store shows
   pub consistent_world : IsConsistentWorld same_item IsOfLedger (meaning_of header calls) (at base) (store_shown base header calls w shard_slots slots).world
   consistent_world =
       let same : greatest_mark same_item (marks_in shard_slots) ≡ marks_of (versions_for shard_slots) = λ i x n. marks_are x n i in
       subst (λ mark. IsConsistent same_item IsOfLedger (meaning_of header calls) (at base) mark w.clock w.low w.entries (live_in slots w.live)) (sym same) k.store.consistent
 
+  -- no call is live twice
   pub once : (n : ℕ) → live_count n w.live ≤ 1
   once n = omega (arith, k.store.consistent.schedule.once n, count_in slots n w.live)
 
   -- ---- a call begins
 
+  -- after a begin the store keeps its facts, and shows the world after it
   pub kept_begun : (n : ℕ) → 0 < n → n ≤ length calls → commit_count n w.entries ≡ 0 → live_count n w.live ≡ 0
       → IsKeptStore base header calls (after_begin w n) shard_slots (set slots (n - 1) (Some (fresh_attempt n (w.clock + 1))))
       × (store_shown base header calls (after_begin w n) shard_slots (set slots (n - 1) (Some (fresh_attempt n (w.clock + 1)))) ≡ record (store_shown base header calls w shard_slots slots) { world = after_begin (store_shown base header calls w shard_slots slots).world n })
@@ -115,6 +118,7 @@ module _ (base : Ledger) (header : Header) (calls : List CallData) (w : CallWorl
 
   -- ---- an attempt is abandoned
 
+  -- after an attempt is abandoned the store keeps its facts, and shows the world after it
   pub kept_abandoned : (n t : ℕ) → 0 < n → n - 1 < length slots → HasLiveNumber w.live n t
       → IsKeptStore base header calls (after_abandon w t) shard_slots (set slots (n - 1) None)
       × (store_shown base header calls (after_abandon w t) shard_slots (set slots (n - 1) None) ≡ record (store_shown base header calls w shard_slots slots) { world = after_abandon (store_shown base header calls w shard_slots slots).world t })
@@ -180,6 +184,7 @@ module _ (base : Ledger) (header : Header) (calls : List CallData) (w : CallWorl
             (λ d. ((k.store.holds x).found t d from).timestamp) (marks_are y m ∙ ap (λ z. mark_in m (versions_for shard_slots z)) (items_have_an_equality.exact y x same))
         by false other = sym (marks_are y m)
 
+    -- after the first read of an item the store keeps its facts, and shows that read
     pub kept_read : shard.IsFirstRead s new before after x v
         → IsKeptStore base header calls w (set shard_slots (shard_of x) (Some new)) new_slots × IsFirstRead (store_shown base header calls w shard_slots slots) (store_shown base header calls w (set shard_slots (shard_of x) (Some new)) new_slots) n before.timestamp x v
     kept_read read = subst
@@ -231,6 +236,7 @@ module _ (base : Ledger) (header : Header) (calls : List CallData) (w : CallWorl
           others = refl;
         }
 
+    -- so it does after an item is read again
     pub kept_again : shard.IsReadAgain s new before after x v
         → IsKeptStore base header calls w (set shard_slots (shard_of x) (Some new)) new_slots × IsReadAgain (store_shown base header calls w shard_slots slots) (store_shown base header calls w (set shard_slots (shard_of x) (Some new)) new_slots) n before.timestamp x v
     kept_again read =
@@ -328,9 +334,11 @@ module _ (base : Ledger) (header : Header) (calls : List CallData) (w : CallWorl
     pub marks_left : ArePruned (low_after_prune w t) shard_slots new → (x : Item) (n : ℕ) → (version_below same_item (at base) w.entries (suc (low_after_prune w t)) x).0 ≤ n → mark_in n (versions_for new x) ≡ mark_in n (versions_for shard_slots x)
     marks_left pruned x n counts = (raised_store pruned).1 x n counts
 
+    -- the low mark after the prune finds no older version than the one before
     pub still_above : (x : Item) → (version_below same_item (at base) w.entries (suc w.low) x).0 ≤ (version_below same_item (at base) w.entries (suc (low_after_prune w t)) x).0
     still_above x = version_below-monotone same_item (at base) (suc w.low) (suc (low_after_prune w t)) w.entries x (omega (arith, low_below)) k.store.consistent.journal.rising
 
+    -- after the prune of the shards the store keeps its facts, and shows the prune
     pub kept_pruned : ArePruned (low_after_prune w t) shard_slots new
         → IsKeptStore base header calls (record w { low = low_after_prune w t }) new slots × IsPrune (store_shown base header calls w shard_slots slots) (store_shown base header calls (record w { low = low_after_prune w t }) new slots) t
     kept_pruned = raised

@@ -48,11 +48,13 @@ unlisted [] x i h = refl
 unlisted (o ∷ os) x zero h = (among_both same_item x (items_or_none o) (items_in os) h).0
 unlisted (o ∷ os) x (suc i) h = unlisted os x i (among_both same_item x (items_or_none o) (items_in os) h).1
 
+-- the greatest mark of a version, by the list of marks, is the version's own
 pub marks_of_slots : (shard_slots : ShardSlots) → ((x : Item) → IsChain (versions_for shard_slots x)) → (x : Item) (n : ℕ) → greatest_mark same_item (marks_in shard_slots) x n ≡ mark_in n (versions_for shard_slots x)
 marks_of_slots shard_slots chains = marks_listed same_item (versions_for shard_slots) items_have_an_equality.exact chains (items_in shard_slots) (λ x n h. unmarked n (shard_for shard_slots x) x (unlisted shard_slots x (shard_of x) h))
 
 -- ---- a read
 
+-- a read leaves each item the versions that it makes of the old ones
 pub versions_after_read : (shard_slots : ShardSlots) (x : Item) (t : ℕ) (s : Shard) → shard_for shard_slots x ≡ Some s → (y : Item)
     → versions_for (set shard_slots (shard_of x) (Some (record s { chains = with_versions s.chains x (versions_read_at t (versions_held s x)) }))) y ≡ after_item_read same_item t x (versions_for shard_slots) y
 versions_after_read shard_slots x t s here y = by (shard_of y == shard_of x) (equals (shard_of y) (shard_of x))
@@ -93,6 +95,7 @@ shards_after_read shard_slots base low i s new inside here same_index same_low s
 
 -- ---- a prune
 
+-- the slot's shard has the higher low mark, and the versions that a prune there leaves
 pub record IsRaisedSlot (higher i : ℕ) (base : Ledger) (old new : Option Shard) : Type 0 where
   pub over : IsShardOver base higher i new
   pub versions : (x : Item) → versions_or_none new x ≡ versions_from higher (versions_or_none old x)

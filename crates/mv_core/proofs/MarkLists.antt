@@ -15,6 +15,7 @@ mark_below n bound (v ∷ vs) h r = by (v.timestamp == n) (equals v.timestamp n)
     by b (unequal e) rest = rest
 
 module _ {Item : Type 0} (same : Item → Item → Bool) where
+  -- whether an item is in a list of items
   abbrev pub is_among : Item → List Item → Bool
   is_among x [] = false
   is_among x (y ∷ ys) = if same x y then true else is_among x ys
@@ -76,6 +77,7 @@ module _ {Item : Type 0} (same : Item → Item → Bool) where
         by true e = refl
         by false e = sym (unlisted x n e)
 
+  -- an item that is not among two lists joined is in neither
   pub among_both : (x : Item) (xs ys : List Item) → is_among x (xs ++ ys) ≡ false → (is_among x xs ≡ false) × (is_among x ys ≡ false)
   among_both x [] ys h = (refl, h)
   among_both x (z ∷ zs) ys h = by (same x z) h (among_both x zs ys)

@@ -166,6 +166,7 @@ module _ (input : RunInput) where
       (λ b v c is differs was same. absurd cc)
       k
 
+  -- writes that pass the test follow no version that was read above the timestamp
   pub in_time : (r : Running) (t : ℕ) (writes : ItemMap) → writes_in_time input r t writes ≡ true
       → AllByRecursion (λ write. greatest_mark same_item r.world.marks write.0 (version_before input r t write.0).0 ≤ t) writes
   in_time r t [] e = tt

@@ -25,9 +25,11 @@ none_hidden slots [] none = refl
 none_hidden slots (a ∷ as') none = absurd cc
 
 module _ (j : Journal) (shard_slots : ShardSlots) (slots : CallSlots) where
+  -- where no attempt of the journal is live, the store shows none
   pub over_shown : j.world.live ≡ [] → (shown_by j shard_slots slots).world.live ≡ []
   over_shown = none_shown slots j.world.live
 
+  -- a seal of the journal, or a refusal to seal, is one of the journal that the store shows
   pub sealed_shown : (b : Block) (ns : List ℕ) → IsSealed j b ns → IsSealed (as_journal (shown_by j shard_slots slots)) b ns
   sealed_shown b ns s = record {
     header = s.header;

@@ -9,12 +9,14 @@ beyond [] i h = refl
 beyond (x ∷ xs) zero h = absurd (omega (arith, h))
 beyond (x ∷ xs) (suc i) h = beyond xs i (omega (arith, h))
 
+-- what is found at an index inside a list does not depend on the default
 pub at_none : {A : Type 0} (xs : List (Option A)) (i : ℕ) (d o : Option A) → i < length xs → get_or xs i d ≡ o → get_or xs i None ≡ o
 at_none [] i d o within found = absurd (omega (arith, within))
 at_none (y ∷ ys) zero d o within found = found
 at_none (y ∷ ys) (suc i) d o within found = at_none ys i d o (omega (arith, within)) found
 
 module _ {Item Value : Type 0} (slots : AttemptSlots Item Value) (n t : ℕ) where
+  -- a number has no attempt at a timestamp if it has no slot, or the slot has none of that time
   pub nowhere_zero : n ≡ 0 → IsNowhere slots n t
   nowhere_zero none a above found = absurd (omega (arith, none, above))
 

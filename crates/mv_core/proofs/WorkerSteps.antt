@@ -38,6 +38,7 @@ use Rattle.mv_core.specs.WorkerSteps.{IsAbandonBy, IsAdvanced, IsBegunBy, IsComm
 
 -- ---- a worker reads
 
+-- the worker's attempt has read the item, and what the worker then has is sound
 pub record ReadsOn (old new : Store) (ticket : Ticket) (run : Option Progress) (x : Item) (after : Worker) : Type 0 where
   pub read : IsReadByStore old new (attempt_by ticket (reads_or_none run)) x (attempt_of after)
   pub sound : IsSoundWorker (input_of old) after
@@ -120,6 +121,7 @@ reads_on old new ticket (Some p) x y v supplied asks live same (inl first) suppl
     first_read old new ticket x v p asks live (subst (λ z. IsFirstRead old new ticket.number ticket.timestamp z v) same first) after supplied supplies.1 h
 reads_on old new ticket (Some p) x y v supplied asks live same (inr again) supplies after h = absurd (never_again old new ticket x v p asks live (subst (λ z. IsReadAgain old new ticket.number ticket.timestamp z v) same again))
 
+-- a live attempt is found by the number and the timestamp of its ticket
 pub ticket_live : (s : Store) (o : Option CallAttempt) (t : Ticket) → option_map ticket_of o ≡ Some t → IsLiveIfAny s o → HasLiveNumber s.world.live t.number t.timestamp
 ticket_live s None t is live = absurd cc
 ticket_live s (Some a) t is live = subst (λ (u : Ticket). HasLiveNumber s.world.live u.number u.timestamp) (same_Some _ _ is) (record { attempt = a; live = live; number = refl })
@@ -164,6 +166,7 @@ live_here s ws i w d inside taken there live = subst (λ (v : Worker). IsLiveIfA
 
 -- ---- whether a commit is in time
 
+-- the writes are in time exactly where none of them is late
 pub in_time_same : (s : Store) (ws : List Worker) (t : ℕ) (writes : ItemMap) → writes_in_time (input_of s) (running_of s ws) t writes ≡ not (is_some (late_write s t writes))
 in_time_same s ws t [] = refl
 in_time_same s ws t (e ∷ es) = by (nat_le mark t) (nat_lt t mark) refl refl (in_time_same s ws t es)
@@ -393,6 +396,7 @@ beyond_last s ws i (event.Commit k) own past = ap (by_worker (running_of s ws) (
 beyond_last s ws i (event.Abandon k) own past = ap (by_worker (running_of s ws) (λ a. with_worker (running_of s ws) (after_abandon s.world a.timestamp) k None)) (ap (λ j. get_or (map attempt_of ws) j None) (same_Some _ _ own) ∙ none_beyond ws i past)
 beyond_last s ws i (event.Prune t) own past = absurd cc
 
+-- an event of a worker that is not there changes nothing
 pub nothing_done : (s : Store) (ws : List Worker) (i : ℕ) (e : Event) → worker_in e ≡ Some i → length ws ≤ i → AreSound (input_of s) ws → IsStep e s s ws ws
 nothing_done s ws i e own past sound = record {
   input = refl;
@@ -402,6 +406,7 @@ nothing_done s ws i e own past sound = record {
 
 -- ---- a prune
 
+-- a prune of the store is a step that leaves the workers
 pub pruned_step : (old new : Store) (ws : List Worker) (t : ℕ) → IsPrune old new t → AreSound (input_of old) ws → IsStep (event.Prune t) old new ws ws
 pruned_step old new ws t h sound = record {
   input = ap input_of h.others;

@@ -10,6 +10,7 @@ use Rattle.avm_items.specs.declared.item_value.ItemValue.{ItemValue}
 use Rattle.avm_items.specs.Items.{ItemMap, item_cmp, value_in, with_item}
 use Rattle.mv_core.specs.Running.{index_among}
 
+-- what stands at an index of a list in which one place was set
 pub data AfterSet {X : Type 0} (xs : List (Option X)) (i : ℕ) (o : Option X) (w : ℕ) (a : X) : Type 0 where
   itself : w ≡ i → o ≡ Some a → AfterSet xs i o w a
   other : w ≢ i → get_or xs w None ≡ Some a → AfterSet xs i o w a
@@ -25,6 +26,7 @@ after_set (x ∷ xs) (suc i) o (suc w) a e =
       | other h k ↦ other (λ same. h (omega (arith, same))) k
     ]
 
+-- a new item joins the reads at its index in their order
 pub with_item-new : (reads : ItemMap) (x : Item) (v : ItemValue) → value_in reads x ≡ None → with_item reads x v ≡ insert reads (index_among reads x) (x, v)
 with_item-new [] x v none = refl
 with_item-new (e ∷ es) x v none = by (item_cmp x e.0) none (with_item-new es x v)

@@ -24,6 +24,7 @@ module _ {Item Value : Type 0} where
       at_test c (equal k) rest = rest
       at_test c (unequal k) rest = (k, rest)
 
+  -- what holds of each live attempt holds after a read, where its reader keeps it
   pub all_with_read : (P : Attempt Item Value → Type 0) (t index : ℕ) (read : Item × Value) (live : List (Attempt Item Value))
       → ((a : Attempt Item Value) → a.timestamp ≡ t → P a → P (record a { reads = insert a.reads index read })) → AllByRecursion P live → AllByRecursion P (attempts_with_read t index read live)
   all_with_read P t index read [] f h = tt
@@ -33,6 +34,7 @@ module _ {Item Value : Type 0} where
       at_test c (equal k) rest = (f a k h.0, h.1)
       at_test c (unequal k) rest = (h.0, rest)
 
+  -- the attempt found at a timestamp is one of the live ones, and has that timestamp
   pub found_attempt : (P : Attempt Item Value → Type 0) (t : ℕ) (a : Attempt Item Value) (live : List (Attempt Item Value)) → attempt_at t live ≡ Some a → AllByRecursion P live → P a
   found_attempt P t a [] h k = absurd cc
   found_attempt P t a (b ∷ bs) h k = at_test (b.timestamp == t) h (λ e. found_attempt P t a bs e k.1)
@@ -49,6 +51,7 @@ module _ {Item Value : Type 0} where
       at_test c (equal k) e rest = subst (λ x. x.timestamp ≡ t) (same_Some _ _ e) k
       at_test c (unequal k) e rest = rest e
 
+  -- an attempt that begins leaves the others, and is found at its own fresh timestamp
   pub attempt_at-push : (t : ℕ) (a b : Attempt Item Value) (live : List (Attempt Item Value)) → attempt_at t live ≡ Some a → attempt_at t (live ++ b ∷ []) ≡ Some a
   attempt_at-push t a b [] h = absurd cc
   attempt_at-push t a b (c ∷ cs) h = at_test (c.timestamp == t) h (λ e. attempt_at-push t a b cs e)
@@ -69,6 +72,7 @@ module _ {Item Value : Type 0} where
       at_test d (equal k) rest = absurd (h.0 k)
       at_test d (unequal k) rest = rest
 
+  -- a read is added to the attempt at its timestamp and leaves the others
   pub attempt_at-with_read : (t index : ℕ) (read : Item × Value) (a : Attempt Item Value) (live : List (Attempt Item Value)) → attempt_at t live ≡ Some a
       → attempt_at t (attempts_with_read t index read live) ≡ Some (record a { reads = insert a.reads index read })
   attempt_at-with_read t index read a [] h = absurd cc
@@ -94,6 +98,7 @@ module _ {Item Value : Type 0} where
       at_test c (equal k) rest = at_same k (b.timestamp == s) (equals b.timestamp s)
       at_test c (unequal k) rest = ap (λ o. if b.timestamp == s then Some b else o) rest
 
+  -- the end of an attempt leaves those at other timestamps
   pub attempt_at-without : (s t : ℕ) (live : List (Attempt Item Value)) → s ≢ t → attempt_at s (attempts_without t live) ≡ attempt_at s live
   attempt_at-without s t [] other = refl
   attempt_at-without s t (b ∷ bs) other = at_test (b.timestamp == t) (equals b.timestamp t) (attempt_at-without s t bs other)
@@ -140,6 +145,7 @@ module _ {Item Value : Type 0} where
       at_test true e rest fewer = subst (λ x. live_count n (attempts_without t bs) + (if x.number == n then 1 else 0) ≤ live_count n (b ∷ bs)) (same_Some _ _ e) (omega arith)
       at_test false e rest fewer = let more : live_count n (attempts_without t bs) + (if a.number == n then 1 else 0) ≤ live_count n bs = rest e in omega arith
 
+-- a new entry adds one to the count of its own call, and to no other
 pub commit_count-entries_with : {Item Value Outcome : Type 0} (n : ℕ) (e : Entry Item Value Outcome) (es : List (Entry Item Value Outcome)) → commit_count n (entries_with e es) ≡ commit_count n es + (if e.number == n then 1 else 0)
 commit_count-entries_with n e [] = omega arith
 commit_count-entries_with n e (f ∷ fs) = at_test (nat_lt e.timestamp f.timestamp) (commit_count-entries_with n e fs)

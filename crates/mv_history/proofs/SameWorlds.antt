@@ -59,6 +59,7 @@ module _ {Item Value Outcome : Type 0} (same : Item → Item → Bool) where
           rest (version_after (nat_lt f.timestamp t) (lookup (same x) f.writes) f.timestamp v) (after_f-old (nat_lt f.timestamp t) (lookup (same x) f.writes)) (after_f-below k (nat_lt f.timestamp t) (lookup (same x) f.writes))
 
 module _ {Item Value Outcome : Type 0} (same : Item → Item → Bool) (base : Item → Value) where
+  -- neither a later timestamp nor one more entry leads to an older version of an item
   pub version_below-monotone : (s t : ℕ) (es : List (Entry Item Value Outcome)) (x : Item) → s ≤ t → IsRising 0 es → (version_below same base es s x).0 ≤ (version_below same base es t x).0
   version_below-monotone s t es x h r = newest_version-monotone same s t 0 es x (0, base x) (0, base x) h r (omega arith) (omega arith)
 
@@ -137,6 +138,7 @@ module _ {Item Value Outcome : Type 0} (same : Item → Item → Bool) (base : I
   after_same_event w v r h (Prune t marks) (Commit e) is = absurd cc
   after_same_event w v r h (Prune t marks) (Abandon u) is = absurd cc
 
+  -- what commits in time commits so in the same world, from the low mark on
   pub in_time-same : (w v : World Item Value Outcome) → IsRising 0 w.entries → IsSameWorld same base w v → (e : Entry Item Value Outcome) → w.low ≤ e.timestamp
       → IsInTime same base (greatest_mark same w.marks) w.entries e → IsInTime same base (greatest_mark same v.marks) v.entries e
   in_time-same w v r h e above in_time =

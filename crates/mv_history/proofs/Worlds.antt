@@ -62,6 +62,7 @@ module _ {Item Value Outcome : Type 0} (same : Item → Item → Bool) (Proper :
       (is_marked same itself marks x (version_below same base es (suc t) x).0 t)
       k)
 
+  -- the facts hold of the first world, and each event that applies keeps them
   pub consistent_first : IsConsistentWorld same Proper means base first_world
   consistent_first = record { journal = record { rising = tt; finished = tt; agree = tt }; schedule = schedule_first same base (greatest_mark same []) (λ x v. refl) }
 
@@ -128,6 +129,7 @@ module _ {Item Value Outcome : Type 0} (same : Item → Item → Bool) (Proper :
   all_apply-push [] event w h last = (last, tt)
   all_apply-push (e ∷ events) event w h last = (h.0, all_apply-push events event (after_event same base w e) h.1 last)
 
+  -- an event that applies leads from a reachable world to a reachable one
   pub reachable_after : (w : World Item Value Outcome) (event : Event Item Value Outcome) → Applies same Proper means base w event
       → IsReachable same Proper means base w → IsReachable same Proper means base (after_event same base w event)
   reachable_after w event applies r =

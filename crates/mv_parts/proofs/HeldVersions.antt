@@ -91,5 +91,6 @@ contained_at (v ∷ vs) (suc i) d within = by (v.timestamp == (get_or vs i d).ti
     by true rest = refl
     by false rest = rest
 
+-- where a list contains a version, it has one at that version's timestamp
 pub has_contained : (vs : List (Version ItemValue)) (v : Version ItemValue) → Contains vs v → has_timestamp v.timestamp vs ≡ true
 has_contained vs v held = subst (λ u. has_timestamp u.timestamp vs ≡ true) held.2 (contained_at vs held.0 v held.1)

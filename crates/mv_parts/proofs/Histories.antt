@@ -33,6 +33,7 @@ found_read : (reads : ItemMap) (look : Look) → Agrees reads look → (x : Item
 found_read [] look agrees x v e = absurd cc
 found_read (r ∷ rs) look agrees x v e = found_by r rs look x v agrees.0 (found_read rs look agrees.1 x v) (is_eq (item_cmp x r.0)) refl e
 
+-- reads that agree with a look-up of a ledger agree with the ledger
 pub reads_agree : (l : Ledger) (look : Look) (reads : ItemMap) → IsLookOf l look → Agrees reads look → AgreesWithReads l reads
 reads_agree l look reads is agrees x v there stands = sym (is.same x (ap (λ b. b && was_given l x) stands)) ∙ found_read reads look agrees x v there
 

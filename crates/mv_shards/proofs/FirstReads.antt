@@ -41,9 +41,11 @@ touched_with first low map new x vs k n stale alike =
     by y true = ap (λ u. if u then None else Some vs) stale
     by y false = sym (found_touched first map k.once y)
 
+-- what is seen of a shard with this index, low mark, base and chains
 abbrev pub seen_as : ℕ → ℕ → Ledger → ChainMap ItemValue → Shard
 seen_as index low base map = record { index = index; low = low; base = base; chains = touched map }
 
+-- a first read that marks an item's versions is seen as the first read of a shard
 pub first_read_seen : (index low : ℕ) (base : Ledger) (map new : ChainMap ItemValue) (before after : CallAttempt) (x : Item) (v : ItemValue) → 0 < before.timestamp → low ≤ before.timestamp → value_in before.reads x ≡ None
     → AreChains (at base) low map → AreChains (at base) low new
     → IsMarkedRead (at base) map new before after x v
@@ -60,6 +62,7 @@ first_read_seen index low base map new before after x v above in_time first k n 
           (touched_with (at base) low map new x (versions_read_at t (versions_of (at base) map x)) k n (marked_touched t (versions_of (at base) map x) above (k.chains x)) read.marked ∙ ap (λ vs. with_versions (touched map) x (versions_read_at t vs)) (sym found));
     }
 
+-- where nothing changes of what is seen of the chains, nothing does of the shard
 pub refused_seen : (index low : ℕ) (base : Ledger) (map new : ChainMap ItemValue) → touched new ≡ touched map → seen_as index low base new ≡ seen_as index low base map
 refused_seen index low base map new same = ap (λ cs. record { index = index; low = low; base = base; chains = cs }) same
 

@@ -26,24 +26,29 @@ spot_held parts x spot h = by (get_or parts (shard_of x) None) h.number
     by None never = absurd cc
     by (Some p) number = refl
 
+-- where an item's chain stands at a spot, there is a part at the spot's index
 pub spot_there : (parts : Parts) (x : Item) (spot : Spot) → IsSpot parts x spot → IsSome (get_or parts spot.shard None)
 spot_there parts x spot h = subst (λ i. IsSome (get_or parts i None)) (sym h.shard) (spot_held parts x spot h)
 
 pub spot_within : (parts : Parts) (x : Item) (spot : Spot) → IsSpot parts x spot → spot.shard < length parts
 spot_within parts x spot h = some_within parts spot.shard (spot_there parts x spot h)
 
+-- what is found at its index, whatever is given beyond the slots, is that part
 pub spot_here : (parts : Parts) (x : Item) (spot : Spot) (d : Option Part) (p : Part) → IsSpot parts x spot
     → get_or parts spot.shard d ≡ Some p → get_or parts spot.shard None ≡ Some p
 spot_here parts x spot d p h found = here_at parts spot.shard x d p h.shard (spot_held parts x spot h) found
 
+-- the chains of that part are those of the item's shard
 pub spot_chains : (parts : Parts) (x : Item) (spot : Spot) (p : Part) → IsSpot parts x spot
     → get_or parts spot.shard None ≡ Some p → chains_for parts x ≡ p.chains
 spot_chains parts x spot p h here = ap (chains_at parts) (sym h.shard) ∙ ap chains_or here
 
+-- the item has the spot's number among the chains of that part
 pub spot_number : (parts : Parts) (x : Item) (spot : Spot) (p : Part) → IsSpot parts x spot
     → get_or parts spot.shard None ≡ Some p → number_in p.chains x ≡ Some spot.number
 spot_number parts x spot p h here = subst (λ map. number_in map x ≡ Some spot.number) (spot_chains parts x spot p h here) h.number
 
+-- where chains keep their numbers, items keep their spots
 pub spot_kept : (old new : Parts) → AreSpotsKept old new → (x : Item) (spot : Spot) → IsSpot old x spot
     → IsSpot new x spot
 spot_kept old new kept x spot h = record { shard = h.shard; number = kept (shard_of x) x spot.number h.number }
@@ -59,6 +64,7 @@ one_there parts x y spot h k =
 
 -- ---- many
 
+-- what follows for each item beside another thing follows for all of them
 pub beside_each : {B : Type 0} (P Q : Item × ItemValue → B → Type 0) → ((e : Item × ItemValue) (b : B) → P e b → Q e b)
     → (es : ItemMap) (bs : List B) → AreBeside P es bs → AreBeside Q es bs
 beside_each P Q f [] [] h = tt
@@ -86,6 +92,7 @@ marked_there i t parts (e ∷ es) (f ∷ fs) (s ∷ ss) all h k =
     ap (λ x. versions_marked i t es (if shard_of x == i then one_marked t x all else all)) (one_there parts e.0 f.0 s h.0 k.0)
     ∙ marked_there i t parts es fs ss (if shard_of f.0 == i then one_marked t f.0 all else all) h.1 k.1
 
+-- items with values that are placed at the same spots, with the same values, are the same
 pub placed_once : (parts : Parts) (es fs : ItemMap) (placed : List (Spot × ItemValue)) → ArePlaced parts es placed
     → ArePlaced parts fs placed → es ≡ fs
 placed_once parts [] [] [] h k = refl

@@ -20,9 +20,11 @@ count : (r : Result (List LineTokens) TextFault) (n : ℕ) → (r >>= λ ls. Ok 
 count (Ok ls) n e = let same : 0 + length ls ≡ n = cc in omega (arith, same)
 count (Err f) n e = absurd cc
 
+-- where a text has no meaning, assembling it fails in the same way
 pub no_meaning : (text : List ℕ) (d : Failure AsmFault) → Fails d (unread_meaning (all_lines text)) → Fails d (assembled text)
 no_meaning text failure.Memory e = tt
 no_meaning text (failure.Fault f) e = of_meaning text (Err f) e
 
+-- the assembler answers the program of what the text means, if that is short enough
 pub its_program : (text : List ℕ) (m : Meaning) (n : ℕ) → unread_meaning (all_lines text) ≡ Ok m → line_total (all_lines text) ≡ Ok n → assembled text ≡ short_program n (program m)
 its_program text m n e total = of_meaning text (Ok m) e ∙ ap (λ k. short_program k (program m)) (count (lines_of text) n total)

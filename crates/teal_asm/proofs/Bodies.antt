@@ -37,6 +37,7 @@ pub list_any-push : {A : Type 0} (p : A → Bool) (xs : List A) (x : A) → list
 list_any-push p [] x = or_false (p x)
 list_any-push p (y ∷ ys) x = ap (λ b. p y || b) (list_any-push p ys x) ∙ or_assoc (p y) (list_any p ys) (p x)
 
+-- what one more statement adds to the constants, the labels and the commands
 pub uints-push : (ss : List Statement) (s : Statement) → gathered_uints (ss ++ s ∷ []) ≡ distinct nat_eq (gathered_uints ss) (gathered_uint s.command)
 uints-push ss s =
     ap (distinct nat_eq []) (flat_map-push (λ (t : Statement). gathered_uint t.command) ss s)
@@ -68,6 +69,7 @@ at_most_one : (c : Option Command) → commands_in c ≤ 1
 at_most_one None = omega arith
 at_most_one (Some c) = omega arith
 
+-- a statement has at most one command
 pub command_count-le : (ss : List Statement) → command_count ss ≤ length ss
 command_count-le [] = omega arith
 command_count-le (s ∷ ss) = omega (arith, at_most_one s.command, command_count-le ss)
@@ -85,11 +87,13 @@ mixed ss s uints strings ub bb b = rw (b.uints_are, b.strings_are, b.uint_block_
 many : (ss : List Statement) (s : Statement) (uints : List ℕ) (strings : List (List ℕ)) (ub bb : Bool) → Behind ss s uints strings ub bb → (ltb 256 (length uints) || ltb 256 (length strings)) ≡ gathers_too_many (ss ++ s ∷ [])
 many ss s uints strings ub bb b = rw (b.uints_are, b.strings_are) refl
 
+-- an explicit block beside gathered constants of its kind is refused
 pub is_mixed : (ss : List Statement) (s : Statement) (uints : List ℕ) (strings : List (List ℕ)) (ub bb : Bool) → Behind ss s uints strings ub bb → ((ub && ltb 0 (length uints)) || (bb && ltb 0 (length strings))) ≡ true → appended ss (behind ss s) ≡ Err kind.MixedBlock
 is_mixed ss s uints strings ub bb b e =
     let test : mixes_blocks (ss ++ s ∷ []) ≡ true = sym (mixed ss s uints strings ub bb b) ∙ e in
     rw test refl
 
+-- more than 256 gathered constants of a kind are refused
 pub is_too_many : (ss : List Statement) (s : Statement) (uints : List ℕ) (strings : List (List ℕ)) (ub bb : Bool) → Behind ss s uints strings ub bb → ((ub && ltb 0 (length uints)) || (bb && ltb 0 (length strings))) ≡ false
     → (ltb 256 (length uints) || ltb 256 (length strings)) ≡ true → appended ss (behind ss s) ≡ Err kind.TooManyConstants
 is_too_many ss s uints strings ub bb b e f =
@@ -97,6 +101,7 @@ is_too_many ss s uints strings ub bb b e f =
     let more : gathers_too_many (ss ++ s ∷ []) ≡ true = sym (many ss s uints strings ub bb b) ∙ f in
     rw (test, more) refl
 
+-- where neither is so, the statement is added
 pub is_behind : (ss now : List Statement) (s : Statement) (uints : List ℕ) (strings : List (List ℕ)) (ub bb : Bool) → Behind ss s uints strings ub bb → ((ub && ltb 0 (length uints)) || (bb && ltb 0 (length strings))) ≡ false
     → (ltb 256 (length uints) || ltb 256 (length strings)) ≡ false → now ≡ ss ++ s ∷ [] → appended ss (behind ss s) ≡ Ok now
 is_behind ss now s uints strings ub bb b e f pushed =

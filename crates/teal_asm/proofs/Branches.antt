@@ -166,6 +166,7 @@ size_some : (i : Meant) → 1 ≤ size i
 size_some (Straight o i) = omega arith
 size_some (Branch o t) = omega arith
 
+-- there are no more instructions than the bytes that they take
 pub size-le : (is : List Meant) → length is ≤ total_size is
 size-le [] = omega arith
 size-le (i ∷ is) = omega (arith, size_some i, size-le is)

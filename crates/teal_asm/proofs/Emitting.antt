@@ -19,6 +19,7 @@ total-append (x ∷ xs) ys = omega (arith, total-append xs ys)
 abbrev place : List Meant → ℕ → ℕ
 place xs k = total_size (take k xs)
 
+-- no instruction stands behind the end
 pub place-le : (xs : List Meant) (k : ℕ) → place xs k ≤ total_size xs
 place-le xs k = omega (arith, ap total_size (take-append-drop k xs), total-append (take k xs) (drop k xs))
 
@@ -67,12 +68,14 @@ drop-meant is i x lt at =
     item (y ∷ js) zero = refl
     item (y ∷ js) (suc j) = item js j
 
+-- the next instruction stands behind this one by its size
 pub place-next : (is : List Instruction) (i : ℕ) (x : Instruction) → i < length is → x ≡ get_or is i x → place (all_meant is) (i + 1) ≡ place (all_meant is) i + size (meant x)
 place-next is i x lt at =
     place-add (all_meant is) i 1 ∙ ap (λ ys. place (all_meant is) i + total_size (take 1 ys)) (drop-meant is i x lt at) ∙ omega arith
 
 -- ---- places, one behind another
 
+-- the places of the first instructions, and of what stands behind them
 pub record PlacesSoFar (is : List Meant) (i : ℕ) (places : List ℕ) (now : ℕ) : Type 0 where
   pub within : i ≤ length is
   pub count : length places ≡ i + 1
@@ -108,6 +111,7 @@ next_place is i x places more now next lt at p sum small pushed =
           ap (λ j. get_or (places ++ next ∷ []) j 0) same ∙ get_or-append_seam places next [] 0 ∙ here ∙ ap (place (all_meant is)) (sym end)
     ]
 
+-- where the next place is above 1023, the instructions take more than 1023 bytes
 pub too_far : (is : List Instruction) (i : ℕ) (x : Instruction) (places : List ℕ) (now next : ℕ) → i < length is → x ≡ get_or is i x → PlacesSoFar (all_meant is) i places now → next ≡ now + size (meant x) → 1023 < next → 1023 < total_size (all_meant is)
 too_far is i x places now next lt at p sum large = omega (arith, sum, p.here, place-next is i x lt at, place-le (all_meant is) (i + 1))
 
@@ -122,12 +126,14 @@ all_places is i places now ge p =
 
 -- ---- the bytes, one behind another
 
+-- no place is above 1023
 pub places_small : (is : List Meant) (places : List ℕ) → ArePlaces is places → (k : ℕ) → get_or places k 0 ≤ 1023
 places_small is places p k = elim (cases_lt k (length is + 1)) [
   | inl lt ↦ omega (arith, p.each k (omega arith), place-le is k, p.small)
   | inr ge ↦ omega (arith, get_or_past places k 0 (omega (arith, p.count)))
 ]
 
+-- from behind a branch to its target it is as far as the instructions between them are long
 pub branch_offset : (is : List Meant) (places : List ℕ) (n t : ℕ) → ArePlaces is places → n < length is
     → get_or places (min t (length places - 1)) 0 - get_or places (n + 1) 0 ≡ total_size (take (t - (n + 1)) (drop (n + 1) is))
 branch_offset is places n t p lt =
@@ -168,11 +174,13 @@ unfolding spelling
 length-spelling n [] = refl
 length-spelling n (i ∷ is) = omega (arith, length-append (instruction_spelling n i is) (spelling (n + 1) is), size-spelling n i is, length-spelling (n + 1) is)
 
+-- instructions of at most 1023 bytes make a program that is short enough
 pub fits : (line : ℕ) (code : List ℕ) (v : ℕ) (is : List Meant) → total_size is ≤ 1023 → code ≡ v ∷ spelling 0 is → short_program line (v ∷ spelling 0 is) ≡ Ok code
 fits line code v is small e =
     let test : ltb most_program_bytes (length (v ∷ spelling 0 is)) ≡ false = le-ltb most_program_bytes (length (v ∷ spelling 0 is)) (omega (arith, length-spelling 0 is)) in
     rw test (ap (λ bytes. Ok bytes) (sym e))
 
+-- instructions of more than 1023 bytes make a program that is refused as too long
 pub is_too_long : (line v : ℕ) (is : List Meant) → 1023 < total_size is → short_program line (v ∷ spelling 0 is) ≡ Err (record { line = line; kind = kind.TooLong })
 is_too_long line v is large =
     let test : ltb most_program_bytes (length (v ∷ spelling 0 is)) ≡ true = lt-ltb most_program_bytes (length (v ∷ spelling 0 is)) (omega (arith, length-spelling 0 is)) in

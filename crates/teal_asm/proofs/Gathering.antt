@@ -28,6 +28,7 @@ by_test : (b : Bool) (ks : List (Vec ℕ)) (v : Vec ℕ) → map items (cond b k
 by_test true ks v = refl
 by_test false ks v = map_push items ks v
 
+-- a string goes behind the gathered ones, unless it is among them
 pub inserted : (ks now : List (Vec ℕ)) (v : Vec ℕ) → now ≡ cond (list_any (λ (y : Vec ℕ). bytes_eq v.items y.items) ks) ks (ks ++ v ∷ []) → map items now ≡ with_new bytes_eq (map items ks) v.items
 inserted ks now v e = ap (map items) e ∙ by_test _ ks v ∙ ap (λ b. cond b (map items ks) (map items ks ++ v.items ∷ [])) (seen v.items ks)
 
@@ -48,9 +49,11 @@ pub not_from_test : (b : Bool) (i : ℕ) → cond b (Some i) None ≡ None → b
 not_from_test true i e = absurd cc
 not_from_test false i e = refl
 
+-- the place that is found is the first among the gathered strings
 pub found_at : (v : List ℕ) (ks : List (Vec ℕ)) (i : ℕ) → position (λ (y : Vec ℕ). bytes_eq v y.items) ks ≡ Some i → i ≡ position_or_len (bytes_eq v) (map items ks)
 found_at v ks i e = sym (from_test _ _ i e) ∙ same_place v ks
 
+-- a string that is not among them has the place behind the last
 pub not_found : (v : List ℕ) (ks : List (Vec ℕ)) (n : ℕ) → position (λ (y : Vec ℕ). bytes_eq v y.items) ks ≡ None → n ≡ length ks → n ≡ position_or_len (bytes_eq v) (map items ks)
 not_found v ks n e is =
     let beyond = ltb-false (position_or_len (λ (y : Vec ℕ). bytes_eq v y.items) ks) (length ks) (not_from_test _ _ e) in
@@ -63,6 +66,7 @@ pub found_label : (name : List ℕ) (es : List (Vec ℕ × ℕ)) → lookup (λ 
 found_label name [] = refl
 found_label name (e ∷ es) = ap (λ o. cond (bytes_eq name e.0.items) (Some e.1) o) (found_label name es)
 
+-- a new label goes behind the labels that are there
 pub label_inserted : (k : Vec ℕ) (n : ℕ) (es : List (Vec ℕ × ℕ)) → lookup (bytes_eq k.items) (map entry es) ≡ None → map entry (insert_entry (λ (x y : Vec ℕ). bytes_eq x.items y.items) es k n) ≡ map entry es ++ (k.items, n) ∷ []
 label_inserted k n [] none = refl
 label_inserted k n (e ∷ es) none = at_test (bytes_eq k.items e.0.items) (label_inserted k n es) none

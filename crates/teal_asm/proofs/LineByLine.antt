@@ -39,6 +39,7 @@ one_more version before u next l r is e = ap (λ q. on_text q >>= λ ls. stateme
     at_rest (Ok ls) = statements-append version before (words_of_line u.text (view l)) (words_of_lines u.text ls) ∙ ap (λ p. p >>= λ b. statements version b (words_of_lines u.text ls)) e
     at_rest (Err f) = refl
 
+-- the lines behind one that is read give the same statements
 pub goes_on : (version : Version) (before now : List Statement) (u next : Unread) (l : Line) → IsBehind l u next → statements version before (words_of_line u.text (view l)) ≡ Ok now → unread_statements version now next ≡ unread_statements version before u
 goes_on version before now u next l is e = ap (λ t. on_text next.lines >>= λ ls. statements version now (words_of_lines t ls)) is.text ∙ sym (one_more version before u next l (Ok now) is e)
 
@@ -52,6 +53,7 @@ late (failure.Fault f) e left meant is fails = at_rest left e is (fails f refl)
     at_rest (Ok ls) (failure.Fault g) is same = let e : f ≡ g = cc in same ∙ ap (λ h. Err h) e
     at_rest (Err t) (failure.Fault g) is same = let e : record { line = t.line; kind = kind.Text } ≡ g = cc in same ∙ ap (λ h. Err h) e
 
+-- a failure on a line is the answer, unless a later line has a fault of tokens
 pub stops : (version : Version) (before : List Statement) (u next : Unread) (l : Line) (d e : Failure AsmFault) → IsBehind l u next → Fails d (statements version before (words_of_line u.text (view l))) → IsLater d e next.lines
     → Fails e (unread_statements version before u)
 stops version before u next l d e is fails later =
@@ -61,6 +63,7 @@ pub statements-nil : (version : Version) (before : List Statement) → statement
 unfolding statements
 statements-nil version before = refl
 
+-- where no line is left, the statements are those before
 pub all_read : (version : Version) (before : List Statement) (u : Unread) → u.lines ≡ Ok [] → unread_statements version before u ≡ Ok before
 all_read version before u none = ap (λ q. on_text q >>= λ ls. statements version before (words_of_lines u.text ls)) none ∙ statements-nil version before
 
@@ -72,6 +75,7 @@ same_total u next l is = at_rest next.lines ∙ sym (ap (λ q. q >>= λ ls. Ok (
     at_rest (Ok ls) = let sum : next.read + length ls ≡ u.read + length (view l ∷ ls) = omega (arith, is.read) in ap (λ n. Ok n) sum
     at_rest (Err f) = refl
 
+-- where no line is left, the text has as many lines as were read
 pub last_total : (u : Unread) → u.lines ≡ Ok [] → line_total u ≡ Ok u.read
 last_total u none =
     let sum : u.read + 0 ≡ u.read = omega arith in

@@ -163,6 +163,7 @@ either : (a b : Bool) {P : Type 0} → (a || b) ≡ true → (a ≡ true → P) 
 either true b e f g = f refl
 either false b e f g = g e
 
+-- with one statement more, some statement branches to each of the targets
 pub targets_more : (ss : List Statement) (s : Statement) (old new : List (Word × ℕ)) → ((name : Word) → is_some (lookup (bytes_eq name) old) ≡ true → list_any (jumps_to name) ss ≡ true)
     → ((name : Word) → is_some (lookup (bytes_eq name) new) ≡ true → (is_some (lookup (bytes_eq name) old) || jumps_to name s) ≡ true)
     → (name : Word) → is_some (lookup (bytes_eq name) new) ≡ true → list_any (jumps_to name) (ss ++ s ∷ []) ≡ true
@@ -178,6 +179,7 @@ behind_label line (Some name) ss s later e =
     let there : list_any (has_label name) (ss ++ s ∷ []) ≡ true = list_any-push (has_label name) ss s ∙ ap (λ b. b || has_label name s) e in
     rw there refl
 
+-- where a branch leads back, the branches have a fault, whatever stands behind them
 pub back_more : (ss : List Statement) (s : Statement) (old new : Bool) → (old ≡ true → (later : List Statement) → is_some (front_fault [] ss later) ≡ true) → new ≡ (leads_back ss (branch_label s.command) || old)
     → new ≡ true → (later : List Statement) → is_some (front_fault [] (ss ++ s ∷ []) later) ≡ true
 back_more ss s old new before is e later =
@@ -198,5 +200,6 @@ lookup-push p (y ∷ ys) x = at_test (p y.0) (lookup p (ys ++ x ∷ [])) (lookup
     at_test true o q e = refl
     at_test false o q e = e
 
+-- with one target more, each target is an old one or that label
 pub one_target_more : (label : Word) (number : ℕ) (old new : List (Word × ℕ)) → new ≡ old ++ (label, number) ∷ [] → (name : Word) → is_some (lookup (bytes_eq name) new) ≡ true → (is_some (lookup (bytes_eq name) old) || bytes_eq name label) ≡ true
 one_target_more label number old new is name e = sym (ap (λ xs. is_some (lookup (bytes_eq name) xs)) is ∙ lookup-push (bytes_eq name) old (label, number)) ∙ e

@@ -65,15 +65,18 @@ by_statements version u r named is e =
     ∙ then_then (on_text u.lines) (λ ls. statements version [] (words_of_lines u.text ls)) (λ ss. all_instructions ss >>= λ is. Ok (record { version = version; instructions = is }))
     ∙ ap (λ q. q >>= λ ss. all_instructions ss >>= λ is. Ok (record { version = version; instructions = is })) e
 
+-- a failure of the statements behind the pragma is that of the text
 pub no_statements : (version : Version) (u : Unread) (d : Failure AsmFault) (named : Result Version AsmFault) → named ≡ Ok version → Fails d (unread_statements version [] u) → Fails d (meaning_behind named u)
 no_statements version u failure.Memory named is e = tt
 no_statements version u (failure.Fault f) named is e = by_statements version u (Err f) named is e
 
+-- a failure of the instructions is that of the text
 pub no_instructions : (version : Version) (u : Unread) (ss : List Statement) (d : Failure AsmFault) (named : Result Version AsmFault) → named ≡ Ok version → unread_statements version [] u ≡ Ok ss → Fails d (all_instructions ss)
     → Fails d (meaning_behind named u)
 no_instructions version u ss failure.Memory named is e fails = tt
 no_instructions version u ss (failure.Fault f) named is e fails = by_statements version u (Ok ss) named is e ∙ ap (λ q. q >>= λ is. Ok (record { version = version; instructions = is })) fails
 
+-- where nothing fails, the text means these instructions
 pub its_instructions : (version : Version) (u : Unread) (ss : List Statement) (instructions : List Meant) (named : Result Version AsmFault) → named ≡ Ok version → unread_statements version [] u ≡ Ok ss → all_instructions ss ≡ Ok instructions
     → meaning_behind named u ≡ Ok (record { version = version; instructions = instructions })
 its_instructions version u ss instructions named is e given = by_statements version u (Ok ss) named is e ∙ ap (λ q. q >>= λ is. Ok (record { version = version; instructions = is })) given

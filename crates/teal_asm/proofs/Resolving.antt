@@ -24,12 +24,14 @@ use Rattle.teal_asm.proofs.Gathering.{not_from_test}
 
 -- ---- where a constant stands
 
+-- where no element passes, the place that is found is the length
 pub absent_place : {A : Type 0} (p : A → Bool) (ks : List A) (n : ℕ) → position p ks ≡ None → n ≡ length ks → n ≡ position_or_len p ks
 absent_place p ks n e is =
     let beyond = ltb-false (position_or_len p ks) (length ks) (not_from_test _ _ e) in
     let inside = prefix_len-le-length (λ y. not (p y)) ks in
     omega (arith, beyond, inside)
 
+-- where an element passes, a place within the list is found
 pub place_within : {A : Type 0} (p : A → Bool) (ks : List A) → list_any p ks ≡ true → position_or_len p ks < length ks
 place_within p [] e = absurd cc
 place_within p (k ∷ ks) e = at_test (p k) (place_within p ks) e
@@ -52,6 +54,7 @@ entry_shift : (b n : ℕ) (label : Option (List ℕ)) → label_entry label (b +
 entry_shift b n None = refl
 entry_shift b n (Some l) = refl
 
+-- counted from a number that is b higher, each label has a number that is b higher
 pub labels_shift : (p : List ℕ → Bool) (b n : ℕ) (ss : List Statement) → lookup p (labels_from (b + n) ss) ≡ option_map (λ k. b + k) (lookup p (labels_from n ss))
 unfolding labels_from
 labels_shift p b n [] = refl
@@ -62,6 +65,7 @@ labels_shift p b n (s ∷ ss) =
     regroup : (b n c : ℕ) → b + n + c ≡ b + (n + c)
     regroup b n c = omega arith
 
+-- the number of a label counted from b is b more than counted from 0
 pub label_target : (p : List ℕ → Bool) (b k : ℕ) (labels : List (List ℕ × ℕ)) (ss : List Statement) → b ≡ k → labels ≡ labels_from 0 ss → option_map (λ n. b + n) (lookup p labels) ≡ lookup p (labels_from k ss)
 label_target p b k labels ss e are =
     let zero_sum : b + 0 ≡ k = omega (arith, e) in
@@ -145,6 +149,7 @@ each_has_its_constant all = more_constants _ _ _ _ (λ n e. uint_gathered n (all
 
 -- ---- how large the numbers of labels are
 
+-- the number of a label is at most the first number and the count of the statements
 pub label_small : (p : List ℕ → Bool) (n : ℕ) (ss : List Statement) (k : ℕ) → lookup p (labels_from n ss) ≡ Some k → k ≤ n + length ss
 unfolding labels_from
 label_small p n [] k e = absurd cc
@@ -172,6 +177,7 @@ label_small p n (s ∷ ss) k e = at_label s.label (label_small p (n + commands_i
 pub record ResolvesOn (all : List Statement) (so_far : List Meant) (rest : List Statement) (goal : Result (List Meant) AsmFault) : Type 0 where
   pub same : (instructions all (length so_far) rest >>= λ is. Ok (so_far ++ is)) ≡ goal
 
+-- at first the blocks of gathered constants are there, and all statements are left
 pub begins : (all : List Statement) (now : List Meant) (rest : List Statement) → now ≡ gathered_blocks all → rest ≡ all → ResolvesOn all now rest (all_instructions all)
 begins all now rest e is = record { same = ap (λ xs. instructions all (length xs) rest >>= λ is. Ok (xs ++ is)) e ∙ ap (λ ss. instructions all (length (gathered_blocks all)) ss >>= λ is. Ok (gathered_blocks all ++ is)) is }
 
@@ -257,10 +263,12 @@ at_end : (all : List Statement) (n : ℕ) → instructions all n [] ≡ Ok []
 unfolding instructions
 at_end all n = refl
 
+-- where no statement is left, the instructions so far are those that are meant
 pub is_done : (all : List Statement) (so_far : List Meant) (rest : List Statement) (goal : Result (List Meant) AsmFault) → ResolvesOn all so_far rest goal → rest ≡ [] → goal ≡ Ok so_far
 is_done all so_far rest goal r e =
     sym r.same ∙ ap (λ ss. instructions all (length so_far) ss >>= λ is. Ok (so_far ++ is)) e ∙ ap (λ q. q >>= λ is. Ok (so_far ++ is)) (at_end all (length so_far)) ∙ ap (λ xs. Ok xs) (append-nil so_far)
 
+-- at most two blocks of gathered constants stand in front
 pub blocks_few : (all : List Statement) → length (gathered_blocks all) ≤ 2
 blocks_few all = at_tests (eqb (length (gathered_uints all)) 0) (eqb (length (gathered_strings all)) 0) _ _
   where

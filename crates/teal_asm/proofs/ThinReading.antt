@@ -62,17 +62,20 @@ pub record HasRead (version : Version) (kept : List Statement) (left whole : Unr
 pub nothing_read : (version : Version) (kept : List Statement) (u : Unread) → kept ≡ [] → HasRead version kept u u
 nothing_read version kept u none = record { all = []; thins = subst (λ x. Thins x []) (sym none) (thins_itself []); reads = refl }
 
+-- a line is read, and what is kept of its statements is kept of all
 pub reads_on : (version : Version) (kept now : List Statement) (u next whole : Unread) (l : Line) → HasRead version kept u whole → IsBehind l u next
     → (more : List Statement) × (statements version kept (words_of_line u.text (view l)) ≡ Ok more) × Thins now more → HasRead version now next whole
 reads_on version kept now u next whole l h is m =
     let n = one_more version kept h.all m.0 (view l).number _ h.thins m.1 in
     record { all = n.0; thins = thins_again now m.0 n.0 m.2 n.2; reads = goes_on version h.all n.0 u next l is n.1 ∙ h.reads }
 
+-- a failure on a line is the answer, unless a later line has a fault of tokens
 pub stops_reading : (version : Version) (kept : List Statement) (u next whole : Unread) (l : Line) (d e : Failure AsmFault) → HasRead version kept u whole → IsBehind l u next → Fails d (statements version kept (words_of_line u.text (view l)))
     → IsLater d e next.lines → Fails e (unread_statements version [] whole)
 stops_reading version kept u next whole l d e h is fails later =
     subst (λ r. Fails e r) h.reads (stops version h.all u next l d e is (none_more version kept h.all (view l).number _ d h.thins fails) later)
 
+-- where no line is left, what is kept is kept of all statements of the text
 pub has_read_all : (version : Version) (kept : List Statement) (u whole : Unread) → HasRead version kept u whole → u.lines ≡ Ok [] → (all : List Statement) × (unread_statements version [] whole ≡ Ok all) × Thins kept all
 has_read_all version kept u whole h none = (h.all, sym h.reads ∙ all_read version h.all u none, h.thins)
 

@@ -16,9 +16,11 @@ use Rattle.teal_asm.proofs.Needless.{no_label}
 
 -- ---- what is kept
 
+-- all statements may be kept
 pub thins_itself : (ss : List Statement) → Thins ss ss
 thins_itself ss = record { labels = λ name. refl; faults = λ later. refl; fewer = omega arith; uints = refl; strings = refl; uint_block = refl; byte_block = refl; long = inl refl }
 
+-- what is kept of what is kept of all is kept of all
 pub thins_again : (k a b : List Statement) → Thins k a → Thins a b → Thins k b
 thins_again k a b p q = record {
   labels = λ name. p.labels name ∙ q.labels name;
@@ -36,6 +38,7 @@ thins_again k a b p q = record {
     at_long (inl e) (inl f) = inl (e ∙ f)
     at_long (inl e) (inr lt) = inr (omega (arith, ap command_count e, lt))
 
+-- a statement may be added behind what is kept and behind all
 pub thins_longer : (k a : List Statement) (s : Statement) → Thins k a → Thins (k ++ s ∷ []) (a ++ s ∷ [])
 thins_longer k a s p = record {
   labels = λ name. list_any-push (has_label name) k s ∙ ap (λ b. b || has_label name s) (p.labels name) ∙ sym (list_any-push (has_label name) a s);
@@ -84,6 +87,7 @@ same_labelled version k a line (Some name) w ws p =
     ap (λ b. cond b (Err kind.LabelTwice) (optional_command version ws >>= λ c. behind k (record { line = line; label = Some name; command = c }))) (p.labels name)
     ∙ ap (λ r. cond (list_any (has_label name) a) (Err kind.LabelTwice) r) commands
 
+-- a line is read the same behind what is kept as behind all statements
 pub same_statement : (version : Version) (k a : List Statement) (l : Words) → Thins k a → statement version k l ≡ statement version a l
 unfolding statement
 same_statement version k a l p = rw (same_labelled version k a l.line (label_name l.first) l.first l.more p) refl

@@ -472,12 +472,14 @@ faulted_past_end version bytes place BadVaruint past h = absurd (h.1 (goes_on_pa
 
 -- ---- the laws
 
+-- the reader answers a fault exactly where the grammar has it
 pub faults_are : (version : Version) (bytes : List ℕ) (place : ℕ) (f : CodeFault) → All (λ b. b < 256) bytes → (read_at version bytes place ≡ Err f) ↔ Faults version bytes place f
 faults_are version bytes place f all = elim (cases_lt (length bytes) place) [
   | inl past ↦ (faults_past_end version bytes place f past, faulted_past_end version bytes place f past)
   | inr within ↦ (faults version bytes place f (all_bytes bytes all) within, λ h. faulted version bytes place f (all_bytes bytes all) within h (read_at version bytes place) refl)
 ]
 
+-- at any place, within the bytes or not, an instruction that is read stands there by the grammar
 pub read_anywhere : (version : Version) (bytes : List ℕ) (place : ℕ) (i : Instr) (next : ℕ) → read_at version bytes place ≡ Ok (i, next) → Reads version bytes place i next
 read_anywhere version bytes place i next e = elim (cases_lt (length bytes) place) [
   | inl past ↦ let fault = read_past_end version bytes place past in absurd cc

@@ -11,6 +11,7 @@ pub record Writes (written : List ℕ) (rest : ℕ) (all : List ℕ) : Type 0 wh
   pub enough : rest < 128 ^ suc digits
   pub same : written ++ varuint_in (suc digits) rest ≡ all
 
+-- the low seven bits of the rest are written, in a byte that says that more follows
 pub goes_on : (written now : List ℕ) (rest : ℕ) (all : List ℕ) → 128 ≤ rest → Writes written rest all → now ≡ written ++ (rest % 128 + 128) ∷ [] → Writes now (rest / 128) all
 unfolding varuint_in
 goes_on written now rest all big w e =
@@ -27,13 +28,16 @@ goes_on written now rest all big w e =
       }
     ] w.room w.enough w.same
 
+-- at first nothing is written
 pub begins : (written : List ℕ) (n : ℕ) → n < 2 ^ 64 → written ≡ [] → Writes written n (varuint n)
 unfolding varuint
 begins written n small none = rw none (record { digits = 9; room = omega arith; enough = omega arith; same = refl })
 
+-- before the last byte, at most nine are written
 pub has_room : (written : List ℕ) (rest : ℕ) (all : List ℕ) → Writes written rest all → length written ≤ 9
 has_room written rest all w = omega (arith, w.room)
 
+-- a rest below 128 is the last byte
 pub is_done : (written now : List ℕ) (rest : ℕ) (all : List ℕ) → rest < 128 → Writes written rest all → now ≡ written ++ rest ∷ [] → now ≡ all
 unfolding varuint_in
 is_done written now rest all small w e =

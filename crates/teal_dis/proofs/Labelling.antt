@@ -46,9 +46,11 @@ no_target n p e = rw e refl
 to_target : (n target : ℕ) (p : Placed) → p.target ≡ Some target → leads_to n p ≡ eqb target n
 to_target n target p e = rw e refl
 
+-- an instruction without a target adds no mark
 pub no_branch : (placed : List Placed) (marks : List Bool) (number : ℕ) (p : Placed) → MarksOn placed marks number → slice_get placed number ≡ Some p → p.target ≡ None → MarksOn placed marks (number + 1)
 no_branch placed marks number p m at e = goes_on placed marks marks number p m at refl (λ n le. sym (or_false (get_or marks n false)) ∙ ap (λ b. get_or marks n false || b) (sym (no_target n p e)))
 
+-- a target that is past the marks adds none
 pub far_branch : (placed : List Placed) (marks : List Bool) (number target : ℕ) (p : Placed) → MarksOn placed marks number → slice_get placed number ≡ Some p → p.target ≡ Some target → length marks ≤ target → MarksOn placed marks (number + 1)
 far_branch placed marks number target p m at e far = goes_on placed marks marks number p m at refl (λ n le.
     let differs : eqb target n ≡ false = grind (arith, nat_tests, m.count) in
@@ -65,6 +67,7 @@ marks_target placed marks now number target p m at e near written = goes_on plac
       | false ↦ λ h. let differ : n ≢ target = λ s. grind (arith, nat_tests) in get_or-set_other marks target n true false differ ∙ sym (or_false (get_or marks n false))
     ] refl
 
+-- where no element stands, the list has ended
 pub past : {A : Type 0} (xs : List A) (i : ℕ) → slice_get xs i ≡ None → length xs ≤ i
 past [] i e = omega arith
 past (x ∷ xs) zero e = absurd cc
@@ -86,6 +89,7 @@ pub no_labels : (placed : List Placed) (labels : List (Option ℕ)) → labels �
 unfolding targets_before
 no_labels placed labels e = rw e (record { count = refl; last = refl; few = omega arith; each = λ n lt. absurd (omega arith) })
 
+-- an instruction that is a target adds one to the targets before the next
 pub one_more : (placed : List Placed) (n : ℕ) → targets_before placed (n + 1) ≡ targets_before placed n + cond (is_target placed n) 1 0
 unfolding targets_before
 one_more placed n = let next : n + 1 ≡ suc n = omega arith in rw next refl
@@ -112,6 +116,7 @@ labels_target placed marks labels now number last after m l lt at up pushed =
     let target : is_target placed number ≡ true = mark_is placed marks number true m lt at in
     next_label placed labels now number last after (Some after) l (rw target up) (omega arith) (rw target (ap (λ n. Some n) (up ∙ ap (λ n. n + 1) l.last))) pushed
 
+-- an instruction that is no target has no label
 pub skips : (placed : List Placed) (marks : List Bool) (labels now : List (Option ℕ)) (number last : ℕ) → AreMarks placed marks → LabelsOn placed labels number last → number < length marks → get_or marks number false ≡ false
     → now ≡ labels ++ None ∷ [] → LabelsOn placed now (number + 1) last
 skips placed marks labels now number last m l lt at pushed =

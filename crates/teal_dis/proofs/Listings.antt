@@ -28,6 +28,7 @@ label_line_of placed n = by_test (is_target placed n)
     by_test true = refl
     by_test false = refl
 
+-- the line of a label by its number is the line before the instruction
 pub label_there : (placed : List Placed) (labels : List (Option ℕ)) (n : ℕ) (label : Option ℕ) → AreLabels placed labels → n ≤ length placed → label ≡ get_or labels n label → lines_of_label label ≡ label_line placed n
 label_there placed labels n found l le at =
     ap lines_of_label (at ∙ get_or_default labels n found None (omega (arith, l.count)) ∙ l.each n le) ∙ label_line_of placed n
@@ -71,6 +72,7 @@ next_text placed number p text at =
     four : (a b c d : List ℕ) → ((a ++ b) ++ c) ++ d ≡ a ++ (b ++ (c ++ d))
     four a b c d = simp append_assoc
 
+-- the next instruction is written, behind the line of its label
 pub goes_on : (program : WellFormed) (labels : List (Option ℕ)) (text labelled now : List ℕ) (number : ℕ) (p : Placed) (label : Option ℕ) → ListedOn program text number → AreLabels program.placed labels → slice_get program.placed number ≡ Some p
     → ((t : ℕ) → p.target ≡ Some t → t ≤ length program.placed) → label ≡ get_or labels number label → labelled ≡ text ++ text_of_lines (lines_of_label label)
     → now ≡ labelled ++ text_of_lines (words_of (label_in labels p.target) p.instr ∷ []) → ListedOn program now (number + 1)
@@ -86,12 +88,14 @@ goes_on program labels text labelled now number p label on l at within is first 
       same = ap (λ x. x ++ text_of_lines (listing_from placed (number + 1) (drop (number + 1) placed))) now-is ∙ next_text placed number p text at ∙ on.same;
     }
 
+-- the line of the version stands first
 pub begins : (program : WellFormed) (text : List ℕ) → text ≡ text_of_lines (pragma_line program.version ∷ []) → ListedOn program text 0
 begins program text e = record {
   within = omega arith;
   same = ap (λ x. x ++ text_of_lines (listing_from program.placed 0 program.placed)) e ∙ sym (one_line (pragma_line program.version) (listing_from program.placed 0 program.placed));
 }
 
+-- behind the last instruction, the label of the end completes the listing
 pub is_done : (program : WellFormed) (labels : List (Option ℕ)) (text now : List ℕ) (number : ℕ) (label : Option ℕ) → ListedOn program text number → AreLabels program.placed labels → slice_get program.placed number ≡ None
     → label ≡ get_or labels number label → now ≡ text ++ text_of_lines (lines_of_label label) → now ≡ listing program
 is_done program labels text now number label on l at is pushed =

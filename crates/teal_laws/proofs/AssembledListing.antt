@@ -87,6 +87,7 @@ meant_size : (count number : ℕ) (ps : List Placed) → AreAimed count number p
 meant_size count number [] aim = omega arith
 meant_size count number (p ∷ ps) aim = omega (arith, instr_size count number p.instr.opcode p.instr.immediates p.target aim.0, meant_size count (number + 1) ps aim.1)
 
+-- an instruction that the checker places stands there by the grammar
 pub placed_reads : (version : Version) (bytes : List ℕ) (place : ℕ) (p : Placed) → place ≤ length bytes → placed_at version bytes place ≡ Ok p → Reads version bytes place p.instr p.next
 placed_reads version bytes place p within e = read_is version bytes place p.instr p.next within (is_placed version bytes place p e).read
 
@@ -149,6 +150,7 @@ one_cost : (t : Option ℕ) (o : Opcode) (m : Immediates) (ms : List Meant) → 
 one_cost None o m ms = refl
 one_cost (Some t) o m ms = refl
 
+-- what placed instructions mean costs as much as they do
 pub placed_cost : (ps : List Placed) → meant_cost (map meant_of ps) ≡ cost_of ps
 placed_cost [] = refl
 placed_cost (p ∷ ps) = one_cost p.target p.instr.opcode p.instr.immediates (map meant_of ps) ∙ ap (λ n. (row_of p.instr.opcode).cost + n) (placed_cost ps)
@@ -267,10 +269,12 @@ assembled_as : (text : List ℕ) (m : Meaning) → meaning text ≡ Ok m → len
 unfolding assembled
 assembled_as text m e short = rw e (short_enough (line_count text) (program m) short)
 
+-- a program has one byte for its version, and the bytes of its instructions
 pub program_length : (m : Meaning) → length (program m) ≡ 1 + total_size m.instructions
 unfolding program
 program_length m = ap suc (spelling_length 0 m.instructions) ∙ omega arith
 
+-- the listing of a checked program assembles to a program with the same instructions
 pub assembles_back : (bytes : List ℕ) (w : WellFormed) → IsBytes bytes → checked bytes ≡ Ok w → AssemblesBack w
 assembles_back bytes w are e =
     let l = is_listed bytes w are e in

@@ -12,6 +12,7 @@ abbrev pub AreBytes : List ℕ → Type 0
 AreBytes [] = Unit {0}
 AreBytes (b ∷ bs) = (b < 256) × AreBytes bs
 
+-- both ways to say that a list is of bytes agree
 pub each_is : (bs : List ℕ) → AreBytes bs → IsBytes bs
 each_is [] h i = omega arith
 each_is (b ∷ bs) h zero = h.0
@@ -31,6 +32,7 @@ bytes_before zero bs h = tt
 bytes_before (suc n) [] h = tt
 bytes_before (suc n) (b ∷ bs) h = (h.0, bytes_before n bs h.1)
 
+-- a value that is read from bytes is in its range, and what is left are bytes
 pub byte_read : (bytes : List ℕ) (b : ℕ) (rest : List ℕ) → byte_at bytes ≡ Ok (b, rest) → AreBytes bytes → (b ≤ 255) × AreBytes rest
 byte_read [] b rest e h = absurd cc
 byte_read (c ∷ bytes) b rest e h =
@@ -85,6 +87,7 @@ strings_read (suc count) bytes ss rest e h =
     let read = string_read bytes s.0 s.1 first h in
     subst AreStrings (same_value last).0 (read.0, strings_read count s.1 ts.0 ts.1 more read.1)
 
+-- values that are read from bytes behind their count are in their range
 pub counted_uints : (bytes ns rest : List ℕ) → counted_at varuint_at bytes ≡ Ok (ns, rest) → AreBytes bytes → AreUints ns
 counted_uints bytes ns rest e h =
     let (n, first, last) = bind_ok (varuint_at bytes) _ _ e in

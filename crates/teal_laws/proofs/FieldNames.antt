@@ -87,6 +87,7 @@ array_back n known = elim (txn_field_at n) as (λ o. txn_field_at n ≡ o → is
   | Some f ↦ λ e k. (rw (txn_named f, k) refl, rw (txn_named f) (ap (λ m. Ok m) (txn_at n f e)))
 ] refl known
 
+-- a global field of the version reads back from its word
 pub global_back : (version : Version) (n : ℕ) → is_global version (global_field_at n) ≡ true → global_field_value version (global_word n (global_field_at n)) ≡ Ok n
 global_back version n known = elim (global_field_at n) as (λ o. global_field_at n ≡ o → is_global version o ≡ true → global_field_value version (global_word n o) ≡ Ok n) [
   | None ↦ λ e k. absurd cc
@@ -129,6 +130,7 @@ global_is_plain global.LatestTimestamp = refl
 global_is_plain global.CurrentApplicationId = refl
 global_is_plain global.CreatorAddress = refl
 
+-- the word of a field is a plain word
 pub scalar_is_plain : (n : ℕ) → is_scalar (txn_field_at n) ≡ true → is_plain_word (txn_field n) ≡ true
 scalar_is_plain n known = elim (txn_field_at n) as (λ o. is_scalar o ≡ true → is_plain_word (txn_word n o) ≡ true) [ None ↦ λ k. absurd cc | Some f ↦ λ k. txn_is_plain f ] known
 

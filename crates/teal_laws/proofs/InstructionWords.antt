@@ -60,6 +60,7 @@ operands_back version o target (strings {ss} h) own = rw (strings_back ss h) ref
 operands_back version o target (uint {n} h) own = rw (any_back n h) refl
 operands_back version o target (string {s} h) own = rw (literal_back s h) refl
 
+-- the words of an instruction's line ask for that instruction
 pub words_back : (version : Version) (target : List ℕ) (i : Instr) → IsOfVersion version i
     → command version (name_of i.opcode) (operands (row_of i.opcode).immediates target i.immediates) ≡ Ok (command_of i.opcode target i.immediates)
 words_back version target i is-of =

@@ -78,6 +78,7 @@ abbrev HasLabel : List Placed → Option ℕ → Type 0
 HasLabel placed None = Unit {0}
 HasLabel placed (Some t) = is_target placed t ≡ true
 
+-- the target of each branch among the instructions has a label
 abbrev pub HaveLabels : List Placed → List Placed → Type 0
 HaveLabels placed [] = Unit {0}
 HaveLabels placed (p ∷ ps) = HasLabel placed p.target × HaveLabels placed ps
@@ -159,6 +160,7 @@ instructions_are all placed count line n (p ∷ ps) found aim labels =
 no_blocks : (ss : List Statement) → AreQuiet ss → gathered_blocks ss ≡ []
 no_blocks ss quiet = let gathers = quiet_gathers ss quiet in rw (gathers.0, gathers.1) refl
 
+-- the statements of a listing mean the instructions of the program
 pub all_instructions_are : (placed : List Placed) (line : ℕ) → length placed ≤ most_program_bytes → AreAimed (length placed) 0 placed → all_instructions (listed placed line 0 placed) ≡ Ok (map meant_of placed)
 all_instructions_are placed line few aim =
     let all = listed placed line 0 placed in

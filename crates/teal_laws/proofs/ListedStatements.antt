@@ -34,6 +34,7 @@ lines_if b placed n = if b then ((label_of placed n ++ codes ":") ∷ []) ∷ []
 abbrev pub statements_if : Bool → List Placed → ℕ → ℕ → List Statement
 statements_if b placed line n = if b then record { line = line; label = Some (label_of placed n); command = None } ∷ [] else []
 
+-- the line of an instruction, behind that of its label where it has one
 abbrev pub line_behind : List Placed → ℕ → ℕ → ℕ
 line_behind placed line n = line + length (lines_if (is_target placed n) placed n)
 
@@ -49,6 +50,7 @@ listed placed line n (p ∷ ps) =
 
 -- ---- nothing is gathered
 
+-- no statement has a constant that is gathered
 abbrev pub AreQuiet : List Statement → Type 0
 AreQuiet [] = Unit {0}
 AreQuiet (s ∷ ss) = (gathered_uint s.command ≡ []) × (gathered_string s.command ≡ []) × AreQuiet ss
@@ -104,6 +106,7 @@ abbrev HasEarlier : List Placed → ℕ → Option Word → Type 0
 HasEarlier placed n None = Unit {0}
 HasEarlier placed n (Some name) = (m : ℕ) × (m < n) × (is_target placed m ≡ true) × (name ≡ label_of placed m)
 
+-- each label is that of a target before the instruction with this number
 abbrev pub AreEarlier : List Placed → ℕ → List Statement → Type 0
 AreEarlier placed n [] = Unit {0}
 AreEarlier placed n (s ∷ ss) = HasEarlier placed n s.label × AreEarlier placed n ss
@@ -181,6 +184,7 @@ label_step false version placed line n before rest le quiet earlier =
     let same : line + 0 ≡ line = omega arith in
     rw (append-nil before, same) refl
 
+-- the lines of a listing are read as its statements
 pub statements_are : (version : Version) (placed : List Placed) (line n : ℕ) (ps : List Placed) (before : List Statement) → n + length ps ≤ most_program_bytes → AreOf version ps → AreQuiet before → AreEarlier placed n before
     → statements version before (numbered line (listing_from placed n ps)) ≡ Ok (before ++ listed placed line n ps)
 statements_are version placed line n [] before le of quiet earlier =

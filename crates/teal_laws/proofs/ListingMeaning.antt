@@ -33,6 +33,7 @@ meaning_read : (text : List ℕ) (ls : List LineTokens) (ws : List Words) (m : R
 unfolding meaning
 meaning_read text ls ws m e f g = rw (e, f) g
 
+-- a listing means what its program means
 pub listing_means : (w : WellFormed) → IsListed w → meaning (listing w) ≡ Ok (program_meaning w)
 listing_means w l =
     let lines = listing_lines w in

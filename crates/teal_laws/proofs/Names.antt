@@ -13,6 +13,7 @@ use Rattle.teal_table.specs.LeftOut.{left_out_at}
 use Rattle.teal_text.specs.PlainWords.{is_plain_word}
 use Rattle.teal_source.specs.Statements.{is_pragma, label_name}
 
+-- the name of an opcode asks for that opcode, where the version has it
 pub command_named : (version : Version) (o : Opcode) (ws : List Word) → command version (name_of o) ws ≡ opcode_command version (only_in version (Some o)) ws
 unfolding row_of opcodes opcode_named command
 command_named version op.Err ws = refl
@@ -38,6 +39,7 @@ unfolding row_of
 name_is_plain op.Err = (refl, refl, refl)
 name_is_plain _ = (refl, refl, refl)
 
+-- no opcode of the table is left out
 pub not_left_out : (o : Opcode) → is_some (left_out_at (code_of o)) ≡ false
 unfolding row_of left_out_at
 not_left_out op.Err = refl

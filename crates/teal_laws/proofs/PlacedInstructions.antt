@@ -87,6 +87,7 @@ immediates_read version shape.Bytes bytes m rest e h known =
     let (s, first, last) = bind_ok (string_at bytes) _ _ e in
     subst (HasShape version shape.Bytes) (same_value last).0 (string (string_read bytes s.0 s.1 first h).0)
 
+-- an opcode that is found for a version is one of that version
 pub brought : (version : Version) (found : Option Opcode) (o : Opcode) → only_in version found ≡ Some o → has version (row_of o).version ≡ true
 brought version None o e = absurd cc
 brought version (Some q) o e =
@@ -108,6 +109,7 @@ instr_read : (version : Version) (bytes : List ℕ) (i : Instr) (rest : List ℕ
 instr_read version [] i rest e h known = absurd cc
 instr_read version (code ∷ bytes) i rest e h known = behind_code version (opcode_in version code) bytes i rest (λ o found. brought version (opcode_at code) o found) e h.1 known
 
+-- an instruction that the checker places is one of the version
 pub placed_is_of : (version : Version) (bytes : List ℕ) (place : ℕ) (p : Placed) → AreBytes bytes → placed_at version bytes place ≡ Ok p → IsOfVersion version p.instr
 placed_is_of version bytes place p h e =
     let is = is_placed version bytes place p e in
@@ -146,6 +148,7 @@ index_later x y ys n (Some k) found e =
     let i = found k refl in
     subst (λ j. (j < length (y ∷ ys)) × (get_or (y ∷ ys) j 0 ≡ x)) next (omega (arith, i.0), i.1)
 
+-- the first index of a number is one where it stands
 pub index_is : (x : ℕ) (xs : List ℕ) (n : ℕ) → first_index x xs ≡ Some n → (n < length xs) × (get_or xs n 0 ≡ x)
 index_is x [] n e = absurd cc
 index_is x (y ∷ ys) n e =
@@ -170,6 +173,7 @@ number_is starts end number place target n r within stands behind e =
 no_target : {t : Option ℕ} → ◌≡◌ {A = Result (Option ℕ) CheckFault} (Ok None) (Ok t) → t ≡ None
 no_target {t} e = let same : None ≡ t = cc in sym same
 
+-- a target that is resolved is a number that was found
 pub some_number : (r : Option ℕ) (place : ℕ) (t : Option ℕ) → (ok_or r (fault.NotAligned place) >>= λ n. Ok (Some n)) ≡ Ok t → (n : ℕ) × (r ≡ Some n) × (t ≡ Some n)
 some_number None place t e = absurd cc
 some_number (Some n) place t e = let same : Some n ≡ t = cc in (n, refl, sym same)
@@ -227,6 +231,7 @@ all_aimed starts end number version (p ∷ ps) qs r h are e =
 
 -- ---- the program
 
+-- a checked program has all that its listing rests on
 pub is_listed : (bytes : List ℕ) (w : WellFormed) → IsBytes bytes → checked bytes ≡ Ok w → IsListed w
 is_listed bytes w are e =
     let c = is_checked bytes w e in

@@ -40,6 +40,7 @@ no_comment (b ∷ bs) h =
     let first : eqb 47 b ≡ false = grind (arith, nat_tests) in
     rw first (no_comment bs parts.1)
 
+-- a word of such bytes that is not empty is a plain word
 pub word_is_plain : (w : List ℕ) → 0 < length w → list_all is_word_byte w ≡ true → is_plain_word w ≡ true
 word_is_plain w some h =
     let positive : ltb 0 (length w) ≡ true = grind (arith, nat_tests) in
@@ -126,6 +127,7 @@ line_is_plain version target i is-of t = rw ((name_is_plain i.opcode).0) (operan
 
 -- ---- labels
 
+-- at most n of the first n instructions are targets
 pub few_targets : (placed : List Placed) (n : ℕ) → targets_before placed n ≤ n
 unfolding targets_before
 few_targets placed zero = omega arith
@@ -178,5 +180,6 @@ pragma_is_plain : (version : Version) → is_plain_line (pragma_line version) �
 pragma_is_plain Two = refl
 pragma_is_plain Three = refl
 
+-- a listing is made of plain words
 pub listing_is_plain : (w : WellFormed) → IsListed w → list_all is_plain_line (listing_lines w) ≡ true
 listing_is_plain w l = rw (pragma_is_plain w.version) (lines_are_plain w.version w.placed (length w.placed) 0 w.placed l.few (omega (arith, l.few)) l.instructions l.targets)

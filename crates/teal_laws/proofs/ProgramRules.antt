@@ -323,9 +323,11 @@ passes bytes w h =
 
 -- ---- the laws
 
+-- the checker accepts bytes as a program exactly where the rules of programs hold
 pub program_rules : (bytes : List ℕ) (w : WellFormed) → (checked bytes ≡ Ok w) ↔ IsProgram bytes w
 program_rules bytes w = (is_program bytes w, passes bytes w)
 
+-- bytes are accepted exactly where they are some program by the rules
 pub accepted : (bytes : List ℕ) → IsOk (checked bytes) ↔ ((w : WellFormed) × IsProgram bytes w)
 accepted bytes = (λ ok. at_answer (checked bytes) refl ok, λ h. subst (λ (r : Result WellFormed CheckFault). IsOk r) (sym (passes bytes h.0 h.1)) refl)
   where
@@ -333,5 +335,6 @@ accepted bytes = (λ ok. at_answer (checked bytes) refl ok, λ h. subst (λ (r :
     at_answer (Ok w) e ok = (w, is_program bytes w e)
     at_answer (Err f) e ok = absurd cc
 
+-- bytes are at most one program
 pub one_program : (bytes : List ℕ) (v w : WellFormed) → IsProgram bytes v → IsProgram bytes w → v ≡ w
 one_program bytes v w h k = ok_same (sym (passes bytes v h) ∙ passes bytes w k)

@@ -97,6 +97,7 @@ shortest_is version i spells = record {
 
 -- ---- the laws
 
+-- the spelling that is written for an instruction is its shortest
 pub shortest_of_spelled : (version : Version) (text : List ℕ) (i : Instr) → IsBytes text → Spells version text i → IsShortest version i (instr_spelling i)
 shortest_of_spelled version text i are h = shortest_is version i (least_spelling version text i (are_each text are) h).0
 

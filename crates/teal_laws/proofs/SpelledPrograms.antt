@@ -42,6 +42,7 @@ abbrev laid : ℕ → ℕ → List Meant → List Placed
 laid place number [] = []
 laid place number (m ∷ ms) = record { place = place; next = place + size m; instr = instr_of number m ms; target = None } ∷ laid (place + size m) (number + 1) ms
 
+-- the instructions from a place and a number on, with their targets
 abbrev pub aimed_at : ℕ → ℕ → List Meant → List Placed
 aimed_at place number [] = []
 aimed_at place number (m ∷ ms) = record { place = place; next = place + size m; instr = instr_of number m ms; target = target_in m } ∷ aimed_at (place + size m) (number + 1) ms
@@ -54,6 +55,7 @@ spelling_size : (number : ℕ) (m : Meant) (rest : List Meant) → length (instr
 spelling_size number (Straight o m) rest = refl
 spelling_size number (Branch o target) rest = refl
 
+-- instructions take as many bytes as their sizes add up to
 pub spelling_length : (number : ℕ) (ms : List Meant) → length (spelling number ms) ≡ total_size ms
 unfolding spelling
 spelling_length number [] = refl
@@ -65,6 +67,7 @@ size_some : (m : Meant) → 0 < size m
 size_some (Straight o m) = omega arith
 size_some (Branch o target) = omega arith
 
+-- there are no more instructions than the bytes that they take
 pub few_meant : (ms : List Meant) → length ms ≤ total_size ms
 few_meant [] = omega arith
 few_meant (m ∷ ms) = omega (arith, size_some m, few_meant ms)
@@ -92,6 +95,7 @@ instr_is_of version count number (Straight o (is.Uint n)) rest few h = (h.0, tt)
 instr_is_of version count number (Straight o (is.Bytes s)) rest few h = (h.0, tt)
 instr_is_of version count number (Branch o target) rest few h = (h.0 (total_size (take (target - (number + 1)) rest)), omega (arith, few, size_front (target - (number + 1)) rest))
 
+-- the byte at a place is the first of the bytes from there on
 pub first_of : (place : ℕ) (bytes : List ℕ) (b : ℕ) (rest : List ℕ) → drop place bytes ≡ b ∷ rest → get_or bytes place 0 ≡ b
 first_of zero [] b rest e = absurd cc
 first_of zero (c ∷ bytes) b rest e = cc
@@ -230,6 +234,7 @@ version_read Three rest = let one : length (3 ∷ rest) - length rest ≡ 1 = om
 abbrev pub spelled_program : Meaning → WellFormed
 spelled_program m = record { version = m.version; bytes = program m; placed = aimed_at 1 0 m.instructions; cost = cost_of (aimed_at 1 0 m.instructions) }
 
+-- where the instructions are of the version and short enough, only their cost is left to check
 pub program_checks : (m : Meaning) → AreMeant m.version (length m.instructions) 0 m.instructions → 1 + total_size m.instructions ≤ most_program_bytes → checked (program m) ≡ affordable m.version (program m) (aimed_at 1 0 m.instructions)
 unfolding checked program
 program_checks m are short =
@@ -244,11 +249,13 @@ program_checks m are short =
     let resolved = targets_are m.version (places (laid 1 0 ms)) (length bytes) 0 1 (length ms) ms (omega (arith, short)) (sym long) (omega arith) are stand in
     rw (some, few, version_read m.version (spelling 0 ms), placed, resolved) refl
 
+-- where they also cost no more than a program may, the program is accepted
 pub program_is_checked : (m : Meaning) → AreMeant m.version (length m.instructions) 0 m.instructions → 1 + total_size m.instructions ≤ most_program_bytes → cost_of (aimed_at 1 0 m.instructions) ≤ most_cost → checked (program m) ≡ Ok (spelled_program m)
 program_is_checked m are short cheap =
     let paid : ltb most_cost (cost_of (aimed_at 1 0 m.instructions)) ≡ false = grind (arith, nat_tests) in
     program_checks m are short ∙ rw paid refl
 
+-- the instructions of a program, with their targets, mean those that it was written from
 pub meant_back : (place number : ℕ) (ms : List Meant) → map meant_of (aimed_at place number ms) ≡ ms
 meant_back place number [] = refl
 meant_back place number (Straight o m ∷ ms) = ap (λ rest. Straight o m ∷ rest) (meant_back (place + size (Straight o m)) (number + 1) ms)

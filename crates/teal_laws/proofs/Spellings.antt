@@ -39,6 +39,7 @@ in_base128 (suc d) n small =
           rw test (more_digits (n % 128 + 128) (varuint_in (suc d) (n / 128)) (n / 128) n (omega arith) (omega arith) more.0, omega (arith, more.1), omega arith)
     ]
 
+-- a number below 2^64 is spelled by the varuint that is written for it
 pub varuint_spelled : (n : ℕ) → n < 2 ^ 64 → IsVaruint (varuint n) n
 unfolding varuint
 varuint_spelled n lt = let h = in_base128 9 n (omega (arith, lt)) in record { digits = h.0; short = h.1; fits = lt }
@@ -64,12 +65,14 @@ shortest (b ∷ c ∷ bytes) (suc d) n are h =
       | inr ge ↦ let test : ltb n 128 ≡ false = le-ltb n 128 ge in rw (test, up) (omega (arith, later))
     ]
 
+-- no varuint of a number is shorter than the one that is written
 pub varuint_shortest : (bytes : List ℕ) (n : ℕ) → AreBytes bytes → IsVaruint bytes n → length (varuint n) ≤ length bytes
 unfolding varuint
 varuint_shortest bytes n are h = shortest bytes 10 n are h.digits
 
 -- ---- immediates
 
+-- numbers below 2^64 are spelled by their varuints, one after another
 pub uints_spelled : (ns : List ℕ) → AreUints ns → Each IsVaruint ns (flat_map varuint ns)
 uints_spelled [] h = refl
 uints_spelled (n ∷ ns) h = (varuint n, flat_map varuint ns, refl, varuint_spelled n h.0, uints_spelled ns h.1)
@@ -78,6 +81,7 @@ few_uints : (ns : List ℕ) → length ns ≤ length (flat_map varuint ns)
 few_uints [] = omega arith
 few_uints (n ∷ ns) = omega (arith, length-append (varuint n) (flat_map varuint ns), varuint_some n, few_uints ns)
 
+-- a string behind its length is a spelling of it
 pub string_spelled : (s : List ℕ) → length s < 2 ^ 64 → IsString (prefixed s) s
 string_spelled s lt = (varuint (length s), refl, varuint_spelled (length s) lt)
 
@@ -116,11 +120,13 @@ immediates_spelled version (strings {ss} h) o lt =
 immediates_spelled version (uint {n} h) o lt = varuint_spelled n h
 immediates_spelled version (string {s} h) o lt = string_spelled s (omega (arith, lt, long_string s))
 
+-- the bytes that are written for an instruction spell it by the grammar
 pub is_spelled : (version : Version) (i : Instr) → IsOfVersion version i → IsShortOffset i.immediates → length (instr_spelling i) < 2 ^ 64 → Spells version (instr_spelling i) i
 is_spelled version i of o lt =
     let there : opcode_in version (code_of i.opcode) ≡ Some i.opcode = rw (opcode_at-code_of i.opcode, of.opcode) refl in
     (there, immediates_spelled version of.immediates o (omega (arith, lt)))
 
+-- immediates in their range have a field that the opcode reads
 pub field_is_known : (version : Version) {s : Shape} {m : Immediates} → HasShape version s m → has_field version s m ≡ true
 field_is_known version nothing = refl
 field_is_known version (index h) = refl
@@ -140,10 +146,12 @@ field_is_known version (string h) = refl
 
 -- ---- no spelling is shorter
 
+-- both parts of a list of bytes are lists of bytes
 pub front_bytes : (a b : List ℕ) → AreBytes (a ++ b) → AreBytes a × AreBytes b
 front_bytes [] b h = (tt, h)
 front_bytes (x ∷ a) b h = let more = front_bytes a b h.1 in ((h.0, more.0), more.1)
 
+-- no spelling of numbers, of a string or of strings is shorter than the one that is written
 pub uints_shortest : (ns bytes : List ℕ) → AreBytes bytes → Each IsVaruint ns bytes → length (flat_map varuint ns) ≤ length bytes
 uints_shortest [] bytes are e = omega arith
 uints_shortest (n ∷ ns) bytes are (front, rest, parts, first, more) =
@@ -182,6 +190,7 @@ immediates_shortest version bytes (strings {ss} h) are (front, rest, parts, coun
 immediates_shortest version bytes (uint {n} h) are e = varuint_shortest bytes n are e
 immediates_shortest version bytes (string {s} h) are e = string_shortest s bytes are e
 
+-- no bytes that spell an instruction are fewer than those that are written for it
 pub spelled_shortest : (version : Version) (text : List ℕ) (i : Instr) → IsOfVersion version i → AreBytes text → Spells version text i → length (instr_spelling i) ≤ length text
 spelled_shortest version [] i of are h = absurd h
 spelled_shortest version (code ∷ bytes) i of are h = omega (arith, immediates_shortest version bytes of.immediates are.1 h.1)

@@ -46,6 +46,7 @@ strings_are (s ∷ ss) h =
     let both = front_bytes (prefixed s) (flat_map prefixed ss) h in
     (each_is s (front_bytes (varuint (length s)) s both.0).1, strings_are ss both.1)
 
+-- immediates whose spelling is bytes have their numbers in range
 pub shape_of : (version : Version) {s : Shape} {m : Immediates} → HasForm version s m → AreBytes (immediates_spelling m) → HasShape version s m
 shape_of version form.nothing h = listed.nothing
 shape_of version form.index h = listed.index (omega (arith, h.0))
@@ -64,6 +65,7 @@ shape_of version (form.string {s}) h = listed.string (each_is s (front_bytes (va
 
 -- ---- commands
 
+-- what holds of each command that a line asks for
 abbrev pub IsAsked : Version → Command → Type 0
 IsAsked version (Int n) = n < 2 ^ 64
 IsAsked version (Byte s) = Unit {0}
@@ -148,6 +150,7 @@ group_array_asked q t f i c e =
     let (k, fourth, last) = bind_ok (byte_number i) _ _ rest in
     (g, n, k, array_asked f n first third, last)
 
+-- every version has what version 2 has
 pub two_has : (version : Version) → has version Two ≡ true
 two_has Two = refl
 two_has Three = refl
@@ -234,6 +237,7 @@ opcode_asked version found ws c e = elim (only_in version found) as (λ o. only_
   | Some o ↦ λ f h. operands_asked version o (row_of o).immediates ws c (brought version found o f) refl (alone o) h
 ] refl e
 
+-- an opcode that a line asks for is of the version, and its immediates have its form
 pub command_asked : (version : Version) (name : Word) (ws : List Word) (c : Command) → command version name ws ≡ Ok c → IsAsked version c
 unfolding command
 command_asked version name ws c e =

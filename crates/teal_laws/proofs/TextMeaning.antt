@@ -304,11 +304,13 @@ assembled_checks text bytes are e =
     let short : 1 + total_size m.instructions ≤ most_program_bytes = omega (arith, program_length m, s.1) in
     (m, means, ap checked (sym s.0) ∙ program_checks m meant short)
 
+-- a text means what its program means, where the checker accepts that
 pub text_means : (text bytes : List ℕ) (w : WellFormed) → IsBytes bytes → assembled text ≡ Ok bytes → checked bytes ≡ Ok w → meaning text ≡ Ok (program_meaning w)
 text_means text bytes w are e c =
     let (m, means, checks) = assembled_checks text bytes are e in
     means ∙ ap (λ x. Ok x) (sym (afforded_meaning m w (sym checks ∙ c)))
 
+-- the listing of the program that a text assembles to means the same as the text
 pub same_meaning : (text bytes : List ℕ) (w : WellFormed) → IsBytes bytes → assembled text ≡ Ok bytes → checked bytes ≡ Ok w → meaning (listing w) ≡ meaning text
 same_meaning text bytes w are e c = listing_means w (is_listed bytes w are c) ∙ sym (text_means text bytes w are e c)
 
@@ -320,6 +322,7 @@ aimed_cost m = sym (placed_cost (aimed_at 1 0 m.instructions)) ∙ ap meant_cost
 only_dear : (version : Version) (bytes : List ℕ) (ps : List Placed) → IfErr (affordable version bytes ps) (λ f. f ≡ fault.Cost)
 only_dear version bytes ps = elim (ltb most_cost (cost_of ps)) as (λ b. IfErr {T = WellFormed} {E = CheckFault} (cond b (Err fault.Cost) (Ok (record { version = version; bytes = bytes; placed = ps; cost = cost_of ps }))) (λ f. f ≡ fault.Cost)) [ true ↦ refl | false ↦ tt ]
 
+-- the checker refuses the program of a text only for its cost
 pub only_cost : (text bytes : List ℕ) → IsBytes bytes → assembled text ≡ Ok bytes → IfErr (checked bytes) (λ f. f ≡ fault.Cost)
 only_cost text bytes are e =
     let (m, means, checks) = assembled_checks text bytes are e in
@@ -331,6 +334,7 @@ dear_is version bytes ps = (
   λ more. let test : ltb most_cost (cost_of ps) ≡ true = lt-ltb most_cost (cost_of ps) more in rw test refl,
 )
 
+-- the program of a text is refused for its cost exactly where its instructions cost too much
 pub dear : (text bytes : List ℕ) (m : Meaning) → IsBytes bytes → assembled text ≡ Ok bytes → meaning text ≡ Ok m → (checked bytes ≡ Err fault.Cost) ↔ (most_cost < meant_cost m.instructions)
 dear text bytes m are e means =
     let (n, meant, checks) = assembled_checks text bytes are e in

@@ -314,6 +314,7 @@ are_meant ss is e = at_body (instructions ss (length (gathered_blocks ss)) ss) r
 
 -- ---- the text
 
+-- where a text has a meaning, its instructions are what its statements mean
 pub what_it_says : (text : List ℕ) (m : Meaning) → meaning text ≡ Ok m → IsWhatItSays text m.version m.instructions
 unfolding meaning
 what_it_says text m e = at_lines (on_text (lines_of text)) refl e

@@ -41,10 +41,12 @@ single w (t ∷ ws) none = rw none refl
 pub last : (w : Word) (ws : List Word) → ws ≡ [] → literals_in (w ∷ ws) ≡ (w, None) ∷ literals_in ws
 last w ws e = rw e refl
 
+-- a word that names no encoding is a literal by itself
 pub plain_at : (ops : List (Bor (List ℕ))) (at : ℕ) (d : Bor (List ℕ)) → at < length ops → names_encoding (get_or ops at d).now ≡ false
     → literals_in (drop at (words ops)) ≡ ((get_or ops at d).now, None) ∷ literals_in (drop (at + 1) (words ops))
 plain_at ops at d lt none = ap literals_in (drop-words ops at d lt) ∙ single _ _ none
 
+-- the last word is a literal by itself
 pub last_at : (ops : List (Bor (List ℕ))) (at : ℕ) (d : Bor (List ℕ)) → at < length ops → length ops ≤ at + 1
     → literals_in (drop at (words ops)) ≡ ((get_or ops at d).now, None) ∷ literals_in (drop (at + 1) (words ops))
 last_at ops at d lt le = ap literals_in (drop-words ops at d lt) ∙ last _ _ (drop-words-all ops (at + 1) le)

@@ -18,6 +18,7 @@ use Rattle.teal_text.specs.Tokens.{tokens_of}
 use Rattle.teal_text.specs.Lines.{LineTokens, on_line, with_line, lines_from, is_line_feed, line_len, line_text}
 use Rattle.teal_text.specs.Unread.{all_lines, unread_behind}
 
+-- a split list has at least one part
 pub has_first : (p : ℕ → Bool) (xs : List ℕ) → (y : List ℕ) × (ys : List (List ℕ)) × (slice_split p xs ≡ y ∷ ys)
 has_first p [] = ([], [], refl)
 has_first p (x ∷ xs) =
@@ -31,12 +32,14 @@ pub not_false : (b : Bool) → not b ≡ true → b ≡ false
 not_false true e = absurd cc
 not_false false e = refl
 
+-- a line before a line feed is without the carriage return at its end
 pub line_text_before : (rest : List ℕ) → line_len rest < length rest → line_text rest ≡ strip_carriage_return (take (line_len rest) rest)
 unfolding line_text
 line_text_before rest lt =
     let test : eqb (line_len rest) (length rest) ≡ false = grind (arith, nat_tests) in
     rw test refl
 
+-- a last line without a line feed is all that is left
 pub line_text_whole : (rest : List ℕ) → line_len rest ≡ length rest → line_text rest ≡ rest
 unfolding line_text
 line_text_whole rest e =
@@ -82,6 +85,7 @@ same_place number p q len rest next e gone =
       | inr le ↦ any_place number p q next (gone le)
     ]
 
+-- behind no lines, all lines of the text are left
 pub from_top : (text : List ℕ) → unread_behind 0 text text ≡ all_lines text
 from_top text =
     let place : length text - length text ≡ 0 = omega arith in
@@ -96,6 +100,7 @@ takes number place at rest next tokens some e next-is at-is =
     let there = same_place (number + 1) (place + line_len rest + 1) at (line_len rest) rest (drop (line_len rest + 1) rest) at-is (λ le. drop_all (line_len rest + 1) rest (omega (arith, le))) in
     rw next-is (one ∙ ap (with_line line) there)
 
+-- a failure of the first line is that of all lines
 pub refuses : (d : Failure TextFault) (number place : ℕ) (rest : List ℕ) → 0 < length rest → Fails d (on_line number (tokens_of place (line_text rest))) → Fails d (lines_from number place (slice_split is_line_feed rest))
 refuses failure.Memory number place rest some e = tt
 refuses (failure.Fault f) number place rest some e = next_line number place rest some ∙ ap (then_lines number place rest) e

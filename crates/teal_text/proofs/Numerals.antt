@@ -19,6 +19,7 @@ grows base n (d ∷ ds) h =
     let times : n ≤ n * base = le-mul_of_pos_right n h in
     omega arith
 
+-- behind nothing, digits write the value of their numeral
 pub begins : (base : ℕ) (ds : List ℕ) → 0 < length ds → value_after base 0 ds ≡ numeral_value base ds
 unfolding value_after numeral_value
 begins base ds some =
@@ -31,12 +32,14 @@ ends base n small =
     let test : ltb n (2 ^ 64) ≡ true = grind (arith, nat_tests) in
     rw test refl
 
+-- a digit is added to the number times the base
 pub goes_on : (base n d : ℕ) (ds : List ℕ) → digit_value d < base → value_after base n (d ∷ ds) ≡ value_after base (n * base + digit_value d) ds
 unfolding value_after
 goes_on base n d ds h =
     let test : ltb (digit_value d) base ≡ true = grind (arith, nat_tests) in
     rw test refl
 
+-- a character that is no digit of the base leaves no number
 pub refused : (base n d : ℕ) (ds : List ℕ) → base ≤ digit_value d → value_after base n (d ∷ ds) ≡ None
 unfolding value_after
 refused base n d ds h =
@@ -47,6 +50,7 @@ no_more : (b : Bool) (o : Option ℕ) → cond (b && false) o None ≡ None
 no_more true o = refl
 no_more false o = refl
 
+-- a number that has reached 2^64 is too large, whatever follows
 pub too_large : (base n : ℕ) (ds : List ℕ) → 0 < base → 2 ^ 64 ≤ n → value_after base n ds ≡ None
 unfolding value_after
 too_large base n ds some large =
@@ -54,6 +58,7 @@ too_large base n ds some large =
     let test : ltb (digits_value_after base n ds) (2 ^ 64) ≡ false = grind (arith, nat_tests) in
     rw test (no_more _ _)
 
+-- the same at an index of the digits
 pub goes_on_at : (base n d i : ℕ) (ds : List ℕ) → i < length ds → d ≡ digit_value (get_or ds i 0) → d < base → value_after base n (drop i ds) ≡ value_after base (n * base + d) (drop (i + 1) ds)
 goes_on_at base n d i ds h e lt = rw (e, add-one, drop-cons ds i 0 h) (goes_on base n (get_or ds i 0) (drop (suc i) ds) (rw (← e) lt))
 

@@ -216,6 +216,7 @@ next_line number place line parts tokens read (y, ys, e) same tokens-are more =
     let later : lines_from (number + 1) (place + length line + 1) (y ∷ ys) ≡ Ok read = ap (lines_from (number + 1) (place + length line + 1)) (sym e) ∙ more in
     ap (λ x. lines_from number place (line ∷ x)) e ∙ lines_from_more number place line y ys ∙ rw (same, tokens-are, later) refl
 
+-- a text of plain words is read, line by line, as the tokens of its words
 pub lines_read : (number place : ℕ) (lines : List (List (List ℕ))) → list_all is_plain_line lines ≡ true → lines_from number place (slice_split is_line_feed (text_of_lines lines)) ≡ Ok (lines_of_words number place lines)
 unfolding lines_from
 lines_read number place [] p = refl
@@ -256,5 +257,6 @@ words_from text before number place (words ∷ lines) e len =
     let here = words_of_line text before (10 ∷ text_of_lines lines) place words e len in
     rw (here, more) refl
 
+-- in a text made of lines of words, the words stand where their tokens lie
 pub words_read : (lines : List (List (List ℕ))) → map (words_at (text_of_lines lines)) (lines_of_words 1 0 lines) ≡ lines
 words_read lines = words_from (text_of_lines lines) [] 1 0 lines refl refl

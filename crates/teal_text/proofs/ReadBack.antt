@@ -44,6 +44,7 @@ zero_digit : number_of (48 ∷ []) ≡ Some 0
 unfolding base_of digits_of numeral_value
 zero_digit = refl
 
+-- the decimal numeral of a number below 2^64 reads back as it
 pub decimal_back : (n : ℕ) → n < 2 ^ 64 → number_of (decimal n) ≡ Some n
 decimal_back zero lt = ap number_of (decimal_digit 0 (omega arith)) ∙ zero_digit
 decimal_back (suc k) lt =
@@ -51,6 +52,7 @@ decimal_back (suc k) lt =
     let numeral = decimal_is_IsNumeral (suc k) lt in
     rw (base.0, base.1) (numeral_back 10 (suc k) (decimal (suc k)) numeral.0 numeral.1 lt)
 
+-- a constant in hexadecimal reads back as its bytes
 pub hexadecimal_back : (bytes : List ℕ) → IsBytes bytes → token_bytes (codes "0x" ++ encode_lower bytes) ≡ Some bytes
 unfolding token_bytes
 hexadecimal_back bytes h = ap result_ok (decode_of-encode_lower bytes h)
@@ -81,6 +83,7 @@ has_value state (b ∷ bs) n e =
       ] refl h
     ] refl e
 
+-- a string that ends has a value
 pub string_back : (bs : List ℕ) (n : ℕ) → string_len Plain bs ≡ Ok n → is_some (token_bytes (codes "\"" ++ take n bs)) ≡ true
 unfolding token_bytes
 string_back bs n e = has_value Plain bs n e

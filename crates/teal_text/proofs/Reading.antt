@@ -40,6 +40,7 @@ pub step : (n : ℕ) (base64 : Bool) (place : ℕ) (bs : List ℕ) (f : Result (
 unfolding tokens_from
 step n base64 place bs f e = rw e refl
 
+-- where no token follows, the tokens so far are those that are meant
 pub is_done : (so_far : List Token) (base64 : Bool) (place : ℕ) (rest : List ℕ) (meant : Result (List Token) TextFaultKind) → Reads so_far base64 place rest meant
     → first_token base64 (drop (blank_len rest) rest) ≡ Ok None → meant ≡ Ok so_far
 is_done so_far base64 place rest meant r e =
@@ -48,6 +49,7 @@ is_done so_far base64 place rest meant r e =
       | suc n ↦ λ lt same. sym same ∙ ap (with_tokens so_far) (step n base64 place rest (Ok None) e) ∙ ap (λ (x : List Token). Ok x) (append-nil so_far)
     ] r.enough r.same
 
+-- a fault of the next token is the fault of the line
 pub is_refused : (so_far : List Token) (base64 : Bool) (place : ℕ) (rest : List ℕ) (meant : Result (List Token) TextFaultKind) (k : TextFaultKind) → Reads so_far base64 place rest meant
     → first_token base64 (drop (blank_len rest) rest) ≡ Err k → meant ≡ Err k
 is_refused so_far base64 place rest meant k r e =

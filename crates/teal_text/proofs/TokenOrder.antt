@@ -163,6 +163,7 @@ tokens_in_order (suc n) base64 place bs ts lt e =
           rw (← some.4) (omega arith, omega arith, omega arith, rw (add-sub_cancel_left place gap) (blanks_in_front bs), rw (end, ← drop-drop t.len gap bs) more)
     ]
 
+-- the tokens of a line lie from left to right, with only blanks between them
 pub in_order : (place : ℕ) (line : List ℕ) (tokens : List Token) → tokens_of place line ≡ Ok tokens → LieInOrder place line tokens
 unfolding tokens_of
 in_order place line tokens e = tokens_in_order (suc (length line)) false place line tokens (omega arith) e

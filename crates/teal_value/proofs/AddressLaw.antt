@@ -43,6 +43,7 @@ last_four digest e = rw e at (take_rest digest 28)
 address_of_parts : (key sum bytes : List ℕ) → take 32 bytes ≡ key → drop 32 bytes ≡ sum → sum ≡ checksum key → address_before_checksum bytes ≡ Ok (record { 0 = key })
 address_of_parts key sum bytes front back e = rw (front, back, e, equal (checksum key)) refl
 
+-- the text of an address reads as that address
 pub reads : (key sum : List ℕ) → length key ≡ 32 → length sum ≡ 4 → IsBytes key → IsBytes sum → sum ≡ checksum key → address_of (address_text (record { 0 = key })) ≡ Ok (record { 0 = key })
 unfolding address_text address_of
 reads key sum key_len sum_len key_bytes sum_bytes e =
@@ -84,6 +85,7 @@ spelled n (Ok bytes) a e =
       same = rw (← key, ← (bytes_eq-Decides (drop 32 bytes) (checksum (take 32 bytes))).0 sums.0) (take-append-drop 32 bytes);
     }
 
+-- no other text reads as the address
 pub only : (text : List ℕ) (a : Address) → address_of text ≡ Ok a → text ≡ address_text a
 unfolding address_text address_of
 only text a e =

@@ -58,6 +58,7 @@ read_spelling bytes rest small none tail =
     let text = map symbol (groups bytes) in
     read (text ++ rest) text rest bytes (length text) (count_symbols (groups bytes) rest each none) (take-append_seam text rest) (drop-append_seam text rest) (ap bytes_of_digits (groups_back (groups bytes) each) ∙ bytes_of-groups bytes small) refl tail
 
+-- a base32 text of bytes is decoded as them
 pub reads : (text bytes : List ℕ) → IsBytes bytes × IsBase32 text bytes → base32_decoded text ≡ Ok bytes
 reads text bytes (small, spelled) =
     elim spelled [
@@ -84,6 +85,7 @@ tail_is n text front rest split len tail =
       | inr padded ↦ inr (split ∙ ap (λ x. front ++ x) ((bytes_eq-Decides rest (padding n)).0 padded ∙ ap padding len))
     ]
 
+-- a text that is decoded is a base32 text of the bytes
 pub reads_back : (text bytes : List ℕ) → base32_decoded text ≡ Ok bytes → IsBytes bytes × IsBase32 text bytes
 unfolding base32_decoded
 reads_back text bytes e =

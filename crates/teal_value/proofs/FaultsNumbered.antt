@@ -4,6 +4,7 @@ use Rattle.teal_value.specs.declared.fault.Fault.{Fault}
 use Rattle.teal_value.specs.declared.fault.Fault.TheVariants as fault
 use Rattle.teal_value.specs.FaultNumbers.{fault_number, faults, numbered}
 
+-- every fault is found by its number
 pub fault_of_number : (f : Fault) → numbered fault_number (fault_number f) faults ≡ Some f
 fault_of_number fault.Err = refl
 fault_of_number fault.Underflow = refl
@@ -30,6 +31,7 @@ fault_of_number fault.FinalDepth = refl
 fault_of_number fault.FinalBytes = refl
 fault_of_number fault.Assert = refl
 
+-- the number of a fault fits in a byte
 pub small_fault : (f : Fault) → fault_number f < 256
 small_fault fault.Err = omega arith
 small_fault fault.Underflow = omega arith
