@@ -20,7 +20,7 @@ IsAllowed accepted e = accepted e.call ≡ true
 abbrev Ends : Entry → Type 0
 Ends e = HasPlace e.outcome
 
--- entries by rising timestamps whose fields are within their limits may stand in a block
+-- entries by rising timestamps, with accepted calls and fields within limits, may stand in a block
 pub are_entries : (accepted : CallData → Bool) (before : ℕ) (es : List Entry) → RisesAbove before es → All IsSmall es → All HasCall es → All (IsAllowed accepted) es → All Ends es → AreEntries accepted before es
 are_entries accepted before [] rising small calls allowed places = tt
 are_entries accepted before (e ∷ es) rising small calls allowed places = (

@@ -16,7 +16,7 @@ use Rattle.avm_block.specs.declared.block_fault.BlockFault.{BlockFault}
 use Rattle.avm_block.specs.declared.block_fault.BlockFault.TheVariants.{Field}
 use Rattle.avm_block.specs.BlockReader.{in_block, call_in}
 
--- a call read from the first byte on stands in front of the bytes behind its end
+-- a call that is read at place 0 is read from the front, and leaves the bytes behind its end
 pub front_at_start : (bytes rest : List ℕ) (call : CallData) (end : ℕ) → ((i : ℕ) → get_or bytes i 0 < 256) → call_from bytes 0 ≡ Ok (call, end) → rest ≡ drop end bytes → in_block (call_front bytes) ≡ Ok (call, rest)
 front_at_start bytes rest call end below e behind =
     let read = place_spells bytes 0 call end (All-from_get_or (λ b. b < 256) bytes 0 (λ i lt. below i)) e in
@@ -43,7 +43,7 @@ refused_too : (b : Bool) (call : CallData) (rest : List ℕ) (d : BlockFault) �
 refused_too true call rest d e = absurd cc
 refused_too false call rest d e = let same : Field ≡ d = cc in ap (λ x. Err x) same
 
--- a call that is read but not accepted makes the entry's call fail so
+-- where the test of a call that is read fails, the entry's call fails for the same reason
 pub call_is_refused : (accepted : CallData → Bool) (fields bytes : List ℕ) (call : CallData) (rest : List ℕ) (d : Failure BlockFault) → bytes ≡ fields → in_block (call_front bytes) ≡ Ok (call, rest)
     → Fails {A = CallData} d (cond (accepted call) (Ok call) (Err Field)) → Fails d (call_in accepted fields)
 call_is_refused accepted fields bytes call rest failure.Memory same e refused = tt

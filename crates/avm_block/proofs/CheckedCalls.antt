@@ -71,7 +71,7 @@ each_short (s ∷ ss) most within small = All-cons IsStringField s ss (omega ari
 
 -- ---- all fields
 
--- the fields of a call that breaks no rule of calls are within their limits
+-- a call whose sizes are those of its types and that breaks no rule has fields within limits
 pub fields_fit : (c : CallData) → call_fault c ≡ None → HasSizes c → HasFields c
 fields_fit c e sizes =
     let parts = none_of_both (field_fault c) (programs_fault c) e in

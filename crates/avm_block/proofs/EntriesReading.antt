@@ -31,7 +31,7 @@ goes_on accepted so_far now before left n rest next x meant r e pushed less_left
       ∙ r.same);
 }
 
--- where the next entry can't be read, the entries can't
+-- where reading the next entry fails, reading the entries fails for the same reason
 pub no_more : (accepted : CallData → Bool) (so_far : List Entry) (before left : ℕ) (rest : List ℕ) (d : Failure BlockFault) (meant : Front BlockFault (List Entry))
     → ReadsOn accepted so_far before left rest meant → Fails d (block_entry_at accepted before rest) → 0 < left → Fails d meant
 no_more accepted so_far before left rest failure.Memory meant r e some = tt

@@ -7,7 +7,7 @@ use Rattle.avm_items.specs.declared.call_data.CallData.{CallData}
 use Rattle.avm_call.specs.CallRules.{needed_profile}
 use Rattle.avm_block.specs.AcceptedCalls.{first_beyond, fits_in}
 
--- a call that needs a newer profile is the first of those from there on
+-- a call that needs a newer profile is the first such call from its own place on
 pub beyond_here : (p : Profile) (number i : ℕ) (cs : List CallData) (c : CallData) → i < length cs → c ≡ slice_index_or cs i c → fits_in (needed_profile c) p ≡ false
     → first_beyond p number (drop i cs) ≡ Some number
 beyond_here p number i cs c lt is beyond =
@@ -21,7 +21,7 @@ within_here p number i cs c lt is within =
     let more : drop i cs ≡ c ∷ drop (i + 1) cs = drop_more cs i c lt ∙ ap (λ x. x ∷ drop (i + 1) cs) (sym is) in
     ap (first_beyond p number) more ∙ rw within refl
 
--- behind the last call there is none that needs one
+-- behind the last call there is none that needs a newer profile
 pub none_beyond : (p : Profile) (number i : ℕ) (cs : List CallData) → length cs ≤ i → first_beyond p number (drop i cs) ≡ None
 none_beyond p number i cs le = let none : drop i cs ≡ [] = drop_all i cs le in rw none refl
 

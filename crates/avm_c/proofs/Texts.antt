@@ -22,7 +22,7 @@ is_utf8-false bytes fails =
 pub assembled_answer-not_utf8 : (bytes : List ℕ) → (IsUtf8 bytes → ⊥) → assembled_answer bytes ≡ refusal status.NoText
 assembled_answer-not_utf8 bytes fails = rw (is_utf8-false bytes fails) refl
 
--- source text in UTF-8 is answered as its assembly
+-- source text in UTF-8 is answered with what it assembles to
 pub assembled_answer-utf8 : (bytes text : List ℕ) → IsUtf8 bytes → text ≡ bytes → assembled_answer bytes ≡ assembly_answer (assembled text)
 assembled_answer-utf8 bytes text u same = rw (is_utf8-from_IsUtf8 bytes u, ← same) refl
 
@@ -34,13 +34,13 @@ command_of-utf8 bytes text u same = rw (is_utf8-from_IsUtf8 bytes u, ← same) r
 command_of-not_utf8 : (bytes : List ℕ) → (IsUtf8 bytes → ⊥) → command_of bytes ≡ command_in []
 command_of-not_utf8 bytes fails = rw (is_utf8-false bytes fails) refl
 
--- what answers the command in the words answers the bytes that write them
+-- an answer to the command in the words is one to the UTF-8 bytes that hold them
 pub utf8_words_answered : {E : Type 0} (r : Result WrittenAnswer E) (bytes text input : List ℕ) (words : List (List ℕ)) → IsUtf8 bytes → text ≡ bytes
     → words ≡ words_in text → IfOk r (λ answer. IsCommandAnswer (command_in words) input (answer_shown answer))
     → IfOk r (λ answer. IsCommandAnswer (command_of bytes) input (answer_shown answer))
 utf8_words_answered r bytes text input words u same are answered = rw (command_of-utf8 bytes text u same, ← are) answered
 
--- what answers no words answers bytes that are not UTF-8
+-- an answer to no words is one to bytes that are not UTF-8
 pub other_words_answered : {E : Type 0} (r : Result WrittenAnswer E) (bytes input : List ℕ) → (IsUtf8 bytes → ⊥)
     → IfOk r (λ answer. IsCommandAnswer (command_in []) input (answer_shown answer))
     → IfOk r (λ answer. IsCommandAnswer (command_of bytes) input (answer_shown answer))

@@ -9,12 +9,12 @@ use Rattle.avm_commands.specs.DebugRuns.{IsDebugRefused}
 use Rattle.avm_c.specs.Answers.{Answer, done, refusal}
 use Rattle.avm_c.specs.ViewAnswers.{IsViewAnswer, view_status}
 
--- an answer with the text that is found is the answer to a view
+-- where a view is found, its text makes the right answer
 pub view_shown : (l : Ledger) (b : Block) (entry steps : ℕ) (text : List ℕ) (answer : Answer)
     → FindsText (l, b) entry steps text → answer ≡ done text → IsViewAnswer entry steps (Ok (l, b)) answer
 view_shown l b entry steps text answer (v, found, shows) is = (Ok v, found, is ∙ ap done shows)
 
--- an answer with the status of a refusal that is found is the answer to a view
+-- where a refusal is found in place of a view, its status makes the right answer
 pub view_refused : (l : Ledger) (b : Block) (entry steps : ℕ) (why : Refusal) (answer : Answer)
     → IsDebugRefused l b entry steps (failure.Fault why) → answer ≡ refusal (view_status why) → IsViewAnswer entry steps (Ok (l, b)) answer
 view_refused l b entry steps why answer refused is = (Err why, refused, is)

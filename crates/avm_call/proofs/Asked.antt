@@ -29,7 +29,7 @@ abbrev pub passes : (List ℕ → Bool) → ItemValue → Bool
 passes fits (value.App row) = fits row.approval && fits row.clear
 passes fits _ = true
 
--- both programs of an application supplied pass the test
+-- both programs of the value pass the test, where it is an application
 abbrev pub Comes : (List ℕ → Bool) → ItemValue → Type 0
 Comes fits v = IsTrue (passes fits v)
 
@@ -38,7 +38,7 @@ abbrev pub BothFit : (List ℕ → Bool) → Option Application → Type 0
 BothFit fits None = Unit {0}
 BothFit fits (Some row) = (fits row.approval ≡ true) × (fits row.clear ≡ true)
 
--- so do those of the application that a call was admitted to
+-- both programs of the application that a call is admitted to pass it, if it is there
 abbrev pub TargetFits : (List ℕ → Bool) → Result Target Why → Type 0
 TargetFits fits (Ok t) = BothFit fits t.row
 TargetFits fits (Err w) = Unit {0}
@@ -47,7 +47,7 @@ both_tests : (a b : Bool) → (a && b) ≡ true → (a ≡ true) × (b ≡ true)
 both_tests true b e = (refl, e)
 both_tests false b e = absurd cc
 
--- the application of an item that comes so has programs that pass
+-- where a value passes the test, so do both programs of the application that it is, if any
 pub programs_fit : (fits : List ℕ → Bool) (v : ItemValue) → Comes fits v → BothFit fits (application_in v)
 programs_fit fits (value.App row) h = both_tests (fits row.approval) (fits row.clear) h
 programs_fit fits value.Absent h = tt
@@ -141,7 +141,7 @@ call_asks fits n paths call header new =
 
 -- ---- checked programs
 
--- a call asks for few items, where the applications supplied have programs
+-- where applications have programs, and a creation brings them, a call asks for few items
 pub calls_ask_little : (call : CallData) (header : Header) → (creates call ≡ true → (is_program call.approval ≡ true) × (is_program call.clear ≡ true))
     → AsksAtMost (λ v. IsTrue (has_programs v)) most_items Any (call_result call header)
 calls_ask_little call header new = call_asks is_program (3 * most_cost) (λ e writes h. program_asks e writes (checked e.program) refl h) call header new

@@ -73,7 +73,7 @@ stays_there reads x v unknown y u h = by (is_eq (item_cmp y x)) refl
 pub none_asked_for : (call : CallData) (header : Header) → AreAskedFor [] call header
 none_asked_for call header = λ x v e. absurd cc
 
--- with the item that a call asks for, the items supplied are still asked for
+-- once the item that a call asks for is added, each item supplied is still asked for
 pub asked_with_answer : (reads : ItemMap) (call : CallData) (header : Header) (x : Item) (v : ItemValue) → AreAskedFor reads call header → answer_from (value_in reads) (call_result call header) ≡ Err x → AreAskedFor (with_item reads x v) call header
 asked_with_answer reads call header x v asked e = λ y u there. by y u (is_eq (item_cmp y x)) refl there
   where

@@ -272,7 +272,7 @@ targets (suc n) version bytes place ps low e starts rs w x i next target there r
 
 -- ---- a checked program
 
--- behind each instruction of a checked program, and at each target, stands another or the end
+-- a checked program is laid out: version and instructions lead to an instruction or to the end
 pub laid_out : (bytes : List ℕ) (w : WellFormed) → checked bytes ≡ Ok w → IsLaidOut bytes (places w.placed)
 laid_out bytes w e =
     let c = is_checked bytes w e in

@@ -218,7 +218,7 @@ admitted_fits : (look : Look) (call : CallData) → IsTrue (has_programs (look (
 admitted_fits look call there new =
     subst (TargetFits is_program) (sym (result_over-and_then look (target call) _)) (admitted_target look call (result_over look (target call)) (target_fits look call (creates call) there new))
 
--- the place of a fault is within the most bytes of a program
+-- where the programs pass the checks, a fault's place is at most most_program_bytes
 pub outcomes_have_places : (l : Ledger) (call : CallData) (header : Header) → IsTrue (has_programs (at l (item.App call.application))) → (creates call ≡ true → (is_program call.approval ≡ true) × (is_program call.clear ≡ true))
     → HasPlace (outcome_on l call header)
 outcomes_have_places l call header there new =

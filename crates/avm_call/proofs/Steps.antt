@@ -106,7 +106,7 @@ stepped_laid e starts laid p i next here is (Ok after) h =
     flow_laid e starts laid p i next here is on.0 on.1 after.flow h.0
 stepped_laid e starts laid p i next here is (Err f) h = refl
 
--- where a program is laid out, each instruction leads to another or the end, or ends it
+-- where a program is laid out, an instruction leads to a later one or the end, or ends it
 pub executed_laid : (e : Execution) (starts : List ℕ) → IsLaidOut e.program starts → (p : Position) → is_start starts p.place ≡ true
     → (r : Result (Instr × ℕ) CodeFault) → instruction_at e.program p.place ≡ r → AsksAtMost Any 3 (LaidOn starts e p) (executed e p r)
 executed_laid e starts laid p here (Err f) is = refl
@@ -140,7 +140,7 @@ run_laid : (e : Execution) (starts : List ℕ) → IsLaidOut e.program starts �
 run_laid e starts laid zero p here room = absurd (omega arith)
 run_laid e starts laid (suc n) p here room = run_by e starts laid n p room (run_laid e starts laid n) (p.place == length e.program) here
 
--- a path ends within as many steps as there are instructions, and one more
+-- where a program is laid out, its path ends within one step more than it has instructions
 pub steps_are_instructions : (e : Execution) (writes : ItemMap) (starts : List ℕ) → IsLaidOut e.program starts → AsksAtMost Any (3 * length starts) HasEnded (path e writes (length starts + 1))
 steps_are_instructions e writes starts laid =
     let p = start e.program writes in
@@ -148,7 +148,7 @@ steps_are_instructions e writes starts laid =
     at_most-more Any (3 * left_from p.place starts) (3 * length starts) HasEnded (path e writes (length starts + 1)) (omega arith)
     (run_laid e starts laid (length starts + 1) p laid.first (omega arith))
 
--- so the whole path asks for at most three items for each instruction
+-- where a program is laid out, its whole path asks for at most three items an instruction
 pub whole_path_steps : (e : Execution) (writes : ItemMap) (starts : List ℕ) → IsLaidOut e.program starts → length starts ≤ length e.program → AsksAtMost Any (3 * length starts) HasEnded (whole_path e writes)
 whole_path_steps e writes starts laid short =
     let p = start e.program writes in

@@ -183,7 +183,7 @@ writes_keep l call o keeps = at_kind (clears call.completion)
     at_kind true = rules_stay l (sender_item call (application_of (at l) call)) value.Absent keeps tt
     at_kind false = keeps
 
--- a call that isn't approved leaves the ledger with its rules kept
+-- after a call that isn't approved, a ledger that kept its rules still keeps them
 pub unapproved_keeps : UnapprovedKeepsRules
 unapproved_keeps l call header keeps other =
     subst (λ w. KeepsRules (put l w)) (sym (unapproved_changes l call header other)) (writes_keep l call (outcome_on l call header) keeps)

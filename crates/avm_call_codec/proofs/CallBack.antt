@@ -111,7 +111,7 @@ behind : (before rest : List ℕ) → drop (length before) (before ++ rest) ≡ 
 behind [] rest = refl
 behind (x ∷ before) rest = behind before rest
 
--- such a call is read at a place of longer bytes, and the next place is where its bytes end
+-- such a call is read at its place in longer bytes, and the next place is where its bytes end
 pub call_back_from : (before : List ℕ) (c : CallData) (rest : List ℕ) → HasFields c → call_from (before ++ (call_bytes c ++ rest)) (length before) ≡ Ok (c, length before + length (call_bytes c))
 call_back_from before c rest has =
     let front : call_front (drop (length before) (before ++ (call_bytes c ++ rest))) ≡ Ok (c, rest) = ap call_front (behind before (call_bytes c ++ rest)) ∙ call_back c rest has in

@@ -38,7 +38,7 @@ some_bytes : (call : CallData) → 0 < length (call_bytes call)
 some_bytes call = ends_in_some _ (programs_bytes call)
     (ends_in_some (string_bytes call.approval ++ string_bytes call.clear ++ schema_bytes call.global_schema) (schema_bytes call.local_schema) (omega arith))
 
--- fewer bytes stand behind a call than where it begins
+-- the bytes behind a call are fewer than those from where it begins
 pub rest_shorter : (bytes : List ℕ) (place : ℕ) (here : List ℕ) (call : CallData) (rest : List ℕ) → ((i : ℕ) → get_or bytes i 0 < 256) → here ≡ drop place bytes → call_front here ≡ Ok (call, rest) → length rest < length here
 rest_shorter bytes place here call rest below is e =
     let read : call_front (drop place bytes) ≡ Ok (call, rest) = ap call_front (sym is) ∙ e in

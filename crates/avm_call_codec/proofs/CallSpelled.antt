@@ -229,7 +229,7 @@ at_end : (c d : CallData) (rest : List ℕ) (b : Bool) → eqb (length rest) 0 �
 at_end c d rest true test e = (same_value _ _ e, nil_from_length rest (eqb-true (length rest) 0 test))
 at_end c d rest false test e = absurd cc
 
--- a call that the bytes are is spelled by all of them, and its fields are within their sizes
+-- a call read from all of the bytes is spelled by them, and its fields are within their sizes
 pub call_spells : (bytes : List ℕ) (c : CallData) → All (λ b. b < 256) bytes → call_at bytes ≡ Ok c → (call_bytes c ≡ bytes) × HasFields c
 call_spells bytes c all e =
     from (call_front bytes) (alone Rest) c e (λ f ef e1.

@@ -18,7 +18,7 @@ not_utf8 bytes fails =
 pub asm_reply-not_utf8 : (input : List ℕ) → (IsUtf8 input → ⊥) → asm_reply input ≡ input_refusal
 asm_reply-not_utf8 input fails = rw (not_utf8 input fails) refl
 
--- `asm` answers an input in UTF-8 as what it assembles to
+-- `asm` answers an input in UTF-8 with what it assembles to
 pub asm_reply-utf8 : (input text : List ℕ) (meant : Result (List ℕ) AsmFault) → IsUtf8 input → text ≡ input
     → assembled text ≡ meant → asm_reply input ≡ assembly_reply meant
 asm_reply-utf8 input text meant u same means = rw (is_utf8-from_IsUtf8 input u, ← same, means) refl

@@ -90,7 +90,7 @@ module _ (l : Ledger) (call : CallData) (header : Header) where
   made_by steps (Some f) n after counted can over (inl moved) = absurd (over (subst (HasNext l call header) counted moved.instruction))
   made_by steps (Some f) n after counted can over (inr faulted) = absurd (over (subst (HasNext l call header) counted faulted.instruction))
 
-  -- a step that is made is one more
+  -- a step that is made, also one that faults, counts as one more
   pub made_more : (n : ℕ) (now after : Option Debugged) → HasMade l call header n now → StepsTo now after (Ok tt) → HasMade l call header (n + 1) after
   made_more n now after h steps = made_by h.steps h.fault n after h.counted h.can_go h.over (subst (λ m. StepsTo m after (Ok tt)) h.is steps)
 
@@ -112,7 +112,7 @@ come_first base b number d o = record {
   made = record { steps = 0; fault = None; is = o.now; counted = refl; can_go = λ n lt. absurd (omega (arith, lt)); over = tt };
 }
 
--- a step that is made is one more
+-- in the entry of a block too, a step that is made counts as one more
 pub come_more : (base : Ledger) (b : Block) (number n : ℕ) (now after : Option Debugged) → HasCome base b number n now → StepsTo now after (Ok tt) → HasCome base b number (n + 1) after
 come_more base b number n now after h steps = record {
   entry = h.entry;
@@ -122,7 +122,7 @@ come_more base b number n now after h steps = record {
   made = made_more (ledger_before base b h.entry) h.entry.call b.header n now after h.made steps;
 }
 
--- where the program ends before so many steps, it is said to have ended
+-- where a step after fewer steps answers `Ended`, the program ends before so many
 pub come_ended : (base : Ledger) (b : Block) (number n steps : ℕ) (now after : Option Debugged) → HasCome base b number n now → n < steps → StepsTo now after (Err (failure.Fault fault.Ended)) → IsEnded base b number steps
 come_ended base b number n steps now after h lt refused = record {
   entry = h.entry;

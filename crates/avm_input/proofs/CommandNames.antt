@@ -13,7 +13,7 @@ use Rattle.clap.proofs.OnLiterals.{clap_on_literals}
 use Rattle.avm_input.specs.CommandLine.{command_among, command_line, command_named, unless_faulty}
 
 module _ {A B : Type 0} where
-  -- a pair that may be missing is known from its two halves
+  -- where both halves of an optional pair are there, it is the pair of them
   pub pair_from : (o : Option (A × B)) (a : A) (b : B) → Some a ≡ option_map (λ p. p.0) o → Some b ≡ option_map (λ p. p.1) o → o ≡ Some (a, b)
   pair_from None a b e f = absurd cc
   pair_from (Some (x, y)) a b e f = cc

@@ -45,7 +45,7 @@ lines_first bytes some =
       | inr le ↦ last_line bytes some (omega (arith, prefix_len-le-length (λ x. not (is_line_feed x)) bytes))
     ]
 
--- a blank first line is counted and left out, any other comes first of the lines
+-- a blank first line is counted and left out, and any other is the first of those that are kept
 pub blank_first : (before : ℕ) (bytes text rest : List ℕ) → 0 < length bytes → text ≡ line_text bytes → rest ≡ drop (line_len bytes + 1) bytes → list_all is_blank text ≡ true
     → lines_after before (lines bytes) ≡ lines_after (before + 1) (lines rest)
 blank_first before bytes text rest some text-is rest-is blank =
@@ -56,7 +56,7 @@ pub digits_first : (before : ℕ) (bytes text rest : List ℕ) → 0 < length by
 digits_first before bytes text rest some text-is rest-is other =
     ap (lines_after before) (lines_first bytes some) ∙ rw (← text-is, ← rest-is, other) refl
 
--- fewer bytes are left behind the first line
+-- where there are bytes, fewer are left after the first line
 pub fewer_behind : (bytes rest : List ℕ) → 0 < length bytes → rest ≡ drop (line_len bytes + 1) bytes → length rest < length bytes
 fewer_behind bytes rest some e = rw e (omega (arith, length-drop (line_len bytes + 1) bytes))
 

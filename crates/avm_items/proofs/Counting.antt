@@ -56,7 +56,7 @@ at_more F n P y f g (Some u) p w all next h = subst (λ o. AsksAtMost F n P (rem
 at_more F n P y f g None (Some u) w all next h = at_most-more F (n - 1) n P (g u) (omega arith) (next (n - 1) u (h.1 u (all u refl)))
 at_more F n P y f g None None w all next h = (h.0, λ u fits. next (n - 1) u (h.1 u fits))
 
--- where more is known, no more items are left to ask for
+-- with more known, of values that may come, the bound on what is left to ask for still holds
 pub at_most-as_known : {A : Type 0} (F : ItemValue → Type 0) (n : ℕ) (P : A → Type 0) (k m : Known) → Extends k m → ((y : Item) (u : ItemValue) → m y ≡ Some u → F u) → (t : Ask A) → AsksAtMost F n P (remaining_questions k t) → AsksAtMost F n P (remaining_questions m t)
 at_most-as_known F n P k m w all (Gives a) h = h
 at_most-as_known F n P k m w all (Asks y f) h = at_more F n P y _ _ (k y) (m y) (w.same y) (all y) (λ i u. at_most-as_known F i P k m w all (f u)) h

@@ -16,7 +16,7 @@ module _ (items : ItemMap) (x : Item) (place : ℕ) (stands : StandsAt item_cmp 
   pub set_in_order : (w : ItemValue) → IsInItemOrder items → IsInItemOrder (set items place (e.0, w))
   set_in_order w o = subst IsInItemOrder (sym (set_is w)) (sorted-inserted item_total x w items o)
 
-  -- an item set in place to its value with a changed local state has that state changed
+  -- setting an item's changed local state in place gives the items with that state changed
   pub changed_state : (w : ItemValue) (change : Entries → Entries) → w ≡ local_changed change e.1 → set items place (e.0, w) ≡ with_state_changed change items x (value_in items x)
   changed_state w change is =
       set_is w ∙ ap (with_item items x) is ∙ ap (with_state_changed change items x) (ap (λ (f : Item × ItemValue). Some f.1) read ∙ sym (stands.value e))

@@ -15,7 +15,7 @@ pub none_in_order : IsInItemOrder []
 unfolding IsStrictlySortedBy
 none_in_order = tt
 
--- items stay in order after a put, and where a put that fails leaves them as they were
+-- items stay in order after a put, and after a failed one that leaves them as they were
 pub put_in_order : {A B : Type 0} (r : Result A B) (old new : ItemMap) (x : Item) (v : ItemValue) → IsInItemOrder old
     → IfOk r (λ _. new ≡ with_item old x v) → IfErr r (λ _. new ≡ old) → IsInItemOrder new
 put_in_order (Ok a) old new x v o put same = subst IsInItemOrder (sym put) (sorted-inserted item_total x v old o)

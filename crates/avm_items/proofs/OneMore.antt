@@ -30,7 +30,7 @@ still_known items x v none = record {
       (λ other. lookup-inserted_other item_total y x v items other ∙ e);
 }
 
--- an item that was unknown makes the map one entry longer
+-- adding an item that was unknown makes the map one entry longer
 pub one_longer : (items : ItemMap) (x : Item) (v : ItemValue) → value_in items x ≡ None → length (with_item items x v) ≡ length items + 1
 one_longer [] x v none = refl
 one_longer (e ∷ es) x v none = by (item_cmp x e.0) none (one_longer es x v)
@@ -40,7 +40,7 @@ one_longer (e ∷ es) x v none = by (item_cmp x e.0) none (one_longer es x v)
     by Equal n h = absurd cc
     by Greater n h = omega (arith, h n)
 
--- a ledger that has all known values and that of an added item has all that are known then
+-- a ledger with each known value and the added one has each value known after the addition
 pub agrees_after : (items : ItemMap) (x : Item) (v : ItemValue) (look : Look) → look x ≡ v → LookAgrees (value_in items) look → LookAgrees (value_in (with_item items x v)) look
 agrees_after items x v look is old = record {
   at = λ y u e.

@@ -25,7 +25,7 @@ and_and : (a b c : Bool) → (a && (b && c)) ≡ ((a && b) && c)
 and_and true b c = refl
 and_and false b c = refl
 
--- lists of one length, each with a number behind it, are ordered by the lists and then the numbers
+-- lists of the same length with a number appended compare by the lists, then by the numbers
 pub slice_cmp_end : (xs ys : List ℕ) (a b : ℕ) → length xs ≡ length ys
     → slice_cmp nat_cmp (xs ++ a ∷ []) (ys ++ b ∷ []) ≡ ordering_then (slice_cmp nat_cmp xs ys) (nat_cmp a b)
 slice_cmp_end [] [] a b e = then_end (nat_cmp a b)
@@ -34,7 +34,7 @@ slice_cmp_end (x ∷ xs) (y ∷ ys) a b e =
 slice_cmp_end [] (y ∷ ys) a b e = absurd (omega (arith, e))
 slice_cmp_end (x ∷ xs) [] a b e = absurd (omega (arith, e))
 
--- such lists are the same exactly where the lists are and the numbers are
+-- such lists are the same exactly where both the lists in front and the numbers are the same
 pub pointwise_end : (xs ys : List ℕ) (a b : ℕ) → length xs ≡ length ys
     → pointwise ◌==◌ (xs ++ a ∷ []) (ys ++ b ∷ []) ≡ (pointwise ◌==◌ xs ys && (a == b))
 pointwise_end [] [] a b e = and_true (a == b)

@@ -167,7 +167,7 @@ two_passes_by l e es o below rest true p =
     ∙ ap (λ v. put (put_one l e.0 v) es) (absent_is e.1 p)
 two_passes_by l e es o below rest false p = rest (put_one l e.0 e.1) (stays_in_order l e.0 e.1 o)
 
--- setting what stays first and removing the absent items last gives what putting all in turn gives
+-- setting the present items first and removing the absent ones last equals putting all in turn
 pub two_passes : (l : Ledger) (items : ItemMap) → IsInOrder l → IsInItemOrder items → without_all (set_all l items) (absent_items items) ≡ put l items
 unfolding IsStrictlySortedBy
 two_passes l [] o s = refl

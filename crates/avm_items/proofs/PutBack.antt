@@ -48,7 +48,7 @@ application_back l id row o (Some app) e =
           ∙ insert_same nat_cmp_total nat_cmp-IsAntisymmetric id app l.applications o.applications e);
     }
 
--- after an application's row is set, its old row or none put back gives the ledger of before
+-- putting back an application's old row, or its absence, undoes the setting of its row
 pub application_put_back : (l new : Ledger) (id : ℕ) (row : Application) (old : Option Application) (v : ItemValue) → IsInOrder l
     → old ≡ option_map (λ app. app.row) (application_at l id) → new ≡ with_application l id (with_row (application_at l id) row) → application_value old ≡ v
     → PutsBack new l (item.App id, v)
@@ -62,7 +62,7 @@ application_put_back l new id row old v o was is e =
 abbrev pub changed : Ledger → ℕ → (Entries → Entries) → Ledger
 changed l id change = with_state l id change (application_at l id)
 
--- an application that stands has its state changed, and where none stands nothing is changed
+-- where an application stands, the change sets it with its changed global state
 pub changed_there : (l : Ledger) (id : ℕ) (change : Entries → Entries) (app : StoredApplication) → application_at l id ≡ Some app
     → changed l id change ≡ with_application l id (record app { state = change app.state })
 changed_there l id change app e = ap (with_state l id change) e
@@ -70,7 +70,7 @@ changed_there l id change app e = ap (with_state l id change) e
 pub changed_gone : (l : Ledger) (id : ℕ) (change : Entries → Entries) → application_at l id ≡ None → changed l id change ≡ l
 changed_gone l id change e = ap (with_state l id change) e
 
--- the application has the changed state afterwards
+-- an application that stands has the changed state afterwards
 pub changed_after : (l : Ledger) (id : ℕ) (change : Entries → Entries) (app : StoredApplication) → application_at l id ≡ Some app
     → application_at (changed l id change) id ≡ Some (record app { state = change app.state })
 changed_after l id change app e = ap (λ m. application_at m id) (changed_there l id change app e) ∙ set_application l id (record app { state = change app.state })
@@ -123,7 +123,7 @@ key_value_of : (a : Option StoredApplication) (key : List ℕ) → entry_value a
 key_value_of None key = refl
 key_value_of (Some app) key = refl
 
--- after a key is set, its old value or none put back gives the ledger of before
+-- putting back a key's old value, or its absence, undoes the setting of the key
 pub key_put_back : (l new : Ledger) (id : ℕ) (key : List ℕ) (v : Value) (old : Option Value) (u : ItemValue) → IsInOrder l → old ≡ global_value l id key
     → new ≡ with_state l id (λ s. with_entry s key v) (application_at l id) → key_value old ≡ u → PutsBack new l (item.Key id key, u)
 key_put_back l new id key v old u o was is e =
@@ -146,7 +146,7 @@ local_back l who id state o (Some old) e = record {
       (insert-insert_same account_total account_same (who, id) state old l.local_states o.local_states ∙ insert_same account_total account_same (who, id) old l.local_states o.local_states e);
 }
 
--- after a local state is set, the old one or none put back gives the ledger of before
+-- putting back an old local state, or its absence, undoes the setting of the local state
 pub local_put_back : (l new : Ledger) (who : Address) (id : ℕ) (state : Entries) (old : Option Entries) (v : ItemValue) → IsInOrder l → old ≡ local_state_at l who id
     → new ≡ with_local_state l who id state → local_value old ≡ v → PutsBack new l (item.Local who id, v)
 local_put_back l new who id state old v o was is e =
@@ -164,7 +164,7 @@ last_put_back l (f ∷ es) e before (middle, all, back) =
     let rest = last_put_back l es e middle all in
     (rest.0, (middle, rest.1, back))
 
--- an old value that can be put back first leads back with the others, if they lead back from there
+-- if one value can be put back first, and the others lead back from there, then all lead back
 pub one_more_put_back : (l : Ledger) (es : List (Item × ItemValue)) (e : Item × ItemValue) (before : Ledger) → CanPutBack l e → AllPutBack (put_one l e.0 e.1) es before
     → AllPutBack l (es ++ e ∷ []) before
 one_more_put_back l [] e before can same = (l, refl, record { can = can; gives = same })
@@ -186,7 +186,7 @@ absent_more xs ys e = by_test (is_absent e.1)
     by_test true = sym (append_assoc xs (e.0 ∷ []) ys)
     by_test false = ap (λ zs. zs ++ ys) (sym (append-nil xs))
 
--- one more entry is changed, and the old value of its item is put in its place
+-- one more entry is changed, and its item's old value takes its place among the entries
 pub one_more_changed : (entries : ItemMap) (index : ℕ) (l new before after : Ledger) (kept more all_kept : List Item) (e back : Item × ItemValue)
     → Changes entries index l kept before after all_kept → index < length entries → e ≡ get_or entries index e
     → new ≡ set_one l e → more ≡ kept ++ absent_one e [] → PutsBack new l back

@@ -50,7 +50,7 @@ row_of_with_row : (a : Option StoredApplication) (row : Application) → value.A
 row_of_with_row None row = refl
 row_of_with_row (Some app) row = refl
 
--- an item that is set to a value it may have has that value
+-- in a ledger in order, an item set to a value it may be set to has that value
 pub has_what_was_put : (l : Ledger) (x : Item) (v : ItemValue) → IsInOrder l → MaySet l x v → at (put_one l x v) x ≡ v
 has_what_was_put l item.NextApp (value.NextApp id) o m = refl
 has_what_was_put l (item.App id) (value.App row) o m = ap row_value (set_application l id (with_row (application_at l id) row)) ∙ row_of_with_row (application_at l id) row
@@ -91,7 +91,7 @@ stays_in_order l x v o = o
 
 -- ---- two ledgers with the same items
 
--- the value of a key, or a local state, is determined by the value of its item
+-- the value of a key is determined by the value of its item
 pub key_values : (a b : Option Value) → key_value a ≡ key_value b → a ≡ b
 key_values None None e = refl
 key_values None (Some w) e = absurd cc
@@ -104,7 +104,7 @@ local_values None (Some t) e = absurd cc
 local_values (Some s) None e = absurd cc
 local_values (Some s) (Some t) e = ap Some (cc)
 
--- an application is the same in two ledgers where its row and its keys have the same values
+-- in two ledgers in order, an application is the same where its row and its keys are the same
 pub same_application : (l m : Ledger) (id : ℕ) → IsInOrder l → IsInOrder m → (a b : Option StoredApplication) → application_at l id ≡ a → application_at m id ≡ b
     → row_value a ≡ row_value b → (is_none b ≡ false → (key : List ℕ) → entry_value a key ≡ entry_value b key) → a ≡ b
 same_application l m id o p None None d e rows entries = refl
@@ -149,7 +149,7 @@ ids_apart other id h = apart (is_eq (nat_cmp other id)) (λ e. h (nat_cmp-IsAnti
 not_the_id : (other id : ℕ) → (other == id) ≡ false → is_eq (nat_cmp other id) ≡ false
 not_the_id other id h = ids_apart other id (λ e. let same : (other == id) ≡ true = eq-eqb other id e in cc)
 
--- different accounts with applications do not tie
+-- different pairs of an account and an application do not tie
 pub accounts_apart : (x y : Address × ℕ) → (y ≡ x → ⊥) → is_eq (account_cmp y x) ≡ false
 accounts_apart x y h = apart (is_eq (account_cmp y x)) (λ e. h (account_same y x (is_Equal (account_cmp y x) e)))
 
@@ -157,7 +157,7 @@ accounts_apart x y h = apart (is_eq (account_cmp y x)) (λ e. h (account_same y 
 pub other_application : (l : Ledger) (id other : ℕ) (app : StoredApplication) → is_eq (nat_cmp other id) ≡ false → application_at (with_application l id app) other ≡ application_at l other
 other_application l id other app n = lookup-inserted_other nat_cmp_total other id app l.applications n
 
--- another application, after one is taken away
+-- taking an application away leaves every other one as it was
 pub other_without : (l : Ledger) (id other : ℕ) → is_eq (nat_cmp other id) ≡ false → application_at (without_application l id) other ≡ application_at l other
 other_without l id other n = lookup-removed_other nat_cmp_total other id l.applications n
 
@@ -326,7 +326,7 @@ entry_by l e es x o above m c d true same =
     ap (λ found. unwrap_or found (at (put_one l e.0 e.1) x)) none ∙ ap (at (put_one l e.0 e.1)) is ∙ was_put l e.0 e.1 o (subst (λ z. is_counts z ≡ false) is c) m
 entry_by l e es x o above m c d false apart = ap (unwrap_or (value_in es x)) (keeps_under l e.0 e.1 x apart c d)
 
--- after allowed puts an item has the value put, or else its old one, unless counts or deleted
+-- after allowed puts, any item but counts and deleted keys has the value put, or else its old one
 pub has_what_was_put_last : (l : Ledger) (items : ItemMap) (x : Item) → IsInOrder l → IsStrictlySortedBy item_cmp (keys_of items) → MayPutAll l items
     → is_counts x ≡ false → is_deleted_by items x ≡ false → at (put l items) x ≡ unwrap_or (value_in items x) (at l x)
 unfolding IsStrictlySortedBy

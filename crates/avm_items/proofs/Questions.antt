@@ -44,7 +44,7 @@ then_at : {A B : Type 0} (x : Item) (f : ItemValue → Answer A) (g : ItemValue 
 then_at x f g h e (Some v) = e v
 then_at x f g h e None = refl
 
--- the second part starts from the result of the first, and a question of the first stays
+-- the second part starts from the result of the first; a question of the first is that of both
 pub answer_from-and_then : {A B : Type 0} (k : Known) (t : Ask A) (f : A → Ask B) → answer_from k (and_then t f) ≡ then (λ a. answer_from k (f a)) (answer_from k t)
 answer_from-and_then k (Gives a) f = refl
 answer_from-and_then k (Asks x g) f = then_at x _ _ _ (λ v. answer_from-and_then k (g v) f) (k x)
@@ -56,7 +56,7 @@ writes_at k x f g h (Some v) p e = h v
 writes_at k x f g h None (Some v) e = ap (answer_at x (λ v. answer_from k (g v))) e ∙ h v
 writes_at k x f g h None None e = ap (answer_at x (λ v. answer_from k (g v))) e
 
--- what the writes leave to ask has the answer of the writes over what else is known
+-- the answer to what the writes leave to ask is the answer with the writes before what is known
 pub answer_from-remaining : {A : Type 0} (writes k : Known) (t : Ask A) → answer_from k (remaining_questions writes t) ≡ answer_from (over writes k) t
 answer_from-remaining writes k (Gives a) = refl
 answer_from-remaining writes k (Asks x f) = writes_at k x _ _ (λ v. answer_from-remaining writes k (f v)) (writes x) (k x) refl

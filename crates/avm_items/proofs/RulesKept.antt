@@ -261,7 +261,7 @@ pub all_stay : (l : Ledger) (items : ItemMap) → KeepsRules l → MayKeepAll l 
 all_stay l [] keeps may = keeps
 all_stay l (e ∷ es) keeps may = all_stay (put_one l e.0 e.1) es (rules_stay l e.0 e.1 keeps may.0) may.1
 
--- the ledger without applications keeps the rules
+-- the ledger without applications and local states, with next id 1, keeps the rules
 pub empty_keeps : KeepsRules empty_ledger
 unfolding IsStrictlySortedBy
 empty_keeps = record {

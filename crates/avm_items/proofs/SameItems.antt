@@ -30,7 +30,7 @@ any_default [] i d e within = absurd (omega arith)
 any_default (x ∷ xs) zero d e within = refl
 any_default (x ∷ xs) (suc i) d e within = any_default xs i d e (omega (arith, within))
 
--- lists with the same first n elements and the same next one have the same first n + 1
+-- lists of the same length with the same first n elements and next one have the same first n + 1
 pub next_alike : {A : Type 0} (xs ys : List A) (n : ℕ) (x y : A) → n < length xs → length xs ≡ length ys → x ≡ get_or xs n x → y ≡ get_or ys n y → x ≡ y
     → ((i : ℕ) → i < n → (d : A) → get_or xs i d ≡ get_or ys i d) → (i : ℕ) → i < n + 1 → (d : A) → get_or xs i d ≡ get_or ys i d
 next_alike xs ys n x y within count x_is y_is same before i h d = by (i == n) refl

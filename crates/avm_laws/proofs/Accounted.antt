@@ -185,7 +185,7 @@ run_accounted look R e fresh zero p all = all
 run_accounted look R e fresh (suc n) p all =
     if-then look R (OnNext R) (λ end. Accounted R end.0.writes) (step e p) (path_goes_on e n p) (step_by look R e fresh p all (p.place == length e.program)) (rest_accounted look R e n p all (run_accounted look R e fresh n))
 
--- R holds of all that a program writes, where it does of what was asked for, known or written
+-- R holds of all that a program writes, if it does of all asked for, known or already written
 pub result_accounted : (look : Look) (R : Item → Type 0) (e : Execution) → ((x : Item) (v : ItemValue) → new_keys e.call e.current x ≡ Some v → R x) → (w : ItemMap) → Accounted R w → If look R (λ end. Accounted R end.0) (program_result e w)
 result_accounted look R e fresh w all =
     if-then look R (λ end. Accounted R end.0.writes) (λ end. Accounted R end.0) (whole_path e w) (λ end. Gives (ended_at end)) (run_accounted look R e fresh (length e.program + 1) (start e.program w) all) after

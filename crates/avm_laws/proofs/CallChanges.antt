@@ -38,7 +38,7 @@ any_ok : (R : After → Type 0) → ((after : After) → R after) → (r : Stepp
 any_ok R h (Ok after) = h after
 any_ok R h (Err f) = tt
 
--- each part of a call keeps what holds of every ledger
+-- each part of a call keeps the condition that is true of every ledger
 pub all_kept : (call : CallData) (header : Header) → IsKept call header Any AnyAt
 all_kept call header = record {
   new = λ new m k few none. tt;
@@ -51,7 +51,7 @@ all_kept call header = record {
   ends = λ p m k. tt;
 }
 
--- a call leaves a ledger that has what it wrote, and K still holds
+-- a call whose parts keep K leaves a ledger that has what it wrote, and K still holds
 pub leaves : (l : Ledger) (call : CallData) (header : Header) (K : Ledger → Type 0) (Kp : Position → Ledger → Type 0) → IsKept call header K Kp → IsOrderly l → K l → Leaves l K (result_over (at l) (call_result call header)).1
 leaves l call header K Kp kept orderly here =
     along-result (at l) (IsThere l) (λ r. Leaves l K r.1) (call_result call header) (call_leaves call header l K Kp kept orderly.order here (next_is_free l orderly))

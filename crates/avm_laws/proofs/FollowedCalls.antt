@@ -268,12 +268,12 @@ runs_leave call header id row l K Kp kept order keeps o =
 
 -- ---- the tests before it
 
--- the new application under the next id, or what the ledger has under the target's id
+-- the target is the new application with the next id, or has the row that the ledger has at its id
 abbrev pub IsTarget : Ledger → CallData → Bool → Target → Type 0
 IsTarget l call true t = (t.id ≡ l.next_id) × (t.row ≡ Some (created call)) × ((l.next_id == 2 ^ 64 - 1) ≡ false)
 IsTarget l call false t = t.row ≡ application_in (at l (item.App t.id))
 
--- P holds of the target of a call that isn't refused
+-- P holds of the target, unless the call is refused
 abbrev pub OnTarget : (Target → Type 0) → Result Target Why → Type 0
 OnTarget P (Ok t) = P t
 OnTarget P (Err w) = Unit {0}
@@ -312,7 +312,7 @@ admits l call P (Ok t) h = along-then (at l) (IsThere l) (λ r. Unit {0}) (OnTar
     after (Err w) any = tt
 admits l call P (Err w) h = tt
 
--- the tests ask for no key and no counts of an application that is gone, and find the target
+-- the tests ask for no key or counts of a gone application, and if they pass they find the target
 pub admitted_is : (l : Ledger) (call : CallData) → Along (at l) (IsThere l) (OnTarget (IsTarget l call (creates call))) (admitted call)
 admitted_is l call = along-then (at l) (IsThere l) (OnTarget (IsTarget l call (creates call))) (OnTarget (IsTarget l call (creates call))) (target call) _ (target_by l call (creates call)) (admits l call (IsTarget l call (creates call)))
 

@@ -144,7 +144,7 @@ rest_stands : (e : Execution) (row : Application) (l : Ledger) (K : Position →
 rest_stands e row l K n p o next (Ok q) h = next q h
 rest_stands e row l K n p o next (Err end) h = o
 
--- so it stays along a run, which asks for no key or counts of an application that is gone
+-- along a run whose steps keep K, Stands holds, and no key or counts of what is gone is asked for
 pub run_stands : (e : Execution) (row : Application) (l : Ledger) (K : Position → Ledger → Type 0) → StepsKeep e row K → (n : ℕ) (p : Position) → Stands e row l K p
     → Along (at l) (IsThere l) (λ end. Stands e row l K end.0) (run_from e n p)
 run_stands e row l K keep zero p o = o
@@ -158,7 +158,7 @@ ended_stands : (e : Execution) (row : Application) (l : Ledger) (K : Position �
 ended_stands e row l K End kept (p, Some end) o = record { ledger = o.ledger; follows = o.follows; current = o.current; keeps = kept p o.ledger o.keeps }
 ended_stands e row l K End kept (p, None) o = record { ledger = o.ledger; follows = o.follows; current = o.current; keeps = kept p o.ledger o.keeps }
 
--- so it is of the result of a program, and End holds of its ledger
+-- where K gives End, a ledger has what a program has written at its end, and End holds of it
 pub result_stands : (e : Execution) (row : Application) (l : Ledger) (K : Position → Ledger → Type 0) (End : Ledger → Type 0) → StepsKeep e row K → ((p : Position) (m : Ledger) → K p m → End m) → (w : ItemMap) → Stands e row l K (start e.program w)
     → Along (at l) (IsThere l) (λ end. Over e row l End end.0) (program_result e w)
 result_stands e row l K End keep kept w o =

@@ -159,7 +159,7 @@ rows_keep m n same (item.Local who id) = refl
 
 -- ---- local states, and the next id
 
--- a local state that is set or taken away
+-- the ledger still has what is written after a local state is set or taken away in both
 pub follows_local : (new : Known) (l : Ledger) (w : ItemMap) (m : Ledger) (who : Address) (id : ℕ) (v : ItemValue) → Follows new l w m → MaySet m (item.Local who id) v
     → Follows new l (with_item w (item.Local who id) v) (put_one m (item.Local who id) v)
 follows_local new l w m who id v f may =
@@ -167,7 +167,7 @@ follows_local new l w m who id v f may =
     follows_put new l w m x v f may refl (λ y. refl) (rows_keep m (put_one m x v) (λ other. keeps_others m x (item.App other) v refl refl))
     (λ other. keeps_others m x (item.Counts other) v refl refl) refl
 
--- a new value of the next id
+-- the ledger still has what is written after the next id is set in both
 pub follows_next : (new : Known) (l : Ledger) (w : ItemMap) (m : Ledger) (id : ℕ) → Follows new l w m
     → Follows new l (with_item w item.NextApp (value.NextApp id)) (put_one m item.NextApp (value.NextApp id))
 follows_next new l w m id f =
@@ -212,7 +212,7 @@ stored m id (Some app) is stands h = h app is
 pub the_application : {P : Type 0} (m : Ledger) (id : ℕ) → is_none (application_at m id) ≡ false → ((app : StoredApplication) → application_at m id ≡ Some app → P) → P
 the_application m id stands h = stored m id (application_at m id) refl stands h
 
--- the old value of a key, and the old counts, are those of the application's global state
+-- the old value of a key is its value in the application's global state
 pub entry_there : (m : Ledger) (id : ℕ) (key : List ℕ) (app : StoredApplication) → application_at m id ≡ Some app → old_entry m id key ≡ value_of_key app.state key
 entry_there m id key app is = ap (λ a. entry_in (entry_value a key)) is ∙ entry_of (value_of_key app.state key)
 
@@ -243,7 +243,7 @@ same_kind_counts m id key v o stands same =
 keeps_apps_of_key : (m : Ledger) (id : ℕ) (key : List ℕ) (v : ItemValue) → KeepsApplications m (put_one m (item.Key id key) v)
 keeps_apps_of_key m id key v = rows_keep m (put_one m (item.Key id key) v) (λ other. keeps_others m (item.Key id key) (item.App other) v refl refl)
 
--- a key set to a value of the kind that it had, where no counts are written
+-- the ledger still has what is written after a key is set in both to a value of the same kind
 pub follows_same_kind : (new : Known) (l : Ledger) (w : ItemMap) (m : Ledger) (id : ℕ) (key : List ℕ) (v : Value) → Follows new l w m → is_none (application_at m id) ≡ false → keeps_kind (old_entry m id key) (Some v) ≡ true
     → Follows new l (with_item w (item.Key id key) (value.Key v)) (put_one m (item.Key id key) (value.Key v))
 follows_same_kind new l w m id key v f stands same =
@@ -294,7 +294,7 @@ has_counted l m w x v id n o is has (item.Counts other) = has_counts l m w x v i
 has_counted l m w x v id n o is has (item.Key other key) = has_beside l m w x v id n o is (item.Key other key) refl (has (item.Key other key))
 has_counted l m w x v id n o is has (item.Local who other) = has_beside l m w x v id n o is (item.Local who other) refl (has (item.Local who other))
 
--- a key that is set or deleted, with the counts after it
+-- the ledger still has what is written after a key is changed in both and its counts are written
 pub follows_key : (new : Known) (l : Ledger) (w : ItemMap) (m : Ledger) (id : ℕ) (key : List ℕ) (v : Option Value) → Follows new l w m → is_none (application_at m id) ≡ false
     → Follows new l (with_item (with_item w (item.Key id key) (key_value v)) (item.Counts id) (value.Counts (counts_after (old_entry m id key) v (old_counts m id)))) (put_one m (item.Key id key) (key_value v))
 follows_key new l w m id key v f stands =

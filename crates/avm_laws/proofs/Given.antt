@@ -40,7 +40,7 @@ next_ids e = cc
 abbrev pub HasItems : Ledger → (Item → ItemValue) → Type 0
 HasItems m look = (x : Item) → is_counts x ≡ false → is_of_gone m x ≡ false → look x ≡ at m x
 
--- two ledgers in order that agree on all those items are the same
+-- ledgers in order are the same if all items agree, but for counts and keys of gone applications
 pub has_all : (l m : Ledger) → IsInOrder l → IsInOrder m → HasItems m (at l) → l ≡ m
 has_all l m o p same =
     let next : l.next_id ≡ m.next_id = next_ids (same item.NextApp refl refl) in

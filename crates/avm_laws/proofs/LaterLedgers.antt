@@ -111,7 +111,7 @@ any_ok R h (Err f) = tt
 abbrev pub IsLaterAt : Ledger → Position → Ledger → Type 0
 IsLaterAt l p m = IsLaterLedger l m
 
--- each part of a call leads to a later ledger
+-- each part of a call leads from a later ledger to a later ledger
 pub later_kept : (l : Ledger) (call : CallData) (header : Header) → IsKept call header (IsLaterLedger l) (IsLaterAt l)
 later_kept l call header = record {
   new = λ new m k few none. made l m (created call) k none;
@@ -128,7 +128,7 @@ later_kept l call header = record {
 
 -- ---- the laws
 
--- an orderly ledger counts as a later ledger of itself, where no call is made
+-- an orderly ledger is a later ledger of itself
 pub begins : (l : Ledger) → IsOrderly l → IsLaterLedger l l
 begins l o = record { order = o.order; rises = omega arith; gone = λ id h none. none; below = o.below }
 

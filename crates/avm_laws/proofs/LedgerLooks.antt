@@ -22,11 +22,11 @@ alike l look is (x ∷ xs) all = (
   alike l look is xs (All-tail (λ y. is_of_gone l y ≡ false) x xs all),
 )
 
--- the ledger's own look-up is one of its look-ups
+-- an orderly ledger's own look-up is one of its look-ups
 pub ledgers_are_looks : LedgersAreLooks
 ledgers_are_looks l orderly = record { orderly = orderly; same = λ x there. refl }
 
--- a call over a look-up of a ledger is the call over the ledger
+-- a call over a look-up of a ledger has the result that it has over the ledger
 pub calls_are_the_ledgers : CallsAreTheLedgers
 calls_are_the_ledgers l look call header is =
     sym (alike_results (at l) look (call_result call header) (alike l look is (items_asked (at l) (call_result call header)) (asks_for_none_gone l call header is.orderly)))

@@ -133,11 +133,11 @@ are_changes l K w left = record {
       (stands, left.has x stands ∙ ap (λ o. unwrap_or o (at l x)) kept.0, kept.1);
 }
 
--- put into the ledger before, they give the ledger that is left
+-- those writes, put into the ledger before, give the ledger that is left
 pub put_pruned : (l : Ledger) (K : Ledger → Type 0) (w : ItemMap) → IsInOrder l → (left : Leaves l K w) → put l (pruned (at l) w) ≡ left.ledger
 put_pruned l K w o left =
     puts_changes l left.ledger (pruned (at l) w) o left.order (sorted_filter (λ e. not (is_same_value (at l e.0) e.1)) w left.sorted) (are_changes l K w left)
 
--- and so do all the writes
+-- all the writes, put into the ledger before, give the ledger that is left
 pub put_written : (l : Ledger) (K : Ledger → Type 0) (w : ItemMap) → IsInOrder l → (left : Leaves l K w) → put l w ≡ left.ledger
 put_written l K w o left = put_gives l left.ledger w left.order (record { order = o; sorted = left.sorted; has = λ x c stands. sym (left.has x stands); stands = left.stands })

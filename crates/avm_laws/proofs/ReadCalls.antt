@@ -40,7 +40,7 @@ HasReads l known = (x : Item) (v : ItemValue) → known x ≡ Some v → is_of_g
 abbrev pub IsReadAt : Ledger → Known → Item → Type 0
 IsReadAt l known x = value_before known x ≡ at l x
 
--- over what was read and over the ledger, the same result, the same questions and values
+-- over what was read and over the ledger, the result, the questions and the values are the same
 pub record Alike {A : Type 0} (l : Ledger) (known : Known) (t : Ask A) (a : A) : Type 0 where
   pub result : result_over (at l) t ≡ a
   pub asked : asked_while_known known t ≡ items_asked (at l) t
@@ -62,7 +62,7 @@ alike_at l known x k a has next there (Some v) is e =
       read = All-cons (IsReadAt l known) x (items_asked (at l) (k (at l x))) (before ∙ sym here) (subst (λ u. All (IsReadAt l known) (items_asked (at l) (k u))) (sym here) rest.read);
     }
 
--- what ended over what was read ends so over a ledger that has it, if it asks for nothing gone
+-- a result over what was read is the same over a ledger that has it, if nothing gone is asked for
 pub alike : {A : Type 0} (l : Ledger) (known : Known) (t : Ask A) (a : A) → HasReads l known → All (IsThere l) (items_asked (at l) t) → answer_from known t ≡ Ok a → Alike l known t a
 alike l known (Gives b) a has there e = record { result = gives_same e; asked = refl; read = All-nil (IsReadAt l known) }
 alike l known (Asks x k) a has there e = alike_at l known x k a has (λ v. alike l known (k v) a has) there (known x) refl e
@@ -70,7 +70,7 @@ alike l known (Asks x k) a has there e = alike_at l known x k a has (λ v. alike
 call_alike : (l : Ledger) (reads : ItemMap) (call : CallData) (header : Header) (r : CallResult) → IsOrderly l → AgreesWithReads l reads → answer_from (value_in reads) (call_result call header) ≡ Ok r → Alike l (value_in reads) (call_result call header) r
 call_alike l reads call header r orderly agrees e = alike l (value_in reads) (call_result call header) r agrees (asks_for_none_gone l call header orderly) e
 
--- a call that has ended over what it read ends so over each ledger that agrees with that
+-- a call that ended over what it read ends in the same way over each ledger that agrees with that
 pub ends_alike : (l : Ledger) (reads : ItemMap) (call : CallData) (header : Header) (r : CallResult) → IsOrderly l → AgreesWithReads l reads → answer_from (value_in reads) (call_result call header) ≡ Ok r
     → result_over (at l) (call_result call header) ≡ r
 ends_alike l reads call header r orderly agrees e = (call_alike l reads call header r orderly agrees e).result
@@ -112,7 +112,7 @@ pruned_alike before look (e ∷ es) s all =
     let rest = pruned_alike before look es s.1 (λ x v there. all x v (later e es s.0 x v there (is_eq (item_cmp x e.0)) refl)) in
     λ i. cond (not (is_same_value (same i) e.1)) (e ∷ rest i) (rest i)
 
--- its writes without those that leave what was read are the changes on such a ledger
+-- the writes that differ from what was read are the changes on each ledger that agrees with that
 pub changes_what_it_read : (l : Ledger) (reads : ItemMap) (call : CallData) (header : Header) (r : CallResult) → IsOrderly l → AgreesWithReads l reads → AreAskedFor reads call header → answer_from (value_in reads) (call_result call header) ≡ Ok r
     → pruned (value_before (value_in reads)) r.1 ≡ changes_on l call header
 changes_what_it_read l reads call header r orderly agrees asked e =

@@ -20,7 +20,7 @@ pub record ReadsOn (apps : List (ℕ × StoredApplication)) (before next : ℕ) 
   pub same : with_front apps (applications_at left before next rest) ≡ meant
   pub above : (id : ℕ) → before < id → AllLower nat_cmp_total apps id
 
--- with no applications so far and all left to read, those meant are all that are read
+-- before any application is read, what is meant is the reading of all of them
 pub begins : (apps : List (ℕ × StoredApplication)) (next count left : ℕ) (bytes : List ℕ) → apps ≡ [] → left ≡ count → ReadsOn apps 0 next left bytes (applications_at count 0 next bytes)
 begins apps next count left bytes e f = record {
   same = rw (e, f) (none_in_front _);
@@ -31,7 +31,7 @@ one_more : (before next n : ℕ) (rest : List ℕ) (id : ℕ) (behind : List ℕ
     → applications_at (suc n) before next rest ≡ (applications_at n id next after >>= λ apps. Ok ((id, app) ∷ apps.0, apps.1))
 one_more before next n rest id behind app after ei ea = then _ _ _ _ ei (then _ _ _ _ ea refl)
 
--- after one more application is read and set, the rest still gives those that are meant
+-- after one more application is read and set, those so far and the rest still give what is meant
 pub goes_on : (apps now : List (ℕ × StoredApplication)) (before next left n : ℕ) (rest : List ℕ) (id : ℕ) (behind : List ℕ) (app : StoredApplication) (after : List ℕ) (meant : Front LedgerFault (List (ℕ × StoredApplication)))
     → ReadsOn apps before next left rest meant → id_between before next rest ≡ Ok (id, behind) → stored_application_at behind ≡ Ok (app, after) → now ≡ insert_entry nat_cmp apps id app → left ≡ suc n
     → ReadsOn now id next n after meant
@@ -47,7 +47,7 @@ goes_on apps now before next left n rest id behind app after meant r ei ea put l
       above = λ q rises. rw last (all_lower_more nat_cmp_total id q app apps lower (nat_lower id q rises));
     }
 
--- a failure at the next id or at its application is the failure of all that are meant
+-- while any are left, a failure at the next id is the failure of the whole reading
 pub no_id : (apps : List (ℕ × StoredApplication)) (before next left : ℕ) (rest : List ℕ) (d : Failure LedgerFault) (meant : Front LedgerFault (List (ℕ × StoredApplication)))
     → ReadsOn apps before next left rest meant → Fails d (id_between before next rest) → 0 < left → Fails d meant
 no_id apps before next left rest failure.Memory meant r e some = tt

@@ -105,7 +105,7 @@ written_state l id app change state new o found is e =
     ∙ ap (λ s. with_application l id (record app { state = s })) e
     ∙ ap (with_state l id change) found
 
--- an application written with the global state that it had leaves the ledger
+-- writing an application with the global state that it had leaves the ledger as it was
 pub kept_state : (l : Ledger) (id : ℕ) (app : StoredApplication) (state : Entries) (new : List (ℕ × StoredApplication))
     → Some app ≡ application_at l id → new ≡ set_value (is_at (nat_cmp id)) l.applications (record app { state = state }) → state ≡ app.state → record l { applications = new } ≡ l
 kept_state l id app state new found is e =

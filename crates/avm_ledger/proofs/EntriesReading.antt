@@ -34,7 +34,7 @@ key_rule before rest k next e =
 pub short_key : (before : Option (List ℕ)) (rest k next : List ℕ) → key_at before rest ≡ Ok (k, next) → length k ≤ 64
 short_key before rest k next e = leb-true (length k) 64 (and_first _ _ (key_rule before rest k next e))
 
--- with no entries so far and all left to read, those meant are all that are read
+-- before any entry is read, what is meant is the reading of all of them
 pub begins : (state : Entries) (kinds : Schema) (count left : ℕ) (bytes : List ℕ) → state ≡ [] → left ≡ count → ReadsOn state None kinds left bytes (entries_at count None kinds bytes)
 begins state kinds count left bytes e f = record {
   same = rw (e, f) (none_in_front _);
@@ -45,7 +45,7 @@ one_more : (before : Option (List ℕ)) (kinds : Schema) (n : ℕ) (rest k next 
     → entries_at (suc n) before kinds rest ≡ (entries_at n (Some k) (count_without v kinds) behind >>= λ es. Ok ((k, v) ∷ es.0, es.1))
 one_more before kinds n rest k next v behind ek ev = then _ _ _ _ ek (then _ _ _ _ ev refl)
 
--- after one more entry is read and set, the rest still gives those that are meant
+-- after one more entry is read and set, those so far and the rest still give what is meant
 pub goes_on : (state now : Entries) (before : Option (List ℕ)) (kinds fewer : Schema) (left n : ℕ) (rest k next : List ℕ) (v : Value) (behind : List ℕ) (meant : Front LedgerFault Entries)
     → ReadsOn state before kinds left rest meant → key_at before rest ≡ Ok (k, next) → value_at kinds next ≡ Ok (v, behind) → now ≡ with_entry state k v → fewer ≡ count_without v kinds → left ≡ suc n
     → ReadsOn now (Some k) fewer n behind meant
@@ -61,7 +61,7 @@ goes_on state now before kinds fewer left n rest k next v behind meant r ek ev p
       above = λ q rises. rw last (all_lower_more byte_total k q v state lower (less _ rises));
     }
 
--- a failure at the next key or at its value is the failure of all that are meant
+-- while any are left, a failure at the next key is the failure of the whole reading
 pub no_key : (state : Entries) (before : Option (List ℕ)) (kinds : Schema) (left : ℕ) (rest : List ℕ) (d : Failure LedgerFault) (meant : Front LedgerFault Entries)
     → ReadsOn state before kinds left rest meant → Fails d (key_at before rest) → 0 < left → Fails d meant
 no_key state before kinds left rest failure.Memory meant r e some = tt

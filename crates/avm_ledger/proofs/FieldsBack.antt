@@ -25,7 +25,7 @@ drop_front : (xs ys : List ℕ) → drop (length xs) (xs ++ ys) ≡ ys
 drop_front [] ys = refl
 drop_front (x ∷ xs) ys = drop_front xs ys
 
--- a field within its size is read from its bytes, whatever stands behind them
+-- as many bytes as are asked for are read as they are, whatever stands behind them
 pub bytes_back : {F : Type 0} (truncated : F) (n : ℕ) (xs rest : List ℕ) → length xs ≡ n → bytes_at truncated n (xs ++ rest) ≡ Ok (xs, rest)
 bytes_back truncated n xs rest e =
     let enough : ltb (length (xs ++ rest)) n ≡ false = le-ltb (length (xs ++ rest)) n (omega (arith, length-append xs rest)) in

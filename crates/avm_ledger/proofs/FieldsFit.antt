@@ -62,7 +62,7 @@ many_fit {A} one spelling P spells fits (suc n) bytes x all e =
     let is : ◌≡◌ {A = List A × List ℕ} (a.0 ∷ m.0, m.1) x = same_value _ _ e2 in
     subst (λ p. All P p.0 × (length p.0 ≡ suc n)) is (All-cons P a.0 m.0 (fits bytes a all ea) more.0, ap suc more.1)))
 
--- what holds of each value that is read holds of all behind a count, and they are under 256
+-- what holds of each value that is read holds of all behind a count, which are fewer than 256
 pub counted_fit : {A F : Type 0} (truncated : F) (one : List ℕ → Front F A) (spelling : A → List ℕ) (P : A → Type 0) → ((bytes : List ℕ) (x : A × List ℕ) → AllBytes bytes → one bytes ≡ Ok x → IsSpelled bytes (spelling x.0) x.1)
     → ((bytes : List ℕ) (x : A × List ℕ) → AllBytes bytes → one bytes ≡ Ok x → P x.0) → (bytes : List ℕ) (x : List A × List ℕ) → AllBytes bytes → counted_at truncated one bytes ≡ Ok x → All P x.0 × (length x.0 < 256)
 counted_fit truncated one spelling P spells fits bytes x all e =

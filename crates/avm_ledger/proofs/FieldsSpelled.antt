@@ -116,7 +116,7 @@ schema_spelled truncated bytes x all e =
     let is : ◌≡◌ {A = Schema × List ℕ} (record { uints = u.0.0; bytes = s.0.0 }, s.0.1) x = same_value _ _ s.2 in
     subst (λ p. IsSpelled bytes (schema_bytes p.0) p.1) is (join bytes (u8_bytes u.0.0) u.0.1 (u8_bytes s.0.0) s.0.1 first second)
 
--- values that are read in turn are spelled in turn, and are as many as were asked for
+-- where each value read is spelled by the first bytes, so are many in turn, as many as asked for
 pub many_spelled : {A F : Type 0} (one : List ℕ → Front F A) (spelling : A → List ℕ) → ((bytes : List ℕ) (x : A × List ℕ) → AllBytes bytes → one bytes ≡ Ok x → IsSpelled bytes (spelling x.0) x.1)
     → (n : ℕ) (bytes : List ℕ) (x : List A × List ℕ) → AllBytes bytes → many_at one n bytes ≡ Ok x → IsSpelled bytes (flat_map spelling x.0) x.1 × (length x.0 ≡ n)
 many_spelled {A} {F} one spelling back zero bytes x all e =

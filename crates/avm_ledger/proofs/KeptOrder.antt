@@ -27,6 +27,6 @@ orderly l keeps = record { order = in_order l keeps; below = λ id h. by id h (a
     by id h None is = refl
     by id h (Some app) is = absurd (omega (arith, (application_rules l id app keeps is).below))
 
--- no application stands under the next id
+-- in an orderly ledger, no application has the next id
 pub next_is_free : (l : Ledger) → IsOrderly l → application_at l l.next_id ≡ None
 next_is_free l o = o.below l.next_id (omega arith)

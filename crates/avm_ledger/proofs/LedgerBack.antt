@@ -93,7 +93,7 @@ entries_back ((k, v) ∷ es) before left rest above sorted all uints strings =
     (then (entries_at (length es) (Some k) (count_without v left) behind) (es, rest) (λ fs. Ok ((k, v) ∷ fs.0, fs.1)) (Ok ((k, v) ∷ es, rest))
     (entries_back es (Some k) (count_without v left) rest sorted.0 sorted.1 more fewer.0 fewer.1) refl))
 
--- a state that there is room for is read from its bytes, whatever stands behind them
+-- a state within a room for fewer than 256 entries is read from its bytes, whatever follows them
 pub state_back : (room : Room) (state : Entries) (rest : List ℕ) → IsStateIn room state → room.entries < 256 → state_at room (u8_bytes (length state) ++ (flat_map entry_bytes state ++ rest)) ≡ Ok (state, rest)
 state_back room state rest is small =
     let few : leb (length state) room.entries ≡ true = le-leb (length state) room.entries is.few in

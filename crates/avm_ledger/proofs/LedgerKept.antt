@@ -220,12 +220,12 @@ applications_kept (suc n) before next bytes x all e =
 
 -- ---- local states
 
--- all accounts with applications are above the pair before, if there is one
+-- all pairs of an account and an application are above the pair before, if there is one
 abbrev pub IsAbovePair : Option (Address × ℕ) → List (Address × ℕ) → Type 0
 IsAbovePair None keys = Unit {0}
 IsAbovePair (Some before) keys = AllByRecursion (λ k. account_cmp before k ≡ Less) keys
 
--- the accounts with applications of local states rise, and are above the pair before
+-- the account and application pairs of local states rise, and are above the pair before, if any
 pub record RiseFrom (before : Option (Address × ℕ)) (states : List ((Address × ℕ) × Entries)) : Type 0 where
   pub above : IsAbovePair before (keys_of states)
   pub rising : IsStrictlySortedBy account_cmp (keys_of states)

@@ -24,7 +24,7 @@ one_more : (before : Option (Address × ℕ)) (next : ℕ) (apps : List (ℕ × 
     → local_states_at (suc n) before next apps rest ≡ (local_states_at n (Some (who, id)) next apps b3 >>= λ more. Ok (((who, id), state) ∷ more.0, more.1))
 one_more before next apps n rest who b1 id b2 state b3 ew ei es = then _ _ _ _ ew (then _ _ _ _ ei (then _ _ _ _ es refl))
 
--- after one more local state is read and appended, the rest still gives those that are meant
+-- after one more local state is read, those so far and the rest still give what is meant
 pub goes_on : (states now : LocalStates) (before : Option (Address × ℕ)) (next : ℕ) (apps : List (ℕ × StoredApplication)) (left n : ℕ) (rest : List ℕ) (who : Address) (b1 : List ℕ) (id : ℕ) (b2 : List ℕ) (room : Room) (state : Entries) (b3 : List ℕ)
     (meant : Front LedgerFault LocalStates) → ReadsOn states before next apps left rest meant → account_at before rest ≡ Ok (who, b1) → local_id_at before next who b1 ≡ Ok (id, b2)
     → room ≡ local_room (stored_in apps id) → state_at room b2 ≡ Ok (state, b3) → now ≡ states ++ ((who, id), state) ∷ [] → left ≡ suc n → ReadsOn now (Some (who, id)) next apps n b3 meant
@@ -38,7 +38,7 @@ goes_on states now before next apps left n rest who b1 id b2 room state b3 meant
           ∙ r.same);
     }
 
--- a failure at the next account, id or state is the failure of all that are meant
+-- while any are left, a failure at the next account is the failure of the whole reading
 pub no_account : (states : LocalStates) (before : Option (Address × ℕ)) (next : ℕ) (apps : List (ℕ × StoredApplication)) (left : ℕ) (rest : List ℕ) (d : Failure LedgerFault) (meant : Front LedgerFault LocalStates)
     → ReadsOn states before next apps left rest meant → Fails d (account_at before rest) → 0 < left → Fails d meant
 no_account states before next apps left rest failure.Memory meant r e some = tt

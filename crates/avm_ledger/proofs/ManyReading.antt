@@ -13,11 +13,11 @@ use Rattle.avm_ledger.proofs.RisingReading.{with_front, none_in_front, one_in_fr
 pub record ReadsOn {A F : Type 0} (one : List ℕ → Front F A) (so_far : List A) (left : ℕ) (rest : List ℕ) (meant : Front F (List A)) : Type 0 where
   pub same : with_front so_far (many_at one left rest) ≡ meant
 
--- with no values so far and all left to read, those meant are all that are read
+-- before any value is read, what is meant is the reading of all of them
 pub begins : {A F : Type 0} (one : List ℕ → Front F A) (now : List A) (count left : ℕ) (bytes : List ℕ) → now ≡ [] → left ≡ count → ReadsOn one now left bytes (many_at one count bytes)
 begins one now count left bytes e f = record { same = rw (e, f) (none_in_front _) }
 
--- after one more value is read and appended, the rest still gives those that are meant
+-- after one more value is read and appended, those so far and the rest still give what is meant
 pub goes_on : {A F : Type 0} (one : List ℕ → Front F A) (so_far now : List A) (left n : ℕ) (rest next : List ℕ) (x : A) (meant : Front F (List A)) → ReadsOn one so_far left rest meant → one rest ≡ Ok (x, next) → now ≡ so_far ++ x ∷ [] → left ≡ suc n
     → ReadsOn one now n next meant
 goes_on one so_far now left n rest next x meant r e pushed less_left = record {
@@ -28,7 +28,7 @@ goes_on one so_far now left n rest next x meant r e pushed less_left = record {
       ∙ r.same);
 }
 
--- a failure at the next value is the failure of all that are meant
+-- while any are left, a failure at the next value is the failure of the whole reading
 pub no_more : {A F : Type 0} (one : List ℕ → Front F A) (so_far : List A) (left : ℕ) (rest : List ℕ) (d : Failure F) (meant : Front F (List A)) → ReadsOn one so_far left rest meant → Fails d (one rest) → 0 < left → Fails d meant
 no_more one so_far left rest failure.Memory meant r e some = tt
 no_more one so_far zero rest (failure.Fault f) meant r e some = absurd (omega arith)

@@ -18,7 +18,7 @@ pub none_in_front : {A F : Type 0} (r : Front F (List A)) → with_front [] r �
 none_in_front (Ok xs) = refl
 none_in_front (Err e) = refl
 
--- a value that is read first may as well stand last among those in front
+-- putting a value first among those read is the same as appending it to those in front
 pub one_in_front : {A F : Type 0} (front : List A) (x : A) (r : Front F (List A)) → with_front front (r >>= λ xs. Ok (x ∷ xs.0, xs.1)) ≡ with_front (front ++ x ∷ []) r
 one_in_front front x (Ok xs) = ap (λ ys. Ok (ys, xs.1)) (sym (append_assoc front (x ∷ []) xs.0))
 one_in_front front x (Err e) = refl

@@ -22,7 +22,7 @@ second P v w s all = first P w s (All-tail P v (w ∷ s) all)
 third : (P : Value → Type 0) (u v w : Value) (s : List Value) → All P (u ∷ v ∷ w ∷ s) → P w
 third P u v w s all = second P v w s (All-tail P u (v ∷ w ∷ s) all)
 
--- what holds of each value on the stack holds of the operands, of whatever kinds they are
+-- what holds of each value on the stack holds of the operand, and so for the kinds below
 pub one_uint_fits : (P : Value → Type 0) (stack : List Value) → All P stack → OkOf (λ a. P (Uint a)) (one_uint stack)
 one_uint_fits P [] all = tt
 one_uint_fits P (Uint a ∷ s) all = first P (Uint a) s all

@@ -17,7 +17,7 @@ pub along-result : {A : Type 0} (look : Look) (Q : Item → Type 0) (P : A → T
 along-result look Q P (Gives a) h = h
 along-result look Q P (Asks x k) h = along-result look Q P (k (look x)) h.1
 
--- where Q holds of each item asked for along the questions, it holds of all items asked for
+-- where Q holds along the questions, it holds of all items in items_asked
 pub along-asked : {A : Type 0} (look : Look) (Q : Item → Type 0) (P : A → Type 0) (t : Ask A) → Along look Q P t → All Q (items_asked look t)
 along-asked look Q P (Gives a) h = All-nil Q
 along-asked look Q P (Asks x k) h = All-cons Q x (items_asked look (k (look x))) h.0 (along-asked look Q P (k (look x)) h.1)

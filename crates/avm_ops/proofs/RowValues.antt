@@ -85,7 +85,7 @@ Holds V (value.Key v) = V v
 Holds V (value.Local state) = All (λ e. V e.1) state
 Holds V _ = Unit {0}
 
--- V holds of all values that an instruction is given, and the application that runs is there
+-- V is closed and holds of all that an instruction is given; the application that runs is there
 pub record IsGiven (V : Value → Type 0) (m : Ledger) (c : Context) (i : Immediates) : Type 0 where
   pub closed : IsClosed V
   pub stack : All V c.machine.stack
@@ -100,7 +100,7 @@ pub record IsGiven (V : Value → Type 0) (m : Ledger) (c : Context) (i : Immedi
   pub items : (x : Item) → Holds V (at m x)
   pub stands : is_none (application_at m c.current) ≡ false
 
--- V holds of the stack and the scratch space left, and the stack stays within its limit
+-- V holds of the stack and the scratch space left, and a stack within its limit stays so
 pub record Leaves (V : Value → Type 0) (c : Context) (after : After) : Type 0 where
   pub height : length c.machine.stack ≤ most_values → length after.machine.stack ≤ most_values
   pub stack : All V after.machine.stack

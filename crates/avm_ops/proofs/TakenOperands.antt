@@ -268,7 +268,7 @@ pub record TestsFirst (pops : List ValueKind) (stack : List Value) (t : Act Faul
   pub underflow : length stack < length pops → t ≡ stop fault.Underflow
   pub types : length pops ≤ length stack → are_kinds (reverse pops) stack ≡ false → t ≡ stop fault.WrongType
 
--- each kind of operands tests for underflow, and then for types
+-- an operand is tested for underflow and then for its type, and so for the kinds below
 pub one_uint-takes : (stack : List Value) → Takes (kind.Uint ∷ []) stack (one_uint stack)
 one_uint-takes stack = record { underflow = one_uint-underflow stack; types = one_uint-types stack }
 

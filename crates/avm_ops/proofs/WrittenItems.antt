@@ -78,7 +78,7 @@ pub data Writes (m : Ledger) (c : Context) (writes : ItemMap) : Type 0 where
 abbrev pub IsThere : Ledger → Item → Type 0
 IsThere m x = is_of_gone m x ≡ false
 
--- the items that it asks for are no keys or counts of applications that are gone
+-- it asks for no key or count of a gone application, and R holds where there is no fault
 abbrev pub Row : Ledger → (After → Type 0) → Act Fault After → Type 0
 Row m R t = Along (at m) (IsThere m) (OnOk R) t
 

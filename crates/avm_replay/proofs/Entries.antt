@@ -20,12 +20,12 @@ heads e = cc
 pub tails : {A : Type 0} {x y : A} {xs ys : List A} → x ∷ xs ≡ y ∷ ys → xs ≡ ys
 tails e = cc
 
--- one call more ends as it does on the ledger after those before it
+-- a call added at the end has the outcome that it has on the ledger after the others
 pub outcomes-append : (l : Ledger) (h : Header) (cs : List CallData) (c : CallData) → outcomes l h (cs ++ c ∷ []) ≡ outcomes l h cs ++ outcome_on (replayed l h cs) c h ∷ []
 outcomes-append l h [] c = refl
 outcomes-append l h (b ∷ bs) c = ap (λ os. outcome_on l b h ∷ os) (outcomes-append (ledger_after l b h) h bs c)
 
--- one call more leads from the ledger after those before it to the one after it
+-- a call added at the end leads on from the ledger after the others
 pub replayed-append : (l : Ledger) (h : Header) (cs : List CallData) (c : CallData) → replayed l h (cs ++ c ∷ []) ≡ ledger_after (replayed l h cs) c h
 replayed-append l h [] c = refl
 replayed-append l h (b ∷ bs) c = replayed-append (ledger_after l b h) h bs c

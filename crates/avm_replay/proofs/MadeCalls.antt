@@ -19,7 +19,7 @@ timestamps-append first (b ∷ bs) c =
     let e : first + 1 + length bs ≡ first + length (b ∷ bs) = omega arith in
     ap (λ ts. first ∷ ts) (timestamps-append (first + 1) bs c ∙ ap (λ n. timestamps_from (first + 1) bs ++ n ∷ []) e)
 
--- no calls have no entries, and lead to the same ledger
+-- where there are no calls, there are no entries, and the ledger stays
 pub nothing_made : (l : Ledger) (h : Header) → AreMade l h [] [] l
 nothing_made l h = record { same_calls = refl; timestamps = refl; places = All-nil (λ (e : Entry). HasPlace e.outcome); ends = refl; after = refl }
 

@@ -20,7 +20,7 @@ approved = refl
 pub agrees : Judges empty_ledger (block_of_creation outcome.Approved) (verdict.Agrees ledger_after_creation)
 agrees = (record { base = refl; outcomes = λ i. approved i ∷ []; after = refl }, refl)
 
--- a block that says it was rejected is wrong at its first entry, which is approved
+-- a block that says the creation was rejected is wrong at entry 1, whose outcome is approval
 pub other_outcome : Judges empty_ledger (block_of_creation outcome.Rejected) (verdict.WrongOutcome 1 outcome.Approved)
 other_outcome = (
   refl,

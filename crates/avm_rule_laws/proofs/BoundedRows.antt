@@ -58,7 +58,7 @@ pub record IsShortCall (c : CallData) : Type 0 where
   pub approval : IsShort c.approval
   pub clear : IsShort c.clear
 
--- before an instruction, the stack is within its height, and byte strings have at most 4096 bytes
+-- before an instruction, the stack and byte strings are within bounds, and the application stands
 pub record Bounds (m : Ledger) (c : Context) : Type 0 where
   pub here : IsWithinBounds c.machine.stack c.machine.scratch
   pub strings : All IsShort c.machine.byte_constants

@@ -102,7 +102,7 @@ programs_short c e true is given =
     (omega (arith, approval), omega (arith, clear))
 programs_short c e false is given = empty_short c.approval c.clear given
 
--- the byte strings of a call that breaks no rule of calls have at most 4096 bytes each
+-- a call of bytes that breaks no rule of calls has byte strings of at most 4096 bytes each
 pub checked_calls_are_short : (c : CallData) → IsCallOfBytes c → call_fault c ≡ None → IsShortCall c
 checked_calls_are_short c of_bytes e =
     let parts = none_of_both (field_fault c) (programs_fault c) e in

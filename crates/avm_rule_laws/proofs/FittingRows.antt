@@ -52,7 +52,7 @@ use Rattle.avm_ops.proofs.RowValues.{IsClosed, Holds, Leaves, creator_holds, row
 
 -- ---- what a row is given, and what it leaves
 
--- what an instruction is given holds numbers and bytes of their types, over a sound ledger
+-- an instruction is given values of their types, and a sound ledger in which its application stands
 pub record Fits (m : Ledger) (c : Context) : Type 0 where
   pub stack : All IsMachineValue c.machine.stack
   pub scratch : All IsMachineValue c.machine.scratch

@@ -42,7 +42,7 @@ use Rattle.avm_ledger.proofs.KeptOrder.{application_rules, orderly}
 use Rattle.avm_rule_laws.proofs.SoundPuts.{sound_put, led_sound}
 use Rattle.avm_laws.proofs.CallChanges.{leaves, after_is, written_over, put_followed}
 
--- the ledger keeps the rules, and the stack and the scratch space hold machine values
+-- the ledger is sound, and the stack and the scratch space hold machine values
 abbrev pub SoundAt : Position → Ledger → Type 0
 SoundAt p m = IsSound m × All IsMachineValue p.stack × All IsMachineValue p.scratch
 
@@ -179,7 +179,7 @@ steps_sound call header may id row p m i next read is k =
     along-free (at m) (IsThere m) (OnOk Fit) (OnOk (λ after. (place : ℕ) (w : Writes m (context_at e p) after.writes) → SoundAt (position_after p after place) (led m (context_at e p) after.writes w))) t
     (step_ok e p m f) (effect_fits m (context_at e p) f i.opcode i.immediates (read_fits (program_of call.completion row) p.place i next program read))
 
--- each part of a call that may be made keeps the rules
+-- each part of a call that may be made keeps a sound ledger sound
 pub sound_kept : (call : CallData) (header : Header) → MayCall call header → IsKept call header IsSound SoundAt
 sound_kept call header may = record {
   new = new_sound call header may;

@@ -31,7 +31,7 @@ below_by : (n : ℕ) (f : Fault) (b : Bool) → nat_lt n (2 ^ 64) ≡ b → OkOf
 below_by n f true e = ltb-true n (2 ^ 64) e
 below_by n f false e = tt
 
--- what an instruction computes of numbers below 2^64 is below it too, where it doesn't fault
+-- the sum of two numbers below 2^64 is below 2^64, where it doesn't fault
 pub sum_fits : (a b : ℕ) → IsWord a → IsWord b → OkOf IsWord (sum_of a b)
 sum_fits a b p q = below_by (a + b) fault.Overflow (nat_lt (a + b) (2 ^ 64)) refl
 
@@ -72,7 +72,7 @@ and_fits a b p q = and_lt 64 a b p q
 pub xor_fits : (a b : ℕ) → IsWord a → IsWord b → OkOf IsWord (bits_xor a b)
 xor_fits a b p q = xor_lt 64 a b p q
 
--- the high and the low half of a number below 2^128 are below 2^64
+-- the high half of a number below 2^128 is below 2^64
 pub high_fits : (n : ℕ) → n < 2 ^ 64 * 2 ^ 64 → IsWord (n / 2 ^ 64)
 high_fits n below = (div-lt_iff_lt-mul {k = 2 ^ 64} {x = n} {y = 2 ^ 64} (pow_pos 64)).1 below
 

@@ -22,7 +22,7 @@ use Rattle.avm_rule_laws.proofs.MachineValues.{IsWord}
 use Rattle.avm_rule_laws.proofs.FittingRows.{FitsImmediates}
 use Rattle.avm_rule_laws.proofs.BoundedRows.{IsShort, AreShortImmediates}
 
--- what holds of all elements of a list holds of those of its front and of its rest
+-- what holds of all elements of a list holds of those of its front
 pub front_all : {A : Type 0} (P : A → Type 0) (xs ys : List A) → All P (xs ++ ys) → All P xs
 front_all P [] ys all = All-nil P
 front_all P (x ∷ xs) ys all = All-cons P x xs (All-head P x (xs ++ ys) all) (front_all P xs ys (All-tail P x (xs ++ ys) all))
@@ -112,7 +112,7 @@ short_by program place i next few (Err f) is e = absurd cc
 short_by program place i next few (Ok (j, rest)) is e =
     subst (λ k. AreShortImmediates k.immediates) (instruction_is e) (first_short (version_in_front program).0 (drop place program) j rest (omega (arith, few, length-drop place program)) is)
 
--- an instruction of a program of at most 4096 bytes has no longer byte string
+-- an instruction of a program of at most 4096 bytes has no byte string longer than that
 pub read_short : (program : List ℕ) (place : ℕ) (i : Instr) (next : ℕ) → IsShort program → instruction_at program place ≡ Ok (i, next) → AreShortImmediates i.immediates
 read_short program place i next few e = short_by program place i next few (instr_at (version_in_front program).0 (drop place program)) refl e
 
@@ -146,7 +146,7 @@ uints_by : (program : List ℕ) (place : ℕ) (earlier : List ℕ) → AreBytes 
 uints_by program place earlier bytes all (Ok (i, next)) e = words_or i.immediates earlier (read_fits program place i next bytes e) all
 uints_by program place earlier bytes all (Err f) e = all
 
--- the constants in force in a program of bytes are values that a machine may have
+-- the integer constants in force in a program of bytes are below 2^64
 pub uints_fit : (program passed : List ℕ) → AreBytes program → All IsWord (uint_constants_at program passed)
 uints_fit program [] bytes = All-nil IsWord
 uints_fit program (place ∷ passed) bytes = uints_by program place (uint_constants_at program passed) bytes (uints_fit program passed bytes) (instruction_at program place) refl
@@ -169,7 +169,7 @@ constants_by : (program : List ℕ) (place : ℕ) (earlier : List (List ℕ)) �
 constants_by program place earlier few all (Ok (i, next)) e = short_or i.immediates earlier (read_short program place i next few e) all
 constants_by program place earlier few all (Err f) e = all
 
--- the byte constants in force in a program of at most 4096 bytes are no longer
+-- the byte constants in force in a program of at most 4096 bytes have at most 4096 bytes each
 pub constants_short : (program passed : List ℕ) → IsShort program → All IsShort (byte_constants_at program passed)
 constants_short program [] few = All-nil IsShort
 constants_short program (place ∷ passed) few = constants_by program place (byte_constants_at program passed) few (constants_short program passed few) (instruction_at program place) refl

@@ -101,7 +101,7 @@ bytes_put l (item.Local who id) value.Absent s h =
     record { applications = s.of_bytes.applications; local_states = all_without (is_at (account_cmp (who, id))) (λ e. AreMachineValues e.1) l.local_states s.of_bytes.local_states }
 bytes_put l _ _ s h = s.of_bytes
 
--- a put that keeps the rules and brings bytes and machine values leaves a sound ledger
+-- a put that the rules allow, of bytes and machine values, keeps a sound ledger sound
 pub sound_put : (l : Ledger) (x : Item) (v : ItemValue) → IsSound l → MayKeep l x v → BringsBytes x v → IsSound (put_one l x v)
 sound_put l x v s may brings = record { rules = rules_stay l x v s.rules may; of_bytes = bytes_put l x v s brings }
 
@@ -189,7 +189,7 @@ local_with limit state key v short h room is =
 
 -- ---- what an instruction writes
 
--- the ledger after what an instruction writes is sound
+-- where what an instruction is given fits, the ledger after its writes is sound
 pub led_sound : (m : Ledger) (c : Context) (w : ItemMap) → Fits m c → (h : Writes m c w) → IsSound (led m c w h)
 led_sound m c w f (Nothing is) = f.ledger
 led_sound m c w f (SameKind key v put same is) =

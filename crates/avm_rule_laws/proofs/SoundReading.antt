@@ -79,7 +79,7 @@ local_part next apps e is all =
     let p = parts e.0.0.0 (u64_bytes e.0.1 ∷ state_bytes e.1 ∷ []) all in
     state_part e.1 is.state.entries p.1.1.0
 
--- a ledger that is read from bytes keeps the rules
+-- a ledger read from bytes keeps the rules, and holds bytes and machine values
 pub ledger_sound : (bytes : List ℕ) (l : Ledger) → AreBytes bytes → ledger_at bytes ≡ Ok l → IsSound l
 ledger_sound bytes l all e =
     let rules = (ledger_kept bytes l all e).0 in
@@ -117,7 +117,7 @@ spelled_call c fields whole =
       clear = string_part c.clear programs.1.0;
     }
 
--- a call that is read from bytes is of bytes
+-- a call read from bytes has fields within their sizes, and its byte strings are of bytes
 pub call_of_bytes : (bytes : List ℕ) (c : CallData) (rest : List ℕ) → AreBytes bytes → call_front bytes ≡ Ok (c, rest) → IsCallOfBytes c
 call_of_bytes bytes c rest all e =
     let spelled = front_spells bytes c rest all e in

@@ -14,12 +14,12 @@ use Rattle.avm_run.specs.Tests.{Halts}
 pub passes : {A B : Type 0} (known : Known) (t : Act Why A) (f : A → Act Why B) (a : A) → answer_from known t ≡ Ok (Ok a) → answer_from known (t >>= f) ≡ answer_from known (f a)
 passes known t f a e = answer_from-and_then known t (on_ok f) ∙ ap (then (λ r. answer_from known (on_ok f r))) e
 
--- where it stops, both stop
+-- where a test stops, so does the test with what follows it
 pub halts : {A B : Type 0} (h : AdmissionStop) (known : Known) (t : Act Why A) (f : A → Act Why B) → Halts h (answer_from known t) → Halts h (answer_from known (t >>= f))
 halts (admission_stop.Refused w) known t f e = answer_from-and_then known t (on_ok f) ∙ ap (then (λ r. answer_from known (on_ok f r))) e
 halts (admission_stop.Need x) known t f e = answer_from-and_then known t (on_ok f) ∙ ap (then (λ r. answer_from known (on_ok f r))) e
 halts admission_stop.Memory known t f e = tt
 
--- where it passes and what follows it stops, both stop
+-- where a test passes and what follows it stops, both together stop
 pub halts_behind : {A B : Type 0} (h : AdmissionStop) (known : Known) (t : Act Why A) (f : A → Act Why B) (a : A) → answer_from known t ≡ Ok (Ok a) → Halts h (answer_from known (f a)) → Halts h (answer_from known (t >>= f))
 halts_behind h known t f a e then_halts = subst (Halts h) (sym (passes known t f a e)) then_halts

@@ -24,6 +24,6 @@ on_ledger_by f asked l orderly agrees (Ok r) e is =
     record { outcome = outcome; changes = changes; after = ap (put l) changes }
 on_ledger_by f asked l orderly agrees (Err x) e is = absurd cc
 
--- a call that has ended is one on each orderly ledger that has what it read
+-- a call that has ended ends so on each orderly ledger that agrees with what it read
 pub on_ledgers : (f : CallRecord) → IsResult f.call f.header f.reads f.outcome f.writes → AreAskedFor f.reads f.call f.header → IsCallOnLedgers f
 on_ledgers f is asked = λ l orderly agrees. on_ledger_by f asked l orderly agrees (answer_from (value_in f.reads) (call_result f.call f.header)) refl is

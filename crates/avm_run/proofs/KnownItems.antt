@@ -29,7 +29,7 @@ on_ledgers : KnowsTheLedger → (r : Running) (x : Item) → StandsIn r → (kno
 on_ledgers law r x s None e = tt
 on_ledgers law r x s (Some v) e = λ l order agrees may. law l r.env x v order agrees (is_of_run r s) e may
 
--- what a run knows of an item is what its call knows where the path has come to
+-- given KnowsTheLedger, a run knows of an item what KnowsAt says at the step it has come to
 pub knows : KnowsTheLedger → (r : Running) (x : Item) → StandsIn r → KnowsAt r.env.call r.env.header r.env.reads r.steps x (known_to r.env x)
 knows law r x s = record {
   id = r.env.current;

@@ -39,13 +39,13 @@ found_after P items x v new old y u e =
 abbrev Comes : ItemValue → Type 0
 Comes v = IsTrue (has_programs v)
 
--- a call that still asks was supplied with fewer items than the most
+-- where IsFew holds, a call that still asks was supplied with fewer than most_items items
 pub few_left : (call : CallData) (header : Header) (reads : ItemMap) (x : Item) → IsFew call header reads → answer_from (value_in reads) (call_result call header) ≡ Err x → length reads < most_items
 few_left call header reads x few e =
     let h : 0 < most_items - length reads = asks_some Comes (most_items - length reads) Any (value_in reads) x (call_result call header) few.left e in
     omega arith
 
--- with an item supplied that it asks for, a call still asks for few
+-- IsFew stays with an item that the call asks for, which has programs if it is an application
 pub fewer : (call : CallData) (header : Header) (reads : ItemMap) (x : Item) (v : ItemValue) → IsTrue (has_programs v) → IsFew call header reads → answer_from (value_in reads) (call_result call header) ≡ Err x → IsFew call header (with_item reads x v)
 fewer call header reads x v comes few asks =
     let none = not_supplied (value_in reads) call header x asks in
@@ -54,6 +54,6 @@ fewer call header reads x v comes few asks =
     let less = one_less Comes (most_items - length reads) Any (value_in reads) (value_in (with_item reads x v)) (still_known reads x v none) fit x v (is_there reads x v) (call_result call header) few.left asks in
     record { asked = asked_with_answer reads call header x v few.asked asks; programs = fit; left = at_most-more Comes (most_items - length reads - 1) (most_items - length (with_item reads x v)) Any _ (omega (arith, long)) less.1 }
 
--- the items supplied are then one more
+-- with an item that a call asks for, the items supplied are one more
 pub longer_by_one : (call : CallData) (header : Header) (reads : ItemMap) (x : Item) (v : ItemValue) → answer_from (value_in reads) (call_result call header) ≡ Err x → length (with_item reads x v) ≡ length reads + 1
 longer_by_one call header reads x v asks = one_longer reads x v (not_supplied (value_in reads) call header x asks)

@@ -81,7 +81,7 @@ global_delete_row m e key old app operands current entry =
 may_put_passes : (key : List ℕ) (v : Value) → nat_le (length key) 64 ≡ true → nat_le (value_length v) 64 ≡ true → may_put key v ≡ done tt
 may_put_passes key v short small = ap (λ b. and_then (test b fault.KeyLength) (on_ok (λ _. test (nat_le (value_length v) 64) fault.TooLong))) short ∙ ap (λ b. test b fault.TooLong) small
 
--- a put into the global state, once the operands and the entry are known
+-- a put into the global state that passes the length tests, once operands and entry are known
 pub global_put_row : (m : Machine) (e : Environment) (key : List ℕ) (v : Value) (old : Option Value) (app : ℕ) → bytes_and_value m.stack ≡ Ok (key, v)
     → nat_le (length key) 64 ≡ true → nat_le (value_length v) 64 ≡ true → app ≡ e.current → answer_from (known_to e) (global_entry app key) ≡ Ok (Ok old)
     → known_row global_put m e ≡ answer_from (known_to e) (global_put_over (context_of m e) key v old (keeps_kind old (Some v)))

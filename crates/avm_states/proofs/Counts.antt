@@ -124,7 +124,7 @@ same_kind_counts (Some (Bytes a)) (Bytes b) n h k = without_with (Bytes a) n h
 same_kind_counts (Some (Uint a)) (Bytes b) n h k = absurd cc
 same_kind_counts (Some (Bytes a)) (Uint b) n h k = absurd cc
 
--- a put of a value of the old one's kind leaves the counts
+-- putting a value of the old one's kind leaves the counts as they were
 pub stay_with_kind : (state : Entries) (key : List ℕ) (v : Value) → IsInKeyOrder state → keeps_kind (value_of_key state key) (Some v) ≡ true → counts_in (with_entry state key v) ≡ counts_in state
 stay_with_kind state key v s k = follow_puts state key v s ∙ same_kind_counts (value_of_key state key) v (counts_in state) (found_is_counted state key) k
 

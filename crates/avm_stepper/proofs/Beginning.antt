@@ -61,7 +61,7 @@ next_by l old asking now p x s asks is =
       longer = ap (λ r. length (reads_in r)) now_is ∙ one_longer p.reads x (at l x) asks.not_supplied;
     }
 
--- an item that the tests ask for is supplied with the ledger's value
+-- once an item that the tests asked for is supplied, the program has still not begun
 pub starts_next : (l : Ledger) (old here asking now : Option Progress) (b : StartOutcome) (x : Item) → StartsOver l old here → Begins here asking b → b ≡ begun.Need x → now ≡ supplied l x asking → StartsNext l old here now
 starts_next l old None asking now b x s begins need is = absurd (subst (Begins None asking) need begins)
 starts_next l old (Some p) asking now b x s begins need is = next_by l old asking now p x s (subst (Begins (Some p) asking) need begins) is

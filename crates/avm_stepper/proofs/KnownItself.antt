@@ -105,7 +105,7 @@ result_at : {A : Type 0} (look : Look) (own : Known) (P : A → Type 0) (x : Ite
 result_at look own P x k h (Some v) = h v
 result_at look own P x k h None = h (look x)
 
--- what holds of every result holds of that where only what isn't known is asked for
+-- what holds of the result whatever is answered holds where what is known is not asked for
 pub remaining_result : {A : Type 0} (n : ℕ) (look : Look) (own : Known) (P : A → Type 0) (t : Ask A) → AsksAtMost Any n P t → P (result_over look (remaining_questions own t))
 remaining_result n look own P (Gives a) h = h
 remaining_result n look own P (Asks x k) h = result_at look own P x k (λ v. remaining_result (n - 1) look own P (k v) (h.1 v tt)) (own x)

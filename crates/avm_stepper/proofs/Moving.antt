@@ -201,7 +201,7 @@ ends_by l None p d comes =
     end_only (next_shown (debugged l p.call p.header d.steps None)) s.0.instruction s.2
     (next_over l p.call p.header d.steps s.0 (shows_over l p.call p.header p.reads d.steps s.0 d.agrees s.1))
 
--- where no instruction comes next, a step changes nothing and answers that the run has ended
+-- where no instruction comes next, a step that changes nothing and answers `Ended` is right
 pub ends_over : (l : Ledger) (fault : Option Fault) (run : Option Progress) → IsKeptDebug l fault (Some run) → ComesNextBy fault run false → StepsTo (seen l fault (Some run)) (seen l fault (Some run)) (Err (failure.Fault stop.Ended))
 ends_over l fault None kept comes = absurd kept
 ends_over l fault (Some p) kept comes =

@@ -74,7 +74,7 @@ has_reads known = record { at = λ x v is. ap (λ o. unwrap_or o value.Absent) i
 same_number : {n m : ℕ} → Some n ≡ Some m → n ≡ m
 same_number e = cc
 
--- where an instruction comes next, the step ends the path by a fault alone
+-- where an instruction comes next, only a fault can end the path with the next step
 pub only_faults : (p : Progress) (end : Ended) → StandsBefore p → EndsPath p.call p.header p.reads p.steps end → IsFault end
 only_faults p end before ends =
     let known = value_in p.reads in
@@ -91,7 +91,7 @@ only_faults p end before ends =
     (path_there look p.call p.header s.application shows.row (suc before.steps) _ admits
     (ap (λ n. result_over look (call_path p.call p.header n)) (sym (add-one ends.number ∙ ap suc number)) ∙ next))
 
--- a run before an instruction that ends with the next step ends by a fault
+-- a run that stands before an instruction and ends with the next step ends by a fault
 pub ended_by_fault : (before after : Option Progress) (s : Step) (end : Ended) → IsBefore before → Steps before after (Ok s) → s ≡ step_to.Ended end → IsFault end
 ended_by_fault None after s end before steps is = absurd before
 ended_by_fault (Some p) after s end before steps is =

@@ -24,7 +24,7 @@ pub record IsMet (base : Ledger) (b : Block) (number : ℕ) (e : Entry) (l : Led
 abbrev first_of : Ledger → Entry → Header → Option Debugged
 first_of l e header = Some (record { ledger = l; call = e.call; header = header; steps = 0; fault = None })
 
--- the call of the entry is opened over the ledger that it met
+-- where the entry's call is started over the ledger that it met, the entry is opened
 pub opens_met : (base : Ledger) (b : Block) (number : ℕ) (e : Entry) (l : Ledger) (header : Header) (r : Result (Option Debugged) (Failure OpenFault)) → IsMet base b number e l header
     → IfOk r (λ d. d ≡ first_of l e header) → IfOk r (λ d. HasProgram l e.call) → IfOk r (λ d. IsOpened base b number d)
 opens_met base b number e l header (Ok d) met is program = record {

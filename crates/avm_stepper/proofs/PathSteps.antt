@@ -60,7 +60,7 @@ call_path_is look call header id row steps admits =
     ∙ ap (λ (t : Result Target Why). result_over look (path_of_target call header steps t)) admits
     ∙ result_over-and_then look (path (execution call header id row) (prepared call id) steps) (λ end. Gives (Some end))
 
--- where the path of a call has come to, there the path of its program has come to
+-- the path of a call's program has come to where the path of the call has
 pub path_there : (look : Look) (call : CallData) (header : Header) (id : ℕ) (row : Application) (steps : ℕ) (r : Position × Option Ended) → result_over look (admitted call) ≡ Ok (record { id = id; row = Some row })
     → result_over look (call_path call header steps) ≡ Some r → result_over look (path (execution call header id row) (prepared call id) steps) ≡ r
 path_there look call header id row steps r admits is = some_same (sym (call_path_is look call header id row steps admits) ∙ is)

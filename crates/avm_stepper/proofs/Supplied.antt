@@ -67,7 +67,7 @@ pub record SuppliedNext (l : Ledger) (old here now : Option Progress) : Type 0 w
   pub few : length (reads_in here) < most_items
   pub longer : length (reads_in now) ≡ length (reads_in here) + 1
 
--- an item that a run asks for is supplied with the ledger's value, and the run goes on
+-- once an item that a run asked for is supplied from the ledger, the run goes on
 pub supplied_next : (l : Ledger) (old here asking now : Option Progress) (w : StepOutcome) (x : Item) → GoesOnOver l old here → Goes here asking w → w ≡ outcome.Need x → now ≡ supplied l x asking → SuppliedNext l old here now
 supplied_next l old None asking now w x g goes need is = absurd (subst (Goes None asking) need goes)
 supplied_next l old (Some p) asking now w x g goes need is =
@@ -98,7 +98,7 @@ led_on l old now p g step =
       holds = (ap (λ n. Some (next_step_number n)) steps, subst (λ n. HasStep p.call p.header p.reads (next_step_number n)) steps step.there);
     }
 
--- a step that is made leads on over the ledger
+-- a run that has moved has made its next step over the ledger
 pub moved_on : (l : Ledger) (old here now : Option Progress) (w : StepOutcome) → GoesOnOver l old here → Goes here now w → w ≡ outcome.Moved → LeadsTo l old now None
 moved_on l old None now w g goes is = absurd (subst (Goes None now) is goes)
 moved_on l old (Some p) now w g goes is = led_on l old now p g (subst (Goes (Some p) now) is goes)

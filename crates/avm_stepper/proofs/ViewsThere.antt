@@ -74,7 +74,7 @@ next_is program p None is = next_end program p is
 abbrev pub position_of : Sight → List ℕ → Position
 position_of s passed = record { place = s.place; passed = passed; stack = s.machine.stack; scratch = s.machine.scratch; writes = s.writes }
 
--- what a run shows is so over the ledger after so many steps
+-- what a run shows holds over the ledger after so many steps
 pub record ShowsOver (l : Ledger) (call : CallData) (header : Header) (steps : ℕ) (s : Sight) : Type 0 where
   pub row : Application
   pub passed : List ℕ
@@ -85,7 +85,7 @@ pub record ShowsOver (l : Ledger) (call : CallData) (header : Header) (steps : �
   pub strings : s.machine.byte_constants ≡ byte_constants_at (program_of call.completion row) passed
   pub next : ComesNext (program_of call.completion row) s.place s.instruction
 
--- what a run shows over items that agree with the ledger is so over the ledger
+-- what a run shows over items that agree with the ledger holds over the ledger
 pub shows_over : (l : Ledger) (call : CallData) (header : Header) (reads : ItemMap) (steps : ℕ) (s : Sight) → LookAgrees (value_in reads) (at l) → ShowsPath call header reads steps s → ShowsOver l call header steps s
 shows_over l call header reads steps s agrees shows = record {
   row = shows.row;

@@ -17,6 +17,6 @@ not_utf8 bytes fails =
 pub lines_reply-not_utf8 : (input : List ℕ) → (IsUtf8 input → ⊥) → lines_reply input ≡ input_refusal
 lines_reply-not_utf8 input fails = rw (not_utf8 input fails) refl
 
--- `lines` answers an input in UTF-8 as the document that its text is
+-- `lines` answers an input in UTF-8 by reading its text as a document
 pub lines_reply-utf8 : (input text : List ℕ) → IsUtf8 input → text ≡ input → lines_reply input ≡ document_reply (document_of_text text)
 lines_reply-utf8 input text u same = rw (is_utf8-from_IsUtf8 input u, ← same) refl

@@ -252,7 +252,7 @@ module _ {Q : Json → Type 0} (inherited : IsInherited Q) (P : List ℕ → Typ
       first_within None is = omega arith
       first_within (Some n) is = omega arith
 
-  -- a ledger that was read is put together so, below the end of ids of its document
+  -- a ledger that was read is a draft with ids below the end of ids of its document
   pub ledger_kept : (next : Option ℕ) → IsNextId next → Gives Q (IsDraft P (end_of_ids next)) (ledger next sources)
   ledger_kept next is j x q e =
       let end = end_of_ids next in
@@ -269,7 +269,7 @@ end_small : (next : Option ℕ) → IsNextId next → end_of_ids next < 2 ^ 64
 end_small None is = omega arith
 end_small (Some n) is = is.1
 
--- such a ledger keeps the rules of ledgers, where its programs pass the checks
+-- a draft keeps the rules of ledgers, where programs that keep P pass the checks
 pub draft_keeps_rules : (P : List ℕ → Type 0) (next : Option ℕ) (l : Ledger) → IsNextId next → ((code : List ℕ) → P code → is_ok (checked code) ≡ true) → IsDraft P (end_of_ids next) l → KeepsRules l
 draft_keeps_rules P next l is ok d = record {
   next_id = d.positive;

@@ -33,7 +33,7 @@ is_checked_code code x e = by (checked code) refl e
     by (Ok w) is e = (ap is_ok is, same_value code x e)
     by (Err f) is e = absurd cc
 
--- a program that was read passes the checks, given as bytes or as source text
+-- a program that was read from bytes passes the checks
 pub given_program : (j : Json) (code : List ℕ) → program j ≡ Ok code → is_ok (checked code) ≡ true
 given_program j code e = from (bytes j) _ code e (λ s es e1. let p = is_checked_code s code e1 in subst (λ t. is_ok (checked t) ≡ true) p.1 p.0)
 
@@ -120,6 +120,6 @@ module _ {Q : Json → Type 0} (inherited : IsInherited Q) where
       let named = needed_gives inherited (λ f. (name : List ℕ) × (field_named name ≡ Ok f)) (codes "field-name") source_field (λ k f qk is. is_named k f is) j for q ef in
       only_one P s x named.0 for (index_of for app txn) source named.1 are (needed_gives inherited (λ t. (code : List ℕ) → program_of_source t ≡ Ok code → P code) (codes "source") text (λ k t qk ek code ec. gives k t code qk ek ec) j source q es) e5)))))
 
-  -- sources that were read have programs that keep P
+  -- where source texts give programs that keep P, the sources that were read have such programs
   pub sources_kept : (P : List ℕ → Type 0) → TextsGive Q P → Gives Q (AreSources P) (each with_source no_sources)
   sources_kept P gives = each_keeps inherited (AreSources P) with_source no_sources (source_kept P gives) (none_are P)

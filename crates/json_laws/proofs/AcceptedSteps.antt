@@ -44,7 +44,7 @@ every_item : (js : Items) → EachItem (λ j. Unit {0}) js
 every_item no_items = tt
 every_item (item j js) = (tt, every_item js)
 
--- what asks nothing of a value asks nothing of those in it
+-- a property that every value has is inherited by the values in it
 pub nothing_asked : IsInherited (λ j. Unit {0})
 nothing_asked = record { members = λ name j k q e. tt; elements = λ j js q e. every_item js }
 
@@ -80,13 +80,13 @@ gathered_keeps Q P one i start (item j js) x keeps p q e =
     from (in_step (at_index i) (one start j)) _ x e (λ next en e1. gathered_keeps Q P one (i + 1) next js x keeps (keeps start j next q.0 p (without_step _ (one start j) next en)) q.1 e1)
 
 module _ {Q : Json → Type 0} (inherited : IsInherited Q) where
-  -- a member keeps what the values of its reader keep, and so does a default that keeps it
+  -- a needed member keeps what the values of its reader keep
   pub needed_gives : {A : Type 0} (P : A → Type 0) (name : List ℕ) (meaning : Json → Result A Fault) → Gives Q P meaning → Gives Q P (needed name meaning)
   needed_gives P name meaning gives j x q e = needed_by Q P name meaning (member name j) x gives (λ k is. inherited.members name j k q (not_null (get name j) k is)) e
 
   pub optional_gives : {A : Type 0} (P : A → Type 0) (name : List ℕ) (meaning : Json → Result A Fault) (default : A) → P default → Gives Q P meaning → Gives Q P (optional name meaning default)
   optional_gives P name meaning default p gives j x q e = optional_by Q P name meaning default (member name j) x p gives (λ k is. inherited.members name j k q (not_null (get name j) k is)) e
 
-  -- the elements of an array keep from the first to the last what each of them keeps
+  -- what holds at the start and is kept by each element holds once an array is read
   pub each_keeps : {A : Type 0} (P : A → Type 0) (one : A → Json → Result A Fault) (start : A) → Keeps Q P one → P start → Gives Q P (each one start)
   each_keeps P one start keeps p j x q e = from (elements j) _ x e (λ js ej e1. gathered_keeps Q P one 0 start js x keeps p (inherited.elements j js q (there (as_array j) _ js ej)) e1)

@@ -131,7 +131,7 @@ base64_ok : (r : Result (List ℕ) DecodeError) (x : List ℕ) → result_ok r �
 base64_ok (Ok y) x e = cc
 base64_ok (Err f) x e = absurd cc
 
--- what base64 writes is bytes
+-- what is read from a base64 text is of bytes
 pub bytes_are : (j : Json) (s : List ℕ) → bytes j ≡ Ok s → AreBytes s
 bytes_are j s e = from (text j) _ s e (λ t et e1. decoded_are_bytes t s (base64_ok (decode_of standard t) s (there _ _ s e1)))
 

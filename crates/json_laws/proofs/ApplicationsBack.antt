@@ -30,7 +30,7 @@ use Rattle.json_laws.proofs.OrderBack.{goes_last, not_there}
 use Rattle.json_laws.proofs.PlainBack.{address_back, bytes_back, uint_back}
 use Rattle.json_laws.proofs.StatesBack.{state_back}
 
--- an id below the end of ids is read back
+-- a positive id below the end of ids is read back
 pub id_back : (end id : ℕ) → 1 ≤ id → id < end → end < 2 ^ 64 → id_below end (uint id) ≡ Ok id
 id_back end id positive below small =
     let above : leb 1 id ≡ true = le-leb 1 id positive in

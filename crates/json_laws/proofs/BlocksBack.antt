@@ -79,7 +79,7 @@ module _ (l : Ledger) (b : Block) (rules : KeepsRules l) (of : IsWholeLedgerOfBy
       (then_in _ _ _ _ _ (next_back l rules of)
       (then_in _ _ _ _ _ (uint_back b.header.round is.header.round) refl)))))
 
-  -- a ledger and a block are read back as the header and the calls of the block over the ledger
+  -- a ledger and a block are read back: the ledger, the calls, and the header in profile 3
   pub shown_block_back : document (shown_block l b) ≡ Ok (shown_as l (Some b))
   unfolding least_unknown targets_from
   shown_block_back =

@@ -135,7 +135,7 @@ decoded_bytes_are dec s pad allow mode b table e =
     (All-append (λ x. x < 256) (groups_bytes dec s q) (suffix_bytes dec pad (4 * q) s) (groups_are_bytes dec s q table groups.0)
     (state_bytes (scan dec pad (4 * q) no_leftover 0 (drop (4 * q) s)) (steps_small dec pad (4 * q) (Ok no_leftover) 0 (drop (4 * q) s) table none_small)))
 
--- what base64 with padding decodes to are bytes
+-- what base64 with padding decodes to is of bytes
 pub decoded_are_bytes : (s b : List ℕ) → decode_of standard s ≡ Ok b → AreBytes b
 decoded_are_bytes s b e = decoded_bytes_are standard.decode_table s 61 standard.config.decode_allow_trailing_bits standard.config.decode_padding_mode b standard_table e
 

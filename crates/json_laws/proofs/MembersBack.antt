@@ -62,7 +62,7 @@ none_unknown names (p ∷ ps) h =
     let parts = and_parts (is_among names p.0) (are_among names ps) h in
     none_unknown_with names p.0 p.1 (present ps) parts.0 (none_unknown names ps parts.1)
 
--- where names are among those that are known, all are known
+-- an object of members whose names are among these has no unknown name
 pub all_known : (names : List (List ℕ)) (ps : List Place) → are_among names ps ≡ true → known names (object_of (present ps)) ≡ Ok tt
 all_known names ps h = ap unless_unknown (none_unknown names ps h)
 
@@ -72,7 +72,7 @@ all_known names ps h = ap unless_unknown (none_unknown names ps h)
 abbrev pub unless : Bool → Json → Option Json
 unless empty j = if empty then None else Some j
 
--- a member that is left out where it is empty, in front of others
+-- a member that is left out where it is empty is one that may be there, in front of others
 pub in_front : (empty : Bool) (name : List ℕ) (j : Json) (more : List Member) → if_not empty name j ++ more ≡ present_with name (unless empty j) more
 in_front true name j more = refl
 in_front false name j more = refl

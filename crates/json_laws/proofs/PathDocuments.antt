@@ -322,7 +322,7 @@ located_document j =
 
 -- ---- the laws
 
--- the fault of a refused document leads to a value that is wrong or a member that is missing
+-- a document's fault leads to a wrong value or a missing member, by steps that need no escape
 pub document_located : (j : Json) (f : Fault) → document j ≡ Err f → Locates f.what f.path j × ArePlain f.path
 document_located j f e =
     let at : IsLocated (root j) f = subst (OnFault {A = Document} (IsLocated (root j))) e (located_document j).located in

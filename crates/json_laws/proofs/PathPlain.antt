@@ -41,13 +41,13 @@ is_there (Some y) w x e = cc
 pub located_uint : (p : Spot) → Located p (uint p.value)
 located_uint p = located_or_else p (option_and_then decimal_of (as_number p.value)) what.NotUint (λ e. e)
 
--- so does a fault of what is made of the number
+-- where faults of what is made of a number lead to where they say, so do those of both in a row
 pub located_of_uint : {A : Type 0} (p : Spot) (k : ℕ → Result A Fault) → ((n : ℕ) → uint p.value ≡ Ok n → Located p (k n)) → Located p (uint p.value >>= k)
 located_of_uint p k h = located_bind p (uint p.value) k (located_uint p) h
 
 -- ---- texts
 
--- a fault of a text leads to it, and so does one of what is made of the text
+-- a fault of a text leads to it
 pub located_text : (p : Spot) → Located p (text p.value)
 located_text p = located_or_else p (as_str p.value) what.NotText (λ e. e)
 
@@ -58,7 +58,7 @@ text_is j s e = is_there (as_str j) what.NotText s e
 pub located_of_text : {A : Type 0} (p : Spot) (k : List ℕ → Result A Fault) → ((s : List ℕ) → as_str p.value ≡ Some s → Located p (k s)) → Located p (text p.value >>= k)
 located_of_text p k h = located_bind p (text p.value) k (located_text p) (λ s e. h s (text_is p.value s e))
 
--- a fault of bytes leads to their text, and so does one of what is made of the bytes
+-- a fault of bytes leads to their text
 pub located_bytes : (p : Spot) → Located p (bytes p.value)
 located_bytes p = located_of_text p base64 (λ s is. located_or_else p (result_ok (decode_of standard s)) what.BadBase64 (λ e. (s, is, e)))
 
@@ -84,7 +84,7 @@ located_if p false x w h = located_here p w (h refl)
 pub located_refused : {A : Type 0} (p : Spot) (b : Bool) (x : A) (w : What) → (cond b (Ok x) (Err (here w)) ≡ Err (here w) → IsWrong p.document w p.path p.value) → Located p (cond b (Ok x) (Err (here w)))
 located_refused p b x w h = located_if p b x w (λ out. h (cond-false b (Ok x) (Err (here w)) out))
 
--- a fault of an id, a next id or a schema leads to where it says
+-- a fault of an id, also one not below the end of ids, leads to the id
 pub located_id_below : (next : Option ℕ) (p : Spot) → next_id_of p.document ≡ Ok next → Ends (codes "id") p.path → Located p (id_below (end_of_ids next) p.value)
 located_id_below next p given ends = located_of_uint p (in_range (end_of_ids next)) (λ n e. located_refused p (nat_le 1 n && nat_lt n (end_of_ids next)) n what.IdRange (λ out. inr (ends, (next, given, then _ _ _ _ e out))))
 

@@ -156,7 +156,7 @@ checked_located : (p : Spot) (code : List ℕ) (r : Result WellFormed CheckFault
 checked_located p code (Ok w) h = record { located = tt }
 checked_located p code (Err f) h = located_here p _ (h f refl)
 
--- a fault of code or of a program leads to the value that gives it
+-- a fault of code leads to the value that gives it
 pub located_checked_code : (p : Spot) (code : List ℕ) → ((f : CheckFault) → checked code ≡ Err f → IsWrong p.document (what.Program f) p.path p.value) → Located p (checked_code code)
 located_checked_code p code h = checked_located p code (checked code) h
 

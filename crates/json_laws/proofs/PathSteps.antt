@@ -88,7 +88,7 @@ needed_located : {A : Type 0} (name : List ℕ) → list_all is_plain name ≡ t
 needed_located name plain meaning p None is e h = record { located = ((p.value, p.leads, (is, e)), (plain, tt)) }
 needed_located name plain meaning p (Some v) is e h = located_step (at_name name) plain p v (meaning v) e (h v e)
 
--- a fault of a member, needed or not, leads to where it says
+-- a fault of a needed member leads to where it says, also where the member is missing
 pub located_needed : {A : Type 0} (name : List ℕ) → list_all is_plain name ≡ true → (meaning : Json → Result A Fault) (p : Spot) → IsObject p.value → ReadsMember p name meaning → Located p (needed name meaning p.value)
 located_needed name plain meaning p is h = needed_located name plain meaning p (member name p.value) is refl h
 

@@ -48,7 +48,7 @@ needed_first n bytes more all = then (line_bytes (spelled_line n bytes)) bytes (
 
 -- ---- ledgers
 
--- a ledger that keeps the rules, and is not too large to count, is read from the first line
+-- a ledger spelled in bytes that keeps the rules and is countable is read from the first line
 pub ledger_first : (n : ℕ) (l : Ledger) (more : List DigitLine) → KeepsRules l → IsCountable l → AreBytes (ledger_bytes l) → first_ledger (spelled_line n (ledger_bytes l) ∷ more) ≡ Ok (l, more)
 ledger_first n l more keeps countable all =
     then (needed_bytes (spelled_line n (ledger_bytes l) ∷ more)) (ledger_bytes l, more) (λ first. on_ledger (ledger_at first.0) >>= λ k. Ok (k, first.1)) (Ok (l, more)) (needed_first n (ledger_bytes l) more all)
@@ -86,7 +86,6 @@ call_back_checked c is = ap (λ r. on_bytes r >>= λ fields. unless_broken field
 more_left : (a b : List ℕ) → 0 < length a → 0 < length (a ++ b)
 more_left a b h = omega (arith, length-append a b)
 
--- the bytes of ledgers, headers and calls are not empty
 pub ledger_not_empty : (l : Ledger) → 0 < length (ledger_bytes l)
 ledger_not_empty l = omega arith
 

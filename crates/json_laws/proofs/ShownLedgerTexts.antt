@@ -39,7 +39,7 @@ use Rattle.json_laws.proofs.TextsBack.{IsShown, array_shown, beside, deeper, obj
 
 -- ---- plain values
 
--- bytes in base64 or in digits, and addresses, have a text that is read back
+-- what is shown in base64 has a text that is read back
 pub base64_shown : (d : ℕ) (s : List ℕ) → IsShown d (base64 s)
 base64_shown d s = text_shown d (encode_of standard s) (IsUtf8-from_ascii (encode_of standard s) (IsAscii-encode_of standard s))
 
@@ -115,7 +115,7 @@ module _ (l : Ledger) (rules : KeepsRules l) (of : IsWholeLedgerOfBytes l) where
   owners_of_bytes : All (λ e. AreBytes e.0.0) (map local_of l.local_states)
   owners_of_bytes = All-map (λ e. AreBytes e.0.0) local_of l.local_states (λ k e lt. (of.local_states k e lt).account)
 
-  -- the accounts and applications of a ledger are shown with a text, nested at most 7 deep
+  -- the accounts of a ledger, nested at most 7 deep, have a text that is read back
   pub accounts_shown : IsShown 7 (shown_accounts l)
   unfolding HasAll
   accounts_shown =

@@ -19,7 +19,7 @@ abbrev pub joined : List ℕ → List (List ℕ) → List ℕ
 joined front [] = front
 joined front (p ∷ ps) = joined (front ++ p) ps
 
--- bytes that start a list of bytes are bytes
+-- the front of a list of bytes is of bytes
 pub front_part : (x y : List ℕ) → AreBytes (x ++ y) → AreBytes x
 front_part x y all = front_all (λ b. b < 256) x y all
 
@@ -32,7 +32,7 @@ each_part spelling P [] f all = All-nil P
 each_part spelling P (x ∷ xs) f all =
     All-cons P x xs (f x (front_part (spelling x) (flat_map spelling xs) all)) (each_part spelling P xs f (rest_part (spelling x) (flat_map spelling xs) all))
 
--- what is spelled behind its count has parts of bytes
+-- what holds of each element spelled in bytes holds of all in a counted list spelled in bytes
 pub counted_part : {A : Type 0} (count : ℕ → List ℕ) (spelling : A → List ℕ) (P : A → Type 0) (xs : List A) → ((x : A) → AreBytes (spelling x) → P x) → AreBytes (counted_bytes count spelling xs) → All P xs
 counted_part count spelling P xs f all = each_part spelling P xs f (rest_part (count (length xs)) (flat_map spelling xs) all)
 

@@ -67,7 +67,7 @@ pub record IsTextOf (s : List ℕ) (j : Json) : Type 0 where
   pub utf8 : is_utf8 s ≡ true
   pub value : value_of_text s ≡ Some j
 
--- a value that is nested no deeper than may be is read back from its text
+-- a value of plain tokens, nested no deeper than may be, is read back from its text
 pub text_back : (j : Json) → IsShown most_nested j → IsTextOf (document_text j) j
 text_back j h =
     let ts = json_tokens j in
@@ -90,7 +90,7 @@ deeper d e j le h = record { plain = h.plain; shallow = omega (arith, h.shallow)
 bracket_plain : (t : Token) → IsPrintable t → is_in_range t ≡ true → are_ascii (token_text t) ≡ true → IsPlain t
 bracket_plain t printable ranged small = record { printable = printable; ranged = ranged; utf8 = IsUtf8-are_ascii (token_text t) small }
 
--- texts in UTF-8, and numbers below 2^64, have a text that is read back
+-- a string in UTF-8 has a text that is read back
 pub text_shown : (d : ℕ) (s : List ℕ) → IsUtf8 s → IsShown d (text s)
 text_shown d s u = record { plain = (record { printable = tt; ranged = refl; utf8 = IsUtf8-quoted s u }, tt); shallow = omega arith }
 

@@ -146,7 +146,7 @@ unfolding lex
 same_lexemes ps gaps h =
     lex_spaced (10 ∷ []) refl false ps gaps h ∙ sym (lex_spaced [] refl false ps gaps h) ∙ ap (lex between) (append-nil (print_spaced false ps))
 
--- tokens are read back from their text
+-- printable tokens are read back from their text
 pub tokens_back : (ts : List Token) → ArePrintable ts → tokens (pretty ts ++ codes "\n") ≡ ts
 tokens_back ts h =
     let ps = spaced (nothing, 0) ts in

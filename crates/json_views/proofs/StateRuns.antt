@@ -180,7 +180,7 @@ abbrev pub WrittenOn : WellFormed → Option Debugged → List Token → List To
 WrittenOn p None start out n total goes_on = ⊥
 WrittenOn p (Some d) start out n total goes_on = WrittenState d.ledger d.call d.header p (start ++ begin_array ∷ []) out n total goes_on
 
--- a state that is written is one more
+-- where n states were written and the stepper's state is, the first n + 1 were written
 pub written_on : (p : WellFormed) (d now : Option Debugged) (start old new : List Token) (n total weight more : ℕ) (goes_on : Bool) → StatesOn p d now start old n total → WritesState p now old new weight goes_on → more ≤ total + weight
     → WrittenOn p d start new n more goes_on
 written_on p None now start old new n total weight more goes_on s w sum = absurd s
@@ -191,7 +191,7 @@ pub next_on : (p : WellFormed) (d now after : Option Debugged) (start old out : 
 next_on p None now after start old out n total more s w steps = absurd s
 next_on p (Some d) now after start old out n total more s w steps = goes_on d.ledger d.call d.header p now after (start ++ begin_array ∷ []) old out n total more s w steps
 
--- where it goes on, only a lack of memory can refuse the step
+-- where an instruction comes next, only a lack of memory can refuse the step
 pub never_on : (p : WellFormed) (d now after : Option Debugged) (start old out : List Token) (n total more : ℕ) (f : StepFault) → StatesOn p d now start old n total → WrittenOn p d start out n more true → StepsTo now after (Err (failure.Fault f)) → ⊥
 never_on p None now after start old out n total more f s w steps = s
 never_on p (Some d) now after start old out n total more f s w steps = never_ended d.ledger d.call d.header p now after (start ++ begin_array ∷ []) old out n total more f s w steps
@@ -201,22 +201,22 @@ abbrev pub HeavyOn : Option Debugged → Type 0
 HeavyOn None = ⊥
 HeavyOn (Some d) = IsHeavy d.ledger d.call d.header
 
--- so it is where what was written weighs more than such a text
+-- states are too heavy where those written weigh more than the text of a trace may have
 pub heavy_on : (p : WellFormed) (d now : Option Debugged) (start old out : List Token) (n total more : ℕ) (goes_on : Bool) → StatesOn p d now start old n total → WrittenOn p d start out n more goes_on → most_text < more → HeavyOn d
 heavy_on p None now start old out n total more goes_on s w lt = s
 heavy_on p (Some d) now start old out n total more goes_on s w lt = heavy_now d.ledger d.call d.header p now (start ++ begin_array ∷ []) old out n total more goes_on s w lt
 
--- so it is where more states were written than such a text has bytes
+-- states are too heavy where more were written than the text of a trace may have bytes
 pub heavy_end : (p : WellFormed) (d now : Option Debugged) (start old : List Token) (n total : ℕ) → StatesOn p d now start old n total → most_text < n → HeavyOn d
 heavy_end p None now start old n total s lt = s
 heavy_end p (Some d) now start old n total s lt = heavy_after d.ledger d.call d.header n s.made.can_go lt
 
--- where it does not go on and the array is closed, all states were written
+-- where no instruction comes next and the array is closed, all states were written
 pub all_on : (p : WellFormed) (d now : Option Debugged) (start old out new : List Token) (n total more : ℕ) → StatesOn p d now start old n total → WrittenOn p d start out n more false → new ≡ out ++ end_array ∷ [] → AddsStates p d now start new
 all_on p None now start old out new n total more s w ends = absurd s
 all_on p (Some d) now start old out new n total more s w ends = all_states d.ledger d.call d.header p now start (start ++ begin_array ∷ []) old out new n total more s w refl ends
 
--- then the states are refused as too long
+-- states that are too heavy for the text of a trace may be refused as too long
 pub too_long : (d : Option Debugged) → HeavyOn d → IsStatesFailure d (failure.Fault refusal.TooLong)
 too_long None heavy = absurd heavy
 too_long (Some d) heavy = heavy

@@ -12,7 +12,7 @@ module _ {V : Type 0} where
   found t v [] = v
   found t v (w ∷ ws) = if nat_le w.timestamp t then found t w ws else v
 
-  -- where the first version is not above a timestamp, the newest one that is not is found so
+  -- where the first version is not above a timestamp, `found` gives the newest that is not
   pub newest_at-found : (t : ℕ) (v : Version V) (ws : List (Version V)) (d : Version V) → v.timestamp ≤ t → newest_at t (v ∷ ws) d ≡ found t v ws
   newest_at-found t v [] d h = rw (le-leb v.timestamp t h) refl
   newest_at-found t v (w ∷ ws) d h = rw (le-leb v.timestamp t h) (at_test (nat_le w.timestamp t) (at_most w.timestamp t) (λ k. newest_at-found t w ws d k))
@@ -54,7 +54,7 @@ module _ {V : Type 0} where
   from low v [] = v ∷ []
   from low v (w ∷ ws) = if nat_le w.timestamp low then from low w ws else v ∷ w ∷ ws
 
-  -- pruning at a low mark leaves these of a chain
+  -- `from` gives the versions that pruning at a low mark leaves of a chain
   pub versions_from-from : (low : ℕ) (v : Version V) (ws : List (Version V)) → AreRising v.timestamp ws → versions_from low (v ∷ ws) ≡ from low v ws
   versions_from-from low v [] r = at_test (nat_le v.timestamp low)
     where
@@ -164,7 +164,7 @@ module _ {V : Type 0} where
       at_test true = refl
       at_test false = refl
 
-  -- a read not below the first version leaves these two parts
+  -- after a read not below the first version, the chain is `first_read` and then `others_read`
   pub versions_read_at-first : (r : ℕ) (v : Version V) (ws : List (Version V)) → v.timestamp ≤ r → versions_read_at r (v ∷ ws) ≡ first_read r v ws ∷ others_read r v ws
   versions_read_at-first r v [] h = rw (le-leb v.timestamp r h) refl
   versions_read_at-first r v (w ∷ ws) h = rw (le-leb v.timestamp r h) (at_test (nat_le w.timestamp r) (at_most w.timestamp r) (λ k. versions_read_at-first r w ws k))

@@ -152,14 +152,14 @@ module _ {V : Type 0} where
       let below : u.timestamp ≤ n = first_not_above n u us (omega (arith, count, some)) in
       (below, is ∙ ap (λ j. get_or (u ∷ us) (j - 1) v) count ∙ newest_at-found n u us v below)
 
-  -- the mark at a timestamp is that of the newest version not above it, where that one has it
+  -- where the newest version not above a timestamp is at it, the mark there is that version's
   pub mark_in-held : (n i : ℕ) (vs : List (Version V)) (v : Version V) → IsChain vs → i ≡ count_not_above n vs → i ≢ 0 → v ≡ get_or vs (i - 1) v → v.timestamp ≡ n → v.mark ≡ mark_in n vs
   mark_in-held n i [] v c count some is here = absurd c
   mark_in-held n i (u ∷ us) v c count some is here =
       let f = held-found n i u us v count some is in
       ap (λ (w : Version V). w.mark) f.1 ∙ sym (mark_in-found n u us c) ∙ ap (λ m. mark_in m (u ∷ us)) (ap (λ (w : Version V). w.timestamp) (sym f.1) ∙ here)
 
-  -- the mark at a timestamp is 0 where the newest version not above it has another one
+  -- where the newest version not above a timestamp is not at it, the mark there is 0
   pub mark_in-not_held : (n i : ℕ) (vs : List (Version V)) (v : Version V) → IsChain vs → i ≡ count_not_above n vs → i ≢ 0 → v ≡ get_or vs (i - 1) v → v.timestamp ≢ n → 0 ≡ mark_in n vs
   mark_in-not_held n i [] v c count some is other = absurd c
   mark_in-not_held n i (u ∷ us) v c count some is other =

@@ -61,7 +61,7 @@ module _ {Item Value Outcome V : Type 0} (give : Value → V) (same : Item → I
   marked_raised x None t n vs h above = record { more = omega arith; not_more = omega arith }
   marked_raised x (Some value) t n vs h above = read_raised x t n vs h above
 
-  -- where an entry read an item, the version below is marked at its timestamp or above
+  -- after a read of an item, the newest version not above its timestamp has at least that mark
   pub marked_found : (x : Item) (o : Option Value) (t : ℕ) (vs : List (Version V)) → IsSome o → HoldsVersions give same base from es x vs → from ≤ t → t ≤ mark_in (version_below same base es (suc t) x).0 (marked_where o t vs)
   marked_found x None t vs some h above = absurd cc
   marked_found x (Some value) t vs some h above = read_marked x t vs h above

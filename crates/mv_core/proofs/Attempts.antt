@@ -34,7 +34,7 @@ module _ {Item Value : Type 0} where
       by b (equal e) is rest = absurd (omega (arith, is))
       by b (unequal e) is rest = let reads = reads_other slots s a.number n above e in let later = rest (omega (arith, is)) in λ i. record a { reads = reads i } ∷ later i
 
-  -- a call has as many live attempts with their reads as without
+  -- how many live attempts a call has does not depend on their reads
   pub count_in : (slots : AttemptSlots Item Value) (n : ℕ) (live : List (Attempt Item Value)) → live_count n (live_in slots live) ≡ live_count n live
   count_in slots n [] = refl
   count_in slots n (a ∷ as') = ap (λ m. (if a.number == n then 1 else 0) + m) (count_in slots n as')
@@ -59,7 +59,7 @@ module _ {Item Value : Type 0} where
       by true rest = refl
       by false rest = rest
 
-  -- a call is live at a timestamp with its reads where it is without, and the other way round
+  -- whether a call is live at a timestamp does not depend on its reads
   pub live_here : (slots : AttemptSlots Item Value) (live : List (Attempt Item Value)) (n t : ℕ) → HasLiveNumber live n t → HasLiveNumber (live_in slots live) n t
   live_here slots live n t k = record { attempt = record (k.attempt) { reads = reads_of_call slots k.attempt.number }; live = attempt_at-in slots t live ∙ ap (with_reads slots) k.live; number = k.number }
 
@@ -152,7 +152,7 @@ module _ {Item Value : Type 0} where
   live_pushed slots [] a = refl
   live_pushed slots (b ∷ bs) a = ap (λ l. record b { reads = reads_of_call slots b.number } ∷ l) (live_pushed slots bs a)
 
-  -- an attempt that begins comes last of the live ones, and stands in its call's slot
+  -- an attempt that begins in its idle call's slot comes last, and the live ones keep their reads
   pub live_begun : (slots : AttemptSlots Item Value) (live : List (Attempt Item Value)) (n t : ℕ) → 0 < n → n - 1 < length slots → live_count n live ≡ 0
       → live_in (set slots (n - 1) (Some (fresh_attempt n t))) (live ++ fresh_attempt n t ∷ []) ≡ live_in slots live ++ fresh_attempt n t ∷ []
   live_begun slots live n t above within none =
@@ -188,7 +188,7 @@ module _ {Item Value : Type 0} where
       by true rest = rest
       by false rest = ap (λ l. record a { reads = reads_of_call slots a.number } ∷ l) rest
 
-  -- an attempt that ends leaves the live ones, and the slot of its call
+  -- where an attempt ends and its call's slot is emptied, the other live ones keep their reads
   pub live_ended : (slots : AttemptSlots Item Value) (live : List (Attempt Item Value)) (n t : ℕ) → 0 < n → HasLiveNumber live n t → live_count n live ≤ 1 → live_in (set slots (n - 1) None) (attempts_without t live) ≡ attempts_without t (live_in slots live)
   live_ended slots live n t above k once = live_others slots None n (attempts_without t live) above (ended n t live k once) ∙ without_in slots t live
 
@@ -213,7 +213,7 @@ module _ {Item Value : Type 0} where
       reads_found (set slots (n - 1) (Some after)) after n above (get_or-set_same slots (n - 1) (Some after) None within)
       ∙ ap (λ (a : Attempt Item Value). a.reads) more ∙ ap (λ rs. insert rs index read) (sym (reads_found slots before n above found))
 
-  -- a read joins those of the attempt in its call's slot, which is the live one
+  -- a read added in the slot of a live call is added to its live attempt, and to no other
   pub live_read : (slots : AttemptSlots Item Value) (before after : Attempt Item Value) (n t index : ℕ) (read : Item × Value) (live : List (Attempt Item Value)) → 0 < n → n - 1 < length slots → get_or slots (n - 1) None ≡ Some before
       → IsReadMore before after index read → HasLiveNumber live n t → live_count n live ≤ 1 → live_in (set slots (n - 1) (Some after)) live ≡ attempts_with_read t index read (live_in slots live)
   live_read slots before after n t index read [] above within found more k once = absurd (by k.live)

@@ -101,7 +101,7 @@ module _ (base : Ledger) (header : Header) (calls : List CallData) (w : CallWorl
   is_here : (HasLiveNumber w.live n a.timestamp) × (a.number ≡ n) × (attempt_at a.timestamp (live_in slots w.live) ≡ Some a)
   is_here = attempt_here slots w.live n a above inside here k.attempts
 
-  -- the timestamp of the commit is positive, not below the low mark, and no entry's
+  -- the timestamp of the commit is not below the low mark, positive, and that of no entry
   pub from : w.low ≤ a.timestamp
   from = found_attempt (λ (b : CallAttempt). w.low ≤ b.timestamp) a.timestamp a (live_in slots w.live) is_here.2 k.store.consistent.schedule.low_live
 
@@ -231,7 +231,7 @@ module _ (base : Ledger) (header : Header) (calls : List CallData) (w : CallWorl
       in_time = in_time_by f.writes in_time;
     }
 
-    -- each item's versions are then those that the entry makes of the old ones
+    -- after the commit, each item's versions are those that the entry makes of the old ones
     pub versions_new : (x : Item) → versions_for new x ≡ after_entry (λ value. value) same_item e (versions_for shard_slots) x
     versions_new x =
         versions_written a.timestamp a.reads f.writes shard_slots new written x (held_all base w.low shard_slots k.shards x)

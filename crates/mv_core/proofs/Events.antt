@@ -236,7 +236,7 @@ module _ (base : Ledger) (header : Header) (calls : List CallData) (w : CallWorl
           others = refl;
         }
 
-    -- so it does after an item is read again
+    -- after an item is read again the store keeps its facts, and shows that read
     pub kept_again : shard.IsReadAgain s new before after x v
         → IsKeptStore base header calls w (set shard_slots (shard_of x) (Some new)) new_slots × IsReadAgain (store_shown base header calls w shard_slots slots) (store_shown base header calls w (set shard_slots (shard_of x) (Some new)) new_slots) n before.timestamp x v
     kept_again read =

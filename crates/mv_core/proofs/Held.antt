@@ -54,7 +54,7 @@ marks_of_slots shard_slots chains = marks_listed same_item (versions_for shard_s
 
 -- ---- a read
 
--- a read leaves each item the versions that it makes of the old ones
+-- after a read of an item, each item has the versions that the read makes of the old ones
 pub versions_after_read : (shard_slots : ShardSlots) (x : Item) (t : ℕ) (s : Shard) → shard_for shard_slots x ≡ Some s → (y : Item)
     → versions_for (set shard_slots (shard_of x) (Some (record s { chains = with_versions s.chains x (versions_read_at t (versions_held s x)) }))) y ≡ after_item_read same_item t x (versions_for shard_slots) y
 versions_after_read shard_slots x t s here y = by (shard_of y == shard_of x) (equals (shard_of y) (shard_of x))

@@ -28,7 +28,7 @@ raised {V} t n (v ∷ vs) chain old = by ((newest_at t (v ∷ vs) v).timestamp =
     by true h = omega (arith, h)
     by false h = omega (arith, h)
 
--- after a read the marks of the journal's own versions are not above those of the shards
+-- from the low mark on, the journal's own marks are still not above the shards' after a read
 pub below_read : (base : Ledger) (low t : ℕ) (es : List CallEntry) (index all new : Item → List (Version ItemValue)) (x : Item) → IsChain (all x) → oldest_timestamp (all x) ≤ t
     → ((y : Item) → new y ≡ after_item_read same_item t x all y) → AreMarksBelow base low es index all → AreMarksBelow base low es index new
 below_read base low t es index all new x chain old is below y n counts = by (same_item y x) refl (is y)
@@ -55,7 +55,7 @@ more_after (Some value) found t n a b h = by (found == n)
     by false = h
 
 module _ (base : Ledger) (es : List CallEntry) (rising : IsRising 0 es) (e : CallEntry) (positive : 0 < e.timestamp) (fresh : AllByRecursion (λ f. f.timestamp ≢ e.timestamp) es) where
-  -- after a commit the journal's own marks are not above those of the shards
+  -- from the low mark on, the journal's own marks are still not above the shards' after a commit
   pub below_commit : (low : ℕ) (index all new_index new : Item → List (Version ItemValue)) → low ≤ e.timestamp → HoldEntries (λ value. value) same_item (at base) 0 es index → HoldEntries (λ value. value) same_item (at base) low es all
       → ((x : Item) → new_index x ≡ after_entry (λ value. value) same_item e index x) → ((x : Item) → new x ≡ after_entry (λ value. value) same_item e all x)
       → AreMarksBelow base low es index all → AreMarksBelow base low (entries_with e es) new_index new

@@ -31,7 +31,7 @@ still_empty (x ∷ xs) h (suc i) = still_empty xs (λ k. h (suc k)) i
 pub one_more_empty : (n : ℕ) (xs : List (Option CallAttempt)) → AreEmpty n xs → AreEmpty (n + 1) (xs ++ None ∷ [])
 one_more_empty n xs k = record { are = omega (arith, length-append xs (None ∷ []), k.are); each = still_empty xs k.each }
 
--- a store in which no call has begun keeps its facts
+-- a store over an orderly ledger in which no call has begun keeps its facts
 pub kept_first : (base : Ledger) (header : Header) (calls : List CallData) (slots : CallSlots) → IsOrderly base → AreEmpty (length calls) slots → IsKeptStore base header calls first_world (first_slots base) slots
 kept_first base header calls slots orderly empty = record {
   orderly = orderly;

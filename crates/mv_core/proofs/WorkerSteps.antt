@@ -396,7 +396,7 @@ beyond_last s ws i (event.Commit k) own past = ap (by_worker (running_of s ws) (
 beyond_last s ws i (event.Abandon k) own past = ap (by_worker (running_of s ws) (λ a. with_worker (running_of s ws) (after_abandon s.world a.timestamp) k None)) (ap (λ j. get_or (map attempt_of ws) j None) (same_Some _ _ own) ∙ none_beyond ws i past)
 beyond_last s ws i (event.Prune t) own past = absurd cc
 
--- an event of a worker that is not there changes nothing
+-- an event of a worker that is not there is a step that changes nothing
 pub nothing_done : (s : Store) (ws : List Worker) (i : ℕ) (e : Event) → worker_in e ≡ Some i → length ws ≤ i → AreSound (input_of s) ws → IsStep e s s ws ws
 nothing_done s ws i e own past sound = record {
   input = refl;
@@ -406,7 +406,7 @@ nothing_done s ws i e own past sound = record {
 
 -- ---- a prune
 
--- a prune of the store is a step that leaves the workers
+-- a prune of the store is a step that leaves the workers as they are
 pub pruned_step : (old new : Store) (ws : List Worker) (t : ℕ) → IsPrune old new t → AreSound (input_of old) ws → IsStep (event.Prune t) old new ws ws
 pruned_step old new ws t h sound = record {
   input = ap input_of h.others;

@@ -24,7 +24,7 @@ module _ {Item Value : Type 0} where
       at_test c (equal k) rest = rest
       at_test c (unequal k) rest = (k, rest)
 
-  -- what holds of each live attempt holds after a read, where its reader keeps it
+  -- what holds of each live attempt holds after a read, where it still holds of the one that read
   pub all_with_read : (P : Attempt Item Value → Type 0) (t index : ℕ) (read : Item × Value) (live : List (Attempt Item Value))
       → ((a : Attempt Item Value) → a.timestamp ≡ t → P a → P (record a { reads = insert a.reads index read })) → AllByRecursion P live → AllByRecursion P (attempts_with_read t index read live)
   all_with_read P t index read [] f h = tt
@@ -51,7 +51,7 @@ module _ {Item Value : Type 0} where
       at_test c (equal k) e rest = subst (λ x. x.timestamp ≡ t) (same_Some _ _ e) k
       at_test c (unequal k) e rest = rest e
 
-  -- an attempt that begins leaves the others, and is found at its own fresh timestamp
+  -- after an attempt has begun the others are still found, and it is found at its fresh timestamp
   pub attempt_at-push : (t : ℕ) (a b : Attempt Item Value) (live : List (Attempt Item Value)) → attempt_at t live ≡ Some a → attempt_at t (live ++ b ∷ []) ≡ Some a
   attempt_at-push t a b [] h = absurd cc
   attempt_at-push t a b (c ∷ cs) h = at_test (c.timestamp == t) h (λ e. attempt_at-push t a b cs e)
@@ -72,7 +72,7 @@ module _ {Item Value : Type 0} where
       at_test d (equal k) rest = absurd (h.0 k)
       at_test d (unequal k) rest = rest
 
-  -- a read is added to the attempt at its timestamp and leaves the others
+  -- a read is added to the attempt at its timestamp, and the others stay as they are
   pub attempt_at-with_read : (t index : ℕ) (read : Item × Value) (a : Attempt Item Value) (live : List (Attempt Item Value)) → attempt_at t live ≡ Some a
       → attempt_at t (attempts_with_read t index read live) ≡ Some (record a { reads = insert a.reads index read })
   attempt_at-with_read t index read a [] h = absurd cc
@@ -98,7 +98,7 @@ module _ {Item Value : Type 0} where
       at_test c (equal k) rest = at_same k (b.timestamp == s) (equals b.timestamp s)
       at_test c (unequal k) rest = ap (λ o. if b.timestamp == s then Some b else o) rest
 
-  -- the end of an attempt leaves those at other timestamps
+  -- the end of an attempt does not change which attempts are found at other timestamps
   pub attempt_at-without : (s t : ℕ) (live : List (Attempt Item Value)) → s ≢ t → attempt_at s (attempts_without t live) ≡ attempt_at s live
   attempt_at-without s t [] other = refl
   attempt_at-without s t (b ∷ bs) other = at_test (b.timestamp == t) (equals b.timestamp t) (attempt_at-without s t bs other)

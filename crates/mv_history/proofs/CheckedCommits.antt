@@ -56,7 +56,7 @@ module _ {Item Value : Type 0} (t : ℕ) (reads : List (Item × Value)) where
       at_test false rest = ap (λ m. (if b.number == n then 1 else 0) + m) rest
 
 module _ {Item Value Outcome : Type 0} (same : Item → Item → Bool) (Proper : (Item → Value) → Type 0) (means : CallMeaning Item Value Outcome) (base : Item → Value) where
-  -- a commit whose reads are checked anew keeps the facts, where it marks them
+  -- a commit in time, whose reads are checked anew and then marked, keeps the facts
   pub consistent_after_checked_commit : ((x y : Item) → same x y ≡ true → x ≡ y) → (mark mark' : Item → ℕ → ℕ) (clock low : ℕ) (es : List (Entry Item Value Outcome)) (live : List (Attempt Item Value)) (a : Attempt Item Value) (e : Entry Item Value Outcome)
       → attempt_at e.timestamp live ≡ Some a → e.number ≡ a.number → IsFinished same Proper means e
       → Agrees e.reads (state_below same base es e.timestamp) → IsInTime same base mark es e

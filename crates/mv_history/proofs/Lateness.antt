@@ -64,7 +64,7 @@ module _ {Item : Type 0} (same : Item → Item → Bool) (equality : IsEquality 
       at_item true e c (unequal f) positive rest = later (greatest_mark same ms x v) (rest positive)
       at_item false e c f positive rest = later (greatest_mark same ms x v) (rest positive)
 
-  -- no mark of a version is above its greatest mark
+  -- no mark of a version is above the greatest one of that version
   pub reader-at_most : (ms : List (Mark Item)) (m : Mark Item) (k : ℕ) → k < length ms → get_or ms k m ≡ m → m.reader ≤ greatest_mark same ms m.item m.version
   reader-at_most [] m k h is = absurd (omega arith)
   reader-at_most (n ∷ ms) m zero h is = rw (is, equality.itself m.item) (at_test (m.version == m.version) (equals m.version m.version))

@@ -138,7 +138,7 @@ module _ {Item Value Outcome : Type 0} (same : Item → Item → Bool) (base : I
   after_same_event w v r h (Prune t marks) (Commit e) is = absurd cc
   after_same_event w v r h (Prune t marks) (Abandon u) is = absurd cc
 
-  -- what commits in time commits so in the same world, from the low mark on
+  -- what commits in time in a world, from the low mark on, does so in each world that is the same
   pub in_time-same : (w v : World Item Value Outcome) → IsRising 0 w.entries → IsSameWorld same base w v → (e : Entry Item Value Outcome) → w.low ≤ e.timestamp
       → IsInTime same base (greatest_mark same w.marks) w.entries e → IsInTime same base (greatest_mark same v.marks) v.entries e
   in_time-same w v r h e above in_time =

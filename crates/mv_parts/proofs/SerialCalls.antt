@@ -127,7 +127,7 @@ every_consistent_world_of_calls_is_serial_lem theorem base header calls orderly 
 
 -- ---- one more event
 
--- the first world is one of the calls, and each event that applies leads to another
+-- the first world is one of the calls, and each event of the calls that applies leads to another
 pub calls_lead_on : EveryEventOfCallsLeadsOn
 calls_lead_on base header calls = (
   record { events = []; begin_calls = tt; apply = tt; lead_here = refl },

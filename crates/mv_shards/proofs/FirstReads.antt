@@ -62,7 +62,7 @@ first_read_seen index low base map new before after x v above in_time first k n 
           (touched_with (at base) low map new x (versions_read_at t (versions_of (at base) map x)) k n (marked_touched t (versions_of (at base) map x) above (k.chains x)) read.marked ∙ ap (λ vs. with_versions (touched map) x (versions_read_at t vs)) (sym found));
     }
 
--- where nothing changes of what is seen of the chains, nothing does of the shard
+-- where what is seen of the chains stays the same, what is seen of the shard stays the same
 pub refused_seen : (index low : ℕ) (base : Ledger) (map new : ChainMap ItemValue) → touched new ≡ touched map → seen_as index low base new ≡ seen_as index low base map
 refused_seen index low base map new same = ap (λ cs. record { index = index; low = low; base = base; chains = cs }) same
 

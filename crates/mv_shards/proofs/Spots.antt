@@ -33,7 +33,7 @@ spot_there parts x spot h = subst (λ i. IsSome (get_or parts i None)) (sym h.sh
 pub spot_within : (parts : Parts) (x : Item) (spot : Spot) → IsSpot parts x spot → spot.shard < length parts
 spot_within parts x spot h = some_within parts spot.shard (spot_there parts x spot h)
 
--- what is found at its index, whatever is given beyond the slots, is that part
+-- the part found at the index of a spot does not depend on the default
 pub spot_here : (parts : Parts) (x : Item) (spot : Spot) (d : Option Part) (p : Part) → IsSpot parts x spot
     → get_or parts spot.shard d ≡ Some p → get_or parts spot.shard None ≡ Some p
 spot_here parts x spot d p h found = here_at parts spot.shard x d p h.shard (spot_held parts x spot h) found
@@ -64,7 +64,7 @@ one_there parts x y spot h k =
 
 -- ---- many
 
--- what follows for each item beside another thing follows for all of them
+-- where one relation implies another, items beside things by the first are so by the second
 pub beside_each : {B : Type 0} (P Q : Item × ItemValue → B → Type 0) → ((e : Item × ItemValue) (b : B) → P e b → Q e b)
     → (es : ItemMap) (bs : List B) → AreBeside P es bs → AreBeside Q es bs
 beside_each P Q f [] [] h = tt

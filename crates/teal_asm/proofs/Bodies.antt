@@ -37,7 +37,7 @@ pub list_any-push : {A : Type 0} (p : A → Bool) (xs : List A) (x : A) → list
 list_any-push p [] x = or_false (p x)
 list_any-push p (y ∷ ys) x = ap (λ b. p y || b) (list_any-push p ys x) ∙ or_assoc (p y) (list_any p ys) (p x)
 
--- what one more statement adds to the constants, the labels and the commands
+-- what one more statement adds to the gathered numbers
 pub uints-push : (ss : List Statement) (s : Statement) → gathered_uints (ss ++ s ∷ []) ≡ distinct nat_eq (gathered_uints ss) (gathered_uint s.command)
 uints-push ss s =
     ap (distinct nat_eq []) (flat_map-push (λ (t : Statement). gathered_uint t.command) ss s)
@@ -69,7 +69,7 @@ at_most_one : (c : Option Command) → commands_in c ≤ 1
 at_most_one None = omega arith
 at_most_one (Some c) = omega arith
 
--- a statement has at most one command
+-- there are at most as many commands as statements
 pub command_count-le : (ss : List Statement) → command_count ss ≤ length ss
 command_count-le [] = omega arith
 command_count-le (s ∷ ss) = omega (arith, at_most_one s.command, command_count-le ss)

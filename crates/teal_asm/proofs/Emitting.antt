@@ -133,7 +133,7 @@ places_small is places p k = elim (cases_lt k (length is + 1)) [
   | inr ge ↦ omega (arith, get_or_past places k 0 (omega (arith, p.count)))
 ]
 
--- from behind a branch to its target it is as far as the instructions between them are long
+-- the distance from behind a branch to its target is the size of the instructions between
 pub branch_offset : (is : List Meant) (places : List ℕ) (n t : ℕ) → ArePlaces is places → n < length is
     → get_or places (min t (length places - 1)) 0 - get_or places (n + 1) 0 ≡ total_size (take (t - (n + 1)) (drop (n + 1) is))
 branch_offset is places n t p lt =

@@ -49,7 +49,7 @@ pub not_from_test : (b : Bool) (i : ℕ) → cond b (Some i) None ≡ None → b
 not_from_test true i e = absurd cc
 not_from_test false i e = refl
 
--- the place that is found is the first among the gathered strings
+-- a string is found at the first place where it stands among the gathered ones
 pub found_at : (v : List ℕ) (ks : List (Vec ℕ)) (i : ℕ) → position (λ (y : Vec ℕ). bytes_eq v y.items) ks ≡ Some i → i ≡ position_or_len (bytes_eq v) (map items ks)
 found_at v ks i e = sym (from_test _ _ i e) ∙ same_place v ks
 

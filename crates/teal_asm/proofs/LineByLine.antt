@@ -39,7 +39,7 @@ one_more version before u next l r is e = ap (λ q. on_text q >>= λ ls. stateme
     at_rest (Ok ls) = statements-append version before (words_of_line u.text (view l)) (words_of_lines u.text ls) ∙ ap (λ p. p >>= λ b. statements version b (words_of_lines u.text ls)) e
     at_rest (Err f) = refl
 
--- the lines behind one that is read give the same statements
+-- once a line is read, the lines behind it lead to the same statements as before
 pub goes_on : (version : Version) (before now : List Statement) (u next : Unread) (l : Line) → IsBehind l u next → statements version before (words_of_line u.text (view l)) ≡ Ok now → unread_statements version now next ≡ unread_statements version before u
 goes_on version before now u next l is e = ap (λ t. on_text next.lines >>= λ ls. statements version now (words_of_lines t ls)) is.text ∙ sym (one_more version before u next l (Ok now) is e)
 

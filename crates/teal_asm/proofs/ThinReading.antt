@@ -62,7 +62,7 @@ pub record HasRead (version : Version) (kept : List Statement) (left whole : Unr
 pub nothing_read : (version : Version) (kept : List Statement) (u : Unread) → kept ≡ [] → HasRead version kept u u
 nothing_read version kept u none = record { all = []; thins = subst (λ x. Thins x []) (sym none) (thins_itself []); reads = refl }
 
--- a line is read, and what is kept of its statements is kept of all
+-- once a line is read, what is kept of its statements and those kept before is kept of all
 pub reads_on : (version : Version) (kept now : List Statement) (u next whole : Unread) (l : Line) → HasRead version kept u whole → IsBehind l u next
     → (more : List Statement) × (statements version kept (words_of_line u.text (view l)) ≡ Ok more) × Thins now more → HasRead version now next whole
 reads_on version kept now u next whole l h is m =

@@ -41,7 +41,7 @@ behind_label placed marks numbers now number lines here m l lt at up pushed =
     let target : is_target placed number ≡ true = mark_is placed marks number true m lt at in
     next_number placed numbers now number lines here l (rw target up) (omega arith) pushed
 
--- no label stands before the instruction
+-- an instruction without a label before it takes one line
 pub without_label : (placed : List Placed) (marks : List Bool) (numbers now : List ℕ) (number lines : ℕ) → AreMarks placed marks → NumbersOn placed numbers number lines → number < length marks → get_or marks number false ≡ false
     → now ≡ numbers ++ lines ∷ [] → NumbersOn placed now (number + 1) (lines + 1)
 without_label placed marks numbers now number lines m l lt at pushed =

@@ -12,7 +12,7 @@ abbrev pub AreBytes : List ℕ → Type 0
 AreBytes [] = Unit {0}
 AreBytes (b ∷ bs) = (b < 256) × AreBytes bs
 
--- both ways to say that a list is of bytes agree
+-- a list whose elements are bytes, one after another, has a byte at each index
 pub each_is : (bs : List ℕ) → AreBytes bs → IsBytes bs
 each_is [] h i = omega arith
 each_is (b ∷ bs) h zero = h.0

@@ -130,7 +130,7 @@ global_is_plain global.LatestTimestamp = refl
 global_is_plain global.CurrentApplicationId = refl
 global_is_plain global.CreatorAddress = refl
 
--- the word of a field is a plain word
+-- the word of a field that is no array is a plain word
 pub scalar_is_plain : (n : ℕ) → is_scalar (txn_field_at n) ≡ true → is_plain_word (txn_field n) ≡ true
 scalar_is_plain n known = elim (txn_field_at n) as (λ o. is_scalar o ≡ true → is_plain_word (txn_word n o) ≡ true) [ None ↦ λ k. absurd cc | Some f ↦ λ k. txn_is_plain f ] known
 

@@ -40,7 +40,7 @@ no_comment (b ∷ bs) h =
     let first : eqb 47 b ≡ false = grind (arith, nat_tests) in
     rw first (no_comment bs parts.1)
 
--- a word of such bytes that is not empty is a plain word
+-- a word that is not empty, of bytes that pass is_word_byte, is a plain word
 pub word_is_plain : (w : List ℕ) → 0 < length w → list_all is_word_byte w ≡ true → is_plain_word w ≡ true
 word_is_plain w some h =
     let positive : ltb 0 (length w) ≡ true = grind (arith, nat_tests) in

@@ -151,7 +151,7 @@ pub front_bytes : (a b : List ℕ) → AreBytes (a ++ b) → AreBytes a × AreBy
 front_bytes [] b h = (tt, h)
 front_bytes (x ∷ a) b h = let more = front_bytes a b h.1 in ((h.0, more.0), more.1)
 
--- no spelling of numbers, of a string or of strings is shorter than the one that is written
+-- no spelling of numbers is shorter than the one that is written
 pub uints_shortest : (ns bytes : List ℕ) → AreBytes bytes → Each IsVaruint ns bytes → length (flat_map varuint ns) ≤ length bytes
 uints_shortest [] bytes are e = omega arith
 uints_shortest (n ∷ ns) bytes are (front, rest, parts, first, more) =

@@ -58,7 +58,7 @@ too_large base n ds some large =
     let test : ltb (digits_value_after base n ds) (2 ^ 64) ≡ false = grind (arith, nat_tests) in
     rw test (no_more _ _)
 
--- the same at an index of the digits
+-- the digit at an index is added to the number times the base
 pub goes_on_at : (base n d i : ℕ) (ds : List ℕ) → i < length ds → d ≡ digit_value (get_or ds i 0) → d < base → value_after base n (drop i ds) ≡ value_after base (n * base + d) (drop (i + 1) ds)
 goes_on_at base n d i ds h e lt = rw (e, add-one, drop-cons ds i 0 h) (goes_on base n (get_or ds i 0) (drop (suc i) ds) (rw (← e) lt))
 

@@ -44,7 +44,7 @@ zero_digit : number_of (48 ∷ []) ≡ Some 0
 unfolding base_of digits_of numeral_value
 zero_digit = refl
 
--- the decimal numeral of a number below 2^64 reads back as it
+-- the decimal numeral of a number below 2^64 reads back as that number
 pub decimal_back : (n : ℕ) → n < 2 ^ 64 → number_of (decimal n) ≡ Some n
 decimal_back zero lt = ap number_of (decimal_digit 0 (omega arith)) ∙ zero_digit
 decimal_back (suc k) lt =

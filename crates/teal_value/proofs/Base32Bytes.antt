@@ -33,7 +33,7 @@ front_of (a ∷ b ∷ c ∷ d ∷ e ∷ f ∷ []) long = absurd (omega arith)
 front_of (a ∷ b ∷ c ∷ d ∷ e ∷ f ∷ g ∷ []) long = absurd (omega arith)
 front_of (a ∷ b ∷ c ∷ d ∷ e ∷ f ∷ g ∷ h ∷ rest) long = refl
 
--- groups below 32 fill bytes below 256
+-- groups below 32 make bytes below 256
 pub bytes_each : (gs : List ℕ) → AllByRecursion (λ g. g < 32) gs → AllByRecursion (λ b. b < 256) (bytes_of_digits gs)
 unfolding bytes_of_digits
 bytes_each [] h = search rules

@@ -31,7 +31,7 @@ fourth_last c d x = omega arith
 fifth : (d e : ℕ) → e < 256 → (d % 4 * 8 + e / 32) % 8 * 32 + e % 32 ≡ e
 fifth d e x = omega arith
 
--- the groups that bytes make fill the same bytes
+-- the groups of bytes make the same bytes again
 pub bytes_of-groups : (bytes : List ℕ) → IsBytes bytes → bytes_of_digits (groups bytes) ≡ bytes
 unfolding groups bytes_of_digits
 bytes_of-groups [] h = refl
@@ -61,7 +61,7 @@ front_of (a ∷ b ∷ c ∷ []) long = absurd (omega arith)
 front_of (a ∷ b ∷ c ∷ d ∷ []) long = absurd (omega arith)
 front_of (a ∷ b ∷ c ∷ d ∷ e ∷ rest) long = refl
 
--- every group that bytes make is below 32
+-- every group of bytes is a number below 32
 pub groups_each : (bytes : List ℕ) → IsBytes bytes → AllByRecursion (λ v. v < 32) (groups bytes)
 unfolding groups
 groups_each [] h = search rules

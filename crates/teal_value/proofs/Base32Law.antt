@@ -58,7 +58,7 @@ read_spelling bytes rest small none tail =
     let text = map symbol (groups bytes) in
     read (text ++ rest) text rest bytes (length text) (count_symbols (groups bytes) rest each none) (take-append_seam text rest) (drop-append_seam text rest) (ap bytes_of_digits (groups_back (groups bytes) each) ∙ bytes_of-groups bytes small) refl tail
 
--- a base32 text of bytes is decoded as them
+-- a base32 text of bytes decodes to those bytes
 pub reads : (text bytes : List ℕ) → IsBytes bytes × IsBase32 text bytes → base32_decoded text ≡ Ok bytes
 reads text bytes (small, spelled) =
     elim spelled [
