@@ -1,5 +1,6 @@
 pub mod CommandNames
 pub mod NumberTexts
+pub mod DigitNumbers
 pub mod ReadPairs
 pub mod LineReading
 pub mod Inputs

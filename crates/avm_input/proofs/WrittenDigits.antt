@@ -1,5 +1,5 @@
 -- Digits by their places, and digits of bytes one behind another.
-use Rattle.std.proofs.Common.{Bool, true, false, ◌&&◌, nat_lt, ◌≡◌, ◌∙◌, ap, sym, refl, ℕ, suc, ◌+◌, ◌*◌, ◌/◌, ◌%◌, ◌<◌, List, [], ◌∷◌, ◌++◌, length, slice_index, arith, append_assoc}
+use Rattle.std.proofs.Common.{Bool, true, false, ◌&&◌, nat_lt, ◌≡◌, ◌∙◌, ap, sym, refl, ℕ, zero, suc, ◌+◌, ◌*◌, ◌/◌, ◌%◌, ◌<◌, List, [], ◌∷◌, ◌++◌, length, slice_index, replicate, arith, append_assoc}
 use Rattle.std.proofs.lemmas.Bool.{ltb-true}
 use Rattle.std.proofs.lemmas.List.{append-nil}
 use Rattle.std.proofs.lemmas.Str.{IsAscii-append, IsUtf8-from_ascii}
@@ -7,7 +7,7 @@ use Rattle.std.proofs.lemmas.Str.Ascii.{IsAscii-cons, IsAscii-nil}
 use Rattle.std.specs.Str.{IsAscii, IsUtf8}
 use Rattle.hex.proofs.HexLemmas.{IsAscii-encode_with}
 use Rattle.hex.specs.Hex.{encode_lower, encode_with, lower_digits}
-use Rattle.avm_input.specs.BlockDigits.{AreDigits, digit_of}
+use Rattle.avm_input.specs.BlockDigits.{AreDigits, AreHalves, digit_of}
 
 -- whether all are below 128
 abbrev all_small : List ℕ → Bool
@@ -20,7 +20,12 @@ unfolding encode_with
 digits_joined [] ys = refl
 digits_joined (x ∷ xs) ys = ap (λ ds. digit_of (x / 16) ∷ digit_of (x % 16) ∷ ds) (digits_joined xs ys)
 
-rest_digits : (b a c : ℕ) (bytes digits : List ℕ) (n : ℕ) → AreDigits (b ∷ bytes) (a ∷ c ∷ digits) (suc n) → AreDigits bytes digits n
+-- the first so many bytes have their two digits each
+record ArePairs (bytes digits : List ℕ) (count : ℕ) : Type 0 where
+  high : (k : ℕ) → k < count → slice_index digits (2 * k) ≡ digit_of (slice_index bytes k / 16)
+  low : (k : ℕ) → k < count → slice_index digits (2 * k + 1) ≡ digit_of (slice_index bytes k % 16)
+
+rest_digits : (b a c : ℕ) (bytes digits : List ℕ) (n : ℕ) → ArePairs (b ∷ bytes) (a ∷ c ∷ digits) (suc n) → ArePairs bytes digits n
 rest_digits b a c bytes digits n are = record {
   high = λ k lt. ap (slice_index (a ∷ c ∷ digits)) (shift k) ∙ are.high (suc k) (omega (arith, lt));
   low = λ k lt. ap (slice_index (a ∷ c ∷ digits)) (shift_one k) ∙ are.low (suc k) (omega (arith, lt));
@@ -33,17 +38,33 @@ rest_digits b a c bytes digits n are = record {
     shift_one k = omega arith
 
 -- digits that are written for every byte are those of the bytes
-pub all_digits : (bytes digits : List ℕ) → length digits ≡ 2 * length bytes → AreDigits bytes digits (length bytes) → digits ≡ encode_lower bytes
+all_pairs : (bytes digits : List ℕ) → length digits ≡ 2 * length bytes → ArePairs bytes digits (length bytes) → digits ≡ encode_lower bytes
 unfolding encode_with
-all_digits [] [] e are = refl
-all_digits [] (d ∷ ds) e are = absurd (omega (arith, e))
-all_digits (b ∷ bs) [] e are = absurd (omega (arith, e))
-all_digits (b ∷ bs) (d ∷ []) e are = absurd (omega (arith, e))
-all_digits (b ∷ bs) (a ∷ c ∷ ds) e are =
+all_pairs [] [] e are = refl
+all_pairs [] (d ∷ ds) e are = absurd (omega (arith, e))
+all_pairs (b ∷ bs) [] e are = absurd (omega (arith, e))
+all_pairs (b ∷ bs) (d ∷ []) e are = absurd (omega (arith, e))
+all_pairs (b ∷ bs) (a ∷ c ∷ ds) e are =
     let first : a ≡ digit_of (b / 16) = are.high 0 (omega arith) in
     let second : c ≡ digit_of (b % 16) = are.low 0 (omega arith) in
-    let more : ds ≡ encode_lower bs = all_digits bs ds (omega (arith, e)) (rest_digits b a c bs ds (length bs) are) in
+    let more : ds ≡ encode_lower bs = all_pairs bs ds (omega (arith, e)) (rest_digits b a c bs ds (length bs) are) in
     rw (first, second, more) refl
+
+zeros_below : (n k : ℕ) → slice_index (replicate n 0) k < 16
+zeros_below zero k = omega arith
+zeros_below (suc n) zero = omega arith
+zeros_below (suc n) (suc k) = zeros_below n k
+
+-- at first no halves are written
+pub no_halves : (bytes : List ℕ) (n : ℕ) → AreHalves bytes (replicate n 0) 0
+no_halves bytes n = record { high = λ k lt. absurd (omega (arith, lt)); low = λ k lt. absurd (omega (arith, lt)); below = zeros_below n }
+
+-- digits that are written for both halves of every byte are those of the bytes
+pub all_digits : (bytes halves digits : List ℕ) (n : ℕ) → length bytes ≡ n → length digits ≡ 2 * n → AreHalves bytes halves n → AreDigits halves digits (2 * n) → digits ≡ encode_lower bytes
+all_digits bytes halves digits n len twice are written = all_pairs bytes digits (omega (arith, len, twice)) (record {
+  high = λ k lt. written (2 * k) (omega (arith, lt, len)) ∙ ap digit_of (are.high k (omega (arith, lt, len)));
+  low = λ k lt. written (2 * k + 1) (omega (arith, lt, len)) ∙ ap digit_of (are.low k (omega (arith, lt, len)));
+})
 
 -- a block more
 pub block_more : (old new digits front back rest all : List ℕ) → new ≡ old ++ digits → digits ≡ encode_lower front → front ++ back ≡ rest → old ++ encode_lower rest ≡ all → new ++ encode_lower back ≡ all

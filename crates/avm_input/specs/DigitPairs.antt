@@ -1,29 +1,32 @@
 -- Pairs of digits, whose numbers are read without a test for each, and tested together by the greatest.
-use Rattle.std.specs.Prelude.{◌≡◌, ℕ, ◌+◌, ◌*◌, ◌%◌, ◌<◌, ◌≤◌, ◌⊎◌, List, slice_index, unwrap_or}
+use Rattle.std.specs.Prelude.{◌≡◌, ℕ, ◌+◌, ◌*◌, ◌/◌, ◌%◌, ◌<◌, ◌≤◌, List, Some, None, slice_index}
 use Rattle.hex.specs.Hex.{hex_digit_value}
-
--- the value of the digit at an index; 255 where none stands there
-abbrev pub digit_at : List ℕ → ℕ → ℕ
-digit_at digits k = unwrap_or (hex_digit_value (slice_index digits k)) 255
 
 -- a byte of two numbers
 abbrev pub byte_of : ℕ → ℕ → ℕ
 byte_of high low = (high * 16 % 256 + low) % 256
 
--- the numbers of so many digits from a place on, and the greatest of them and of one before
-pub record AreNumbers (digits : List ℕ) (place count : ℕ) (numbers : List ℕ) (before most : ℕ) : Type 0 where
-  pub same : (k : ℕ) → k < count → slice_index numbers k ≡ digit_at digits (place + k)
-  pub no_less : before ≤ most
-  pub bound : (k : ℕ) → k < count → digit_at digits (place + k) ≤ most
-  pub one : (most ≡ before) ⊎ ((k : ℕ) × (k < count) × (most ≡ digit_at digits (place + k)))
+-- so many digits from a place on have these numbers, unless the greatest is 16 or more, which tells that one of them is no digit
+pub record AreNumbers (digits : List ℕ) (place count : ℕ) (numbers : List ℕ) (most : ℕ) : Type 0 where
+  pub same : most < 16 → (k : ℕ) → k < count → hex_digit_value (slice_index digits (place + k)) ≡ Some (slice_index numbers k)
+  pub no_digit : 16 ≤ most → (k : ℕ) × (k < count) × (hex_digit_value (slice_index digits (place + k)) ≡ None)
+
+-- so many words have a pair of the numbers each
+pub record AreWords (numbers words : List ℕ) (count : ℕ) : Type 0 where
+  pub high : (k : ℕ) → k < count → slice_index words k % 256 ≡ slice_index numbers (2 * k)
+  pub low : (k : ℕ) → k < count → slice_index words k / 256 ≡ slice_index numbers (2 * k + 1)
 
 -- so many bytes of the numbers from a place on, and those before it as they were
 pub record DigitsAreWritten (numbers before bytes : List ℕ) (place count : ℕ) : Type 0 where
   pub bytes_there : (k : ℕ) → k < count → slice_index bytes (place + k) ≡ byte_of (slice_index numbers (2 * k)) (slice_index numbers (2 * k + 1))
   pub kept : (k : ℕ) → k < place → slice_index bytes k ≡ slice_index before k
 
--- so many pairs are read, the greatest of whose digits' numbers this is
+-- the pair of digits at an index spells a byte
+abbrev pub IsSpelled : List ℕ → ℕ → ℕ → Type 0
+IsSpelled digits k byte =
+    (high : ℕ) × (low : ℕ) × (hex_digit_value (slice_index digits (2 * k)) ≡ Some high) × (hex_digit_value (slice_index digits (2 * k + 1)) ≡ Some low) × (byte ≡ byte_of high low)
+
+-- so many pairs are read, unless the greatest number is 16 or more, which tells that one of them has no digit
 pub record AreRead (digits bytes : List ℕ) (count most : ℕ) : Type 0 where
-  pub read : (k : ℕ) → k < count → slice_index bytes k ≡ byte_of (digit_at digits (2 * k)) (digit_at digits (2 * k + 1))
-  pub bound : (k : ℕ) → k < 2 * count → digit_at digits k ≤ most
-  pub one : (most ≡ 0) ⊎ ((k : ℕ) × (k < 2 * count) × (most ≡ digit_at digits k))
+  pub read : most < 16 → (k : ℕ) → k < count → IsSpelled digits k (slice_index bytes k)
+  pub no_digit : 16 ≤ most → (k : ℕ) × (k < 2 * count) × (hex_digit_value (slice_index digits k) ≡ None)

@@ -1,12 +1,12 @@
 //! Hexadecimal digits. They are read and written without a branch for each, so that many are at once.
 
-ghost use Rattle.std.specs.Prelude.{◌≡◌, ◌≤◌, ◌<◌, ◌+◌, ◌*◌, ◌++◌, ◌⊎◌, IfOk, None, OnOk, Some, codes, if◌then◌else◌, length, unwrap_or};
+ghost use Rattle.std.specs.Prelude.{ℕ, ◌≡◌, ◌≤◌, ◌<◌, ◌+◌, ◌*◌, ◌++◌, IfOk, None, OnOk, Some, codes, if◌then◌else◌, length};
 ghost use Rattle.std.specs.String.{string_bytes};
-ghost use Rattle.std.specs.Option.{option_map};
+ghost use Rattle.std.specs.Option.{SomeIff, option_map};
 ghost use Rattle.std.specs.Result.{result_ok};
 ghost use Rattle.hex.specs.Hex.{decode_of, decode_pairs, encode_lower, hex_digit_value};
-ghost use Rattle.avm_input.specs.BlockDigits.{digit_of};
-ghost use Rattle.avm_input.specs.DigitPairs.{AreNumbers, AreRead, DigitsAreWritten};
+ghost use Rattle.avm_input.specs.BlockDigits.{AreHalves, digit_of};
+ghost use Rattle.avm_input.specs.DigitPairs.{AreNumbers, AreRead, AreWords, DigitsAreWritten};
 
 use std::alloc::{AllocError, Global};
 
@@ -34,12 +34,14 @@ fn put_bytes(digits: &[u8], bytes: &mut [u8]) -> bool
     let mut i = 0;
     let mut most = 0;
     while i < bytes.len() {
-        if bytes.len() - i < BLOCK {
+        if bytes.len() < BLOCK {
             most = put_pair(digits, bytes, i, most);
             i += 1;
         } else {
-            most = put_block(digits, bytes, i, most);
-            i += BLOCK;
+            // The last block ends where the bytes do. What it writes again stays the same.
+            let start = i.min(bytes.len() - BLOCK);
+            most = put_block(digits, bytes, start, most);
+            i = start + BLOCK;
         }
     }
     most < 16
@@ -56,7 +58,7 @@ fn put_pair(digits: &[u8], bytes: &mut [u8], i: usize, before: u8) -> u8
     let high = digit_number(digits[2 * i]);
     let low = digit_number(digits[2 * i + 1]);
     bytes[i] = high.wrapping_mul(16).wrapping_add(low);
-    greater(greater(before, high), low)
+    before.max(high).max(low)
 }
 
 /// Writes a block of bytes from an index on, and answers the greatest number of their digits and of those before.
@@ -64,25 +66,25 @@ fn put_block(digits: &[u8], bytes: &mut [u8], start: usize, before: u8) -> u8
     requires even { length digits.now ≡ 2 * length bytes.old }
     requires there { start + 32 ≤ length bytes.old }
     ensures len { length bytes.new ≡ length bytes.old }
-    ensures read { AreRead digits.now bytes.old start before
+    ensures read { (i : ℕ) → start ≤ i → i ≤ start + 32 → AreRead digits.now bytes.old i before
         → AreRead digits.now bytes.new (start + 32) result }
 {
-    let (numbers, most) = block_numbers(digits, 2 * start, before);
+    let (numbers, most) = block_numbers(digits, 2 * start);
     put_pairs(&numbers, bytes, start);
-    most
+    before.max(most)
 }
 
-/// The numbers of a block's digits from a place on, and the greatest of them and of those before.
-fn block_numbers(digits: &[u8], place: usize, before: u8) -> ([u8; 64], u8)
+/// The numbers of a block's digits from a place on, and the greatest of them.
+fn block_numbers(digits: &[u8], place: usize) -> ([u8; 64], u8)
     requires { place + 64 ≤ length digits.now }
-    ensures { AreNumbers digits.now place 64 result.0 before result.1 }
+    ensures { AreNumbers digits.now place 64 result.0 result.1 }
 {
     let mut numbers = [0; 64];
-    let mut most = before;
+    let mut most = 0u8;
     'digits: for i in 0..64usize {
         let number = digit_number(digits[place + i]);
         numbers[i] = number;
-        most = greater(most, number);
+        most = most.max(number);
     }
     (numbers, most)
 }
@@ -93,41 +95,33 @@ fn put_pairs(numbers: &[u8; 64], bytes: &mut [u8], start: usize)
     ensures len { length bytes.new ≡ length bytes.old }
     ensures written { DigitsAreWritten numbers.now bytes.old bytes.new start 32 }
 {
+    let words = pair_words(numbers);
+    'words: for i in 0..BLOCK {
+        let word = words[i];
+        bytes[start + i] = (word.wrapping_mul(16).wrapping_add(word / 256) % 256) as u8;
+    }
+}
+
+/// Pairs of numbers, each in a word, the first of them as its low byte: in words the compiler shifts many pairs at once.
+fn pair_words(numbers: &[u8; 64]) -> [u16; 32]
+    ensures { AreWords numbers.now result 32 }
+{
+    let mut words = [0; 32];
     'pairs: for i in 0..BLOCK {
-        bytes[start + i] = numbers[2 * i]
-            .wrapping_mul(16)
-            .wrapping_add(numbers[2 * i + 1]);
+        words[i] = numbers[2 * i] as u16 + numbers[2 * i + 1] as u16 * 256;
     }
+    words
 }
 
-/// The value of a digit; 255 where it is none.
+/// The value of a digit; 16 or more where it is none.
 fn digit_number(digit: u8) -> u8
-    ensures { result ≡ unwrap_or (hex_digit_value digit) 255 }
+    ensures { SomeIff (hex_digit_value digit) (result < 16) result }
 {
-    let number = digit.wrapping_sub(b'0');
-    // A distance below the first letter is a great one, so the lesser is that of the letter's own case.
-    let letter = lesser(digit.wrapping_sub(b'A'), digit.wrapping_sub(b'a'));
-    if number < 10 {
-        number
-    } else if letter < 6 {
-        letter + 10
-    } else {
-        255
-    }
-}
-
-fn lesser(a: u8, b: u8) -> u8
-    ensures no_more { (result ≤ a) × (result ≤ b) }
-    ensures one { (result ≡ a) ⊎ (result ≡ b) }
-{
-    if a < b { a } else { b }
-}
-
-fn greater(a: u8, b: u8) -> u8
-    ensures no_less { (a ≤ result) × (b ≤ result) }
-    ensures one { (result ≡ a) ⊎ (result ≡ b) }
-{
-    if a < b { b } else { a }
+    // The digits `0` to `9` become 240 to 249, and no other byte more than 239.
+    let number = digit.wrapping_add(198).saturating_sub(6).wrapping_sub(240);
+    // A letter's lower case has one bit more.
+    let letter = (digit | 32).wrapping_sub(b'a').saturating_add(10);
+    number.min(letter)
 }
 
 /// A line of the digits of bytes, in lower case, with its line feed.
@@ -166,13 +160,26 @@ fn block_digits(bytes: &[u8]) -> [u8; 64]
     requires { length bytes.now ≡ 32 }
     ensures { result ≡ encode_lower bytes.now }
 {
+    let halves = block_halves(bytes);
     let mut digits = [0; 64];
-    'bytes: for i in 0..BLOCK {
-        let byte = bytes[i];
-        digits[2 * i] = lower_digit(byte / 16);
-        digits[2 * i + 1] = lower_digit(byte % 16);
+    'digits: for i in 0..64usize {
+        digits[i] = lower_digit(halves[i]);
     }
     digits
+}
+
+/// The two halves of each byte of a block.
+fn block_halves(bytes: &[u8]) -> [u8; 64]
+    requires { length bytes.now ≡ 32 }
+    ensures { AreHalves bytes.now result 32 }
+{
+    let mut halves = [0; 64];
+    'bytes: for i in 0..BLOCK {
+        let byte = bytes[i];
+        halves[2 * i] = byte / 16;
+        halves[2 * i + 1] = byte % 16;
+    }
+    halves
 }
 
 /// The digit of a number below 16.
@@ -180,9 +187,6 @@ fn lower_digit(number: u8) -> u8
     requires { number < 16 }
     ensures { result ≡ digit_of number }
 {
-    if number < 10 {
-        b'0' + number
-    } else {
-        b'a' - 10 + number
-    }
+    let gap = if number < 10 { 0 } else { b'a' - 10 - b'0' };
+    b'0' + number + gap
 }

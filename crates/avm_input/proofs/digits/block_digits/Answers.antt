@@ -5,5 +5,5 @@ use Rattle.avm_input.proofs.digits.block_digits.Goals as goal
 
 pub returns : goal.returns
 returns c =
-    let (len, are) = c.bytes.invariant in
-    all_digits c.args.bytes.now c.bytes.digits (omega (arith, len, c.requires)) (subst (AreDigits c.args.bytes.now c.bytes.digits) (omega (arith, c.requires, c.bytes-test.false)) are)
+    let (len, are) = c.digits.invariant in
+    all_digits c.args.bytes.now c.block_halves-halves.result c.digits.digits 32 c.requires len c.block_halves-halves.ensures (subst (AreDigits c.block_halves-halves.result c.digits.digits) (omega (arith, c.digits-test.false)) are)
