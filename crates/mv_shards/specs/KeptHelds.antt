@@ -1,5 +1,5 @@
 -- Shards that are held together, as they are kept, and what is seen of them.
-use Rattle.std.specs.Prelude.{◌≡◌, ℕ, ◌≤◌, List, length, map, get_or, Option, None, Some, IsSome}
+use Rattle.std.specs.Prelude.{◌≡◌, ℕ, ◌-◌, ◌<◌, ◌≤◌, List, length, map, get_or, Option, None, Some, IsSome}
 use Rattle.avm_items.specs.declared.item.Item.{Item}
 use Rattle.mv_shards.specs.declared.part.Part.{Part}
 use Rattle.mv_shards.specs.Indexes.{shard_count, shard_of}
@@ -35,3 +35,9 @@ IsHeldIn parts x = IsSome (get_or parts (shard_of x) None)
 -- there is no part from an index on
 abbrev pub AreFreeFrom : List (Option Part) → ℕ → Type 0
 AreFreeFrom parts index = (i : ℕ) → index ≤ i → get_or parts i None ≡ None
+
+-- one more than the index of the last part, or 0 where there is none
+pub record IsEnd (parts : List (Option Part)) (end : ℕ) : Type 0 where
+  pub few : end ≤ shard_count
+  pub free : AreFreeFrom parts end
+  pub last : 0 < end → IsSome (get_or parts (end - 1) None)

@@ -1,6 +1,6 @@
 //! The chains of items, each with a number.
 
-ghost use Rattle.std.specs.Prelude.{◌≡◌, ◌≤◌, ◌<◌, [], IfOk, None, OnOk, Some, length};
+ghost use Rattle.std.specs.Prelude.{◌≡◌, ◌≤◌, ◌<◌, [], IfOk, IfSome, None, OnOk, Some, length};
 ghost use Rattle.std.specs.Option.{option_copied};
 ghost use Rattle.std.specs.Ordering.{is_eq};
 ghost use Rattle.avm_items.specs.Items.{item_cmp};
@@ -52,23 +52,37 @@ impl Chains {
     fn find(&self, item: &Item) -> Option<usize>
         ensures { result ≡ number_in self.now item.now }
     {
-        let number = noted(&self.recent, item);
-        if number < self.list.len() && is_item(item, &self.list[number].0) {
-            return Some(number);
+        match self.noted(item) {
+            Some(number) => Some(number),
+            None => self.number_of(item),
         }
-        self.number_of(item)
     }
 
-    /// The number of an item's chain, which is noted for the next time.
+    /// The number of an item's chain, which is noted for the next time, if it isn't yet.
     pub(crate) fn find_and_note(&mut self, item: &Item) -> Option<usize>
         ensures number { result ≡ number_in self.old item.now }
         ensures unchanged { self.new ≡ self.old }
     {
-        let found = self.find(item);
+        if let Some(number) = self.noted(item) {
+            return Some(number);
+        }
+        let found = self.number_of(item);
         if let Some(number) = found {
             note(&mut self.recent, item, number);
         }
         found
+    }
+
+    /// The number of an item's chain, if it is noted.
+    fn noted(&self, item: &Item) -> Option<usize>
+        ensures { IfSome result (λ number. number_in self.now item.now ≡ Some number) }
+    {
+        let number = noted_in(&self.recent, item);
+        if number < self.list.len() && is_item(item, &self.list[number].0) {
+            Some(number)
+        } else {
+            None
+        }
     }
 
     /// The number of an item's chain, looked up.
@@ -185,7 +199,7 @@ fn make_slots(alloc: Global, recent: &mut Vec<usize>) -> Result<(), AllocError> 
 }
 
 /// The number in an item's slot, or one that no chain has.
-fn noted(recent: &[usize], item: &Item) -> usize {
+fn noted_in(recent: &[usize], item: &Item) -> usize {
     recent.get(slot_of(item)).copied().unwrap_or(usize::MAX)
 }
 

@@ -6,7 +6,7 @@ ghost use Rattle.teal_value.specs.declared.failure.Failure.TheVariants.{Fault};
 ghost use Rattle.mv_shards.specs.declared.read_fault.ReadFault.TheVariants.{Pruned};
 ghost use Rattle.mv_shards.specs.Indexes.{shard_count};
 ghost use Rattle.mv_shards.specs.Helds.{AreFree, AreHeld, IsHeld, IsHeldPruned, IsHeldRead, IsLastTaken, IsTakenFrom, ArePruned};
-ghost use Rattle.mv_shards.specs.KeptHelds.{AreInSlots, AreFreeFrom, IsPartOrNone, seen_all, seen_or_none};
+ghost use Rattle.mv_shards.specs.KeptHelds.{AreInSlots, AreFreeFrom, IsEnd, IsPartOrNone, seen_all, seen_or_none};
 ghost use Rattle.avm_items.specs.SameValues.{is_same_value};
 ghost use Rattle.mv_shards.specs.Writing.{AreLow, AreWritten, CanTake, IsFirstForeign, IsLowAt, NoneForeign, versions_for};
 ghost use Rattle.mv_shards.specs.PartWriting.{IsAbove, IsLeastWith, has_timestamp_in};
@@ -28,17 +28,19 @@ use std::marker::Model;
 #[derive(Drop)]
 pub struct Held {
     parts: Parts,
+    /// One more than the index of the last part, or 0 where there is none.
+    end: usize,
 }
 
 impl Model for Held {
     ghost use Rattle.mv_shards.specs.Helds.{ShardSlots};
-    ghost use Rattle.mv_shards.specs.KeptHelds.{AreInSlots, seen_all};
+    ghost use Rattle.mv_shards.specs.KeptHelds.{AreInSlots, IsEnd, seen_all};
 
     ghost Value = { ShardSlots };
 
     ghost view = { λ h. seen_all h.parts };
 
-    ghost invariant = { λ h. AreInSlots h.parts };
+    ghost invariant = { λ h. AreInSlots h.parts × IsEnd h.parts h.end };
 }
 
 impl Held {
@@ -51,6 +53,7 @@ impl Held {
                 None, None, None, None, None, None, None, None, None, None, None, None, None, None,
                 None, None,
             ],
+            end: 0,
         }
     }
 
@@ -63,10 +66,11 @@ impl Held {
         ensures back { IfErr result (λ back. back ≡ shard) }
     {
         let index = usize::from(shard.index());
-        if index < end_of(&self.parts) {
+        if index < self.end {
             return Err(shard);
         }
         self.parts[index] = Some(shard.part);
+        self.end = index + 1;
         Ok(())
     }
 
@@ -75,12 +79,15 @@ impl Held {
         ensures last { IfSome result (IsLastTaken self.old self.new) }
         ensures none { IfNone result (AreFree self.old 0 × (self.new ≡ self.old)) }
     {
-        let end = end_of(&self.parts);
-        if end == 0 {
+        if self.end == 0 {
             return None;
         }
-        match self.parts[end - 1].take() {
-            Some(part) => Some(Shard { part }),
+        let last = self.end - 1;
+        match self.parts[last].take() {
+            Some(part) => {
+                self.end = end_of(&self.parts, last);
+                Some(Shard { part })
+            }
             None => unreachable!(),
         }
     }
@@ -157,7 +164,7 @@ impl Held {
         ensures some { IfSome result (λ index. IsFirstForeign timestamp writes.now index self.now) }
         ensures none { IfNone result (NoneForeign timestamp writes.now self.now) }
     {
-        let mut least = first_above(&self.parts, timestamp);
+        let mut least = first_above(&self.parts, self.end, timestamp);
         for (item, _value) in writes.as_slice() {
             least = least_with(&self.parts, item, timestamp, least);
         }
@@ -208,16 +215,17 @@ impl Held {
     }
 }
 
-/// The index of the first part whose low mark is above a timestamp, or how many parts there may be.
-fn first_above(parts: &Parts, timestamp: u64) -> usize
-    requires { AreInSlots parts.now }
+/// The index of the first part whose low mark is above a timestamp, or how many parts there may be. There is no part from the
+/// end on.
+fn first_above(parts: &Parts, end: usize, timestamp: u64) -> usize
+    requires { IsEnd parts.now end }
     ensures few { result ≤ shard_count }
     ensures low { (i : _)
         → i < result → IsLowAt timestamp (seen_or_none (get_or parts.now i None)) }
     ensures above { result < shard_count
         → IsAbove timestamp (seen_or_none (get_or parts.now result None)) }
 {
-    for index in 0..SHARD_COUNT {
+    for index in 0..end {
         if is_above(&parts[index], timestamp) {
             return index;
         }
@@ -268,13 +276,14 @@ fn has_version_at(part: &Option<Part>, item: &Item, timestamp: u64) -> bool
     }
 }
 
-/// One more than the index of the last part, or 0 where there is none.
-fn end_of(parts: &Parts) -> usize
-    ensures free { AreFreeFrom parts.now result }
-    ensures last { 0 < result → IsSome (get_or parts.now (result - 1) None) }
+/// One more than the index of the last part, or 0 where there is none. There is no part from a bound on.
+fn end_of(parts: &Parts, bound: usize) -> usize
+    requires few { bound ≤ shard_count }
+    requires free { AreFreeFrom parts.now bound }
+    ensures { IsEnd parts.now result }
 {
-    for free in 0..SHARD_COUNT {
-        let end = SHARD_COUNT - free;
+    for free in 0..bound {
+        let end = bound - free;
         if parts[end - 1].is_some() {
             return end;
         }

@@ -1,0 +1,27 @@
+-- The end of the parts that are held, over their changes.
+use Rattle.std.proofs.Common.{◌≡◌, ◌∙◌, ◌-◌, ℕ, false, get_or, Option, None, Some, refl, ap}
+use Rattle.std.specs.Prelude.{is_some}
+use Rattle.mv_shards.specs.declared.part.Part.{Part}
+use Rattle.mv_shards.specs.KeptHelds.{IsEnd}
+use Rattle.mv_shards.specs.PartWriting.{Parts, frame_at, frame_or}
+
+none_of : {A : Type 0} (o : Option A) → is_some o ≡ false → o ≡ None
+none_of None is = refl
+none_of (Some p) is = absurd cc
+
+-- where each slot has a part if it had one, the end stays
+pub end_kept : (old new : Parts) (end : ℕ) → ((i : ℕ) → is_some (get_or new i None) ≡ is_some (get_or old i None)) → IsEnd old end → IsEnd new end
+end_kept old new end alike e = record {
+  few = e.few;
+  free = λ i above. none_of (get_or new i None) (alike i ∙ ap is_some (e.free i above));
+  last = λ some. alike (end - 1) ∙ e.last some;
+}
+
+framed_alike : (o p : Option Part) → frame_or p ≡ frame_or o → is_some p ≡ is_some o
+framed_alike None None same = refl
+framed_alike None (Some q) same = absurd cc
+framed_alike (Some p) None same = absurd cc
+framed_alike (Some p) (Some q) same = refl
+
+pub end_framed : (old new : Parts) (end : ℕ) → ((i : ℕ) → frame_at new i ≡ frame_at old i) → IsEnd old end → IsEnd new end
+end_framed old new end frames = end_kept old new end (λ i. framed_alike (get_or old i None) (get_or new i None) (frames i))
