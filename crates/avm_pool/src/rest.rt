@@ -100,7 +100,7 @@ fn commit<G: Gate, R: Wait>(
         wanted: &wanted,
     };
     let mut work = Work::Commit(attempt, finished);
-    match work_with(&locks, journal, &mut Held::new(), &mut work) {
+    match work_with(&locks, journal, &mut Held::new(shared.alloc), &mut work) {
         Worked::Done => shared.gate.pause(number, 0, GateEvent::Committed),
         Worked::Again(attempt) => abandon(journal, attempt),
         Worked::Memory(attempt) => abandon(journal, attempt),

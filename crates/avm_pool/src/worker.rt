@@ -72,7 +72,7 @@ impl<'a, O: Op> Worker<'a, O> {
             ops: &ops,
             spare: None,
         };
-        let mut held = Held::new();
+        let mut held = Held::new(shared.alloc);
         let mut commits = 0u32;
         let mut next_prune = FIRST_PRUNE;
         for _ in rt.forever() {

@@ -21,7 +21,7 @@ fn first_held(alloc: Global) -> Result<Held, AllocError>
     ensures { IfOk result IsFirstHeld }
 {
     let base = Arc::new(alloc, Ledger::new(alloc))?;
-    let mut held = Held::new();
+    let mut held = Held::new(alloc);
     match held.add(Shard::new(alloc, 0, base)) {
         Ok(()) => Ok(held),
         Err(_back) => unreachable!(),
@@ -74,7 +74,7 @@ fn committed_at_5(alloc: Global) -> Result<Held, AllocError> {
     let mut held = first_held(alloc)?;
     let mut others = first_held(alloc)?;
     let writes = next_id_is(alloc, 2)?;
-    held.write_both(&mut others, alloc, &ItemMap::new(alloc), &writes, 5)?;
+    held.write_both(&mut others, &ItemMap::new(alloc), &writes, 5)?;
     Ok(held)
 }
 

@@ -16,7 +16,6 @@ pub(crate) fn write_all(
     entries: &mut Vec<Entry>,
     index: &mut Held,
     held: &mut Held,
-    alloc: Global,
     attempt: &Attempt,
     finished: &Finished,
 ) -> Result<(), AllocError>
@@ -32,7 +31,6 @@ pub(crate) fn write_all(
     entries.reserve(1)?;
     index.write_both(
         held,
-        alloc,
         attempt.reads(),
         finished.writes(),
         attempt.timestamp(),

@@ -255,7 +255,6 @@ impl Journal {
             &mut self.entries,
             &mut self.index,
             held,
-            self.alloc,
             &attempt,
             &finished,
         ) {

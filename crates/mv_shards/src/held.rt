@@ -16,7 +16,7 @@ use crate::attempt::Attempt;
 use crate::index::{SHARD_COUNT, shard_of};
 use crate::part::{Part, has_value, has_version, late, prune, read, version_count};
 use crate::read_fault::ReadError;
-use crate::room::Parts;
+use crate::room::{Parts, Rooms};
 use crate::shard::Shard;
 use crate::writing::write_parts;
 use avm_items::{Item, ItemMap, ItemValue};
@@ -30,6 +30,8 @@ pub struct Held {
     parts: Parts,
     /// One more than the index of the last part, or 0 where there is none.
     end: usize,
+    /// Where a commit finds its chains. Nothing rests on it between commits.
+    rooms: Rooms,
 }
 
 impl Model for Held {
@@ -44,8 +46,8 @@ impl Model for Held {
 }
 
 impl Held {
-    /// No shard is held.
-    pub fn new() -> Held
+    /// No shard is held. It takes no memory.
+    pub fn new(alloc: Global) -> Held
         ensures { result ≡ replicate shard_count None }
     {
         Held {
@@ -54,6 +56,7 @@ impl Held {
                 None, None,
             ],
             end: 0,
+            rooms: Rooms::new(alloc),
         }
     }
 
@@ -180,11 +183,7 @@ impl Held {
     pub fn prune(&mut self, timestamp: u64)
         ensures { ArePruned timestamp self.old self.new }
     {
-        for index in 0..SHARD_COUNT {
-            if let Some(part) = &mut self.parts[index] {
-                prune(part, timestamp);
-            }
-        }
+        prune_all(&mut self.parts, timestamp);
     }
 
     /// Marks what a commit at a timestamp has read, and adds a version of each item that it writes, here and in other shards.
@@ -192,7 +191,6 @@ impl Held {
     pub fn write_both(
         &mut self,
         others: &mut Held,
-        alloc: Global,
         reads: &ItemMap,
         writes: &ItemMap,
         timestamp: u64,
@@ -205,13 +203,26 @@ impl Held {
         ensures unchanged { OnErr result ((self.new ≡ self.old) × (others.new ≡ others.old)) }
     {
         write_parts(
-            alloc,
+            &mut self.rooms,
             &mut self.parts,
             &mut others.parts,
             reads,
             writes,
             timestamp,
         )
+    }
+}
+
+/// Prunes each part.
+fn prune_all(parts: &mut Parts, timestamp: u64)
+    requires { AreInSlots parts.old }
+    ensures kept { AreInSlots parts.new }
+    ensures pruned { ArePruned timestamp (seen_all parts.old) (seen_all parts.new) }
+{
+    for index in 0..SHARD_COUNT {
+        if let Some(part) = &mut parts[index] {
+            prune(part, timestamp);
+        }
     }
 }
 

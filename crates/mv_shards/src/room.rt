@@ -23,6 +23,33 @@ pub(crate) struct Room {
     pub(crate) writes: Vec<(Spot, ItemValue)>,
 }
 
+/// The room in two sets of parts. Its lists are used again from commit to commit, so that few commits take memory for them.
+#[derive(Drop)]
+pub(crate) struct Rooms {
+    pub(crate) own: Room,
+    pub(crate) others: Room,
+}
+
+impl Room {
+    /// Lists of nothing. They take no memory.
+    fn new(alloc: Global) -> Room {
+        Room {
+            reads: Vec::new(alloc),
+            writes: Vec::new(alloc),
+        }
+    }
+}
+
+impl Rooms {
+    /// Lists of nothing. They take no memory.
+    pub(crate) fn new(alloc: Global) -> Rooms {
+        Rooms {
+            own: Room::new(alloc),
+            others: Room::new(alloc),
+        }
+    }
+}
+
 /// Gives an item a chain in its shard, if it has none, and says where it stands.
 fn add_chain_for(parts: &mut Parts, item: &Item) -> Result<Spot, AllocError>
     requires { IsHeldIn parts.old item.now }
@@ -67,82 +94,79 @@ fn add_room_for(parts: &mut Parts, item: &Item) -> Result<Spot, AllocError>
     Ok(spot)
 }
 
-/// Gives each item that was read a chain in its shard, if it has none, and says where they stand.
-fn place_reads(alloc: Global, parts: &mut Parts, reads: &ItemMap) -> Result<Vec<Spot>, AllocError>
+/// Gives each item that was read a chain in its shard, if it has none, and lists where they stand.
+fn place_reads(spots: &mut Vec<Spot>, parts: &mut Parts, reads: &ItemMap) -> Result<(), AllocError>
     requires { AllByRecursion (λ e. IsHeldIn parts.old e.0) reads.now }
     ensures grown { AreGrown parts.old parts.new }
     ensures roomier { OnOk result (AreRoomier parts.old parts.new) }
-    ensures spots { IfOk result (λ spots. AreSpots parts.new reads.now spots.items) }
+    ensures spots { OnOk result (AreSpots parts.new reads.now spots.new.items) }
     ensures order { OnOk result (IsInItemOrder reads.now) }
 {
-    let mut spots = Vec::with_capacity(alloc, reads.len())?;
+    spots.clear();
     for (item, _value) in reads.as_slice() {
         let spot = add_chain_for(parts, item)?;
         spots.push(spot)?;
     }
-    Ok(spots)
+    Ok(())
 }
 
-/// Gives each item that is to be written a chain with room in its shard, and says where they stand, with copies of the
+/// Gives each item that is to be written a chain with room in its shard, and lists where they stand, with copies of the
 /// values.
 fn place_writes(
-    alloc: Global,
+    placed: &mut Vec<(Spot, ItemValue)>,
     parts: &mut Parts,
     writes: &ItemMap,
-) -> Result<Vec<(Spot, ItemValue)>, AllocError>
+) -> Result<(), AllocError>
     requires { AllByRecursion (λ e. IsHeldIn parts.old e.0) writes.now }
     ensures grown { AreGrown parts.old parts.new }
     ensures roomier { OnOk result (AreRoomier parts.old parts.new) }
-    ensures placed { IfOk result (λ placed. AreRoomy parts.new writes.now placed.items) }
+    ensures placed { OnOk result (AreRoomy parts.new writes.now placed.new.items) }
     ensures order { OnOk result (IsInItemOrder writes.now) }
 {
-    let mut placed = Vec::with_capacity(alloc, writes.len())?;
+    placed.clear();
     for (item, value) in writes.as_slice() {
         let spot = add_room_for(parts, item)?;
         placed.push((spot, value.clone()?))?;
     }
-    Ok(placed)
+    Ok(())
 }
 
 /// Gives each item that was read a chain in its shard, and each item that is to be written a chain with room, and
 /// copies the writes. What is seen of the shards stays, also where memory is refused.
 fn make_room(
-    alloc: Global,
+    room: &mut Room,
     parts: &mut Parts,
     reads: &ItemMap,
     writes: &ItemMap,
-) -> Result<Room, AllocError>
+) -> Result<(), AllocError>
     requires reads { AllByRecursion (λ e. IsHeldIn parts.old e.0) reads.now }
     requires writes { AllByRecursion (λ e. IsHeldIn parts.old e.0) writes.now }
     ensures grown { AreGrown parts.old parts.new }
-    ensures room { IfOk result (IsRoom parts.new reads.now writes.now) }
+    ensures room { OnOk result (IsRoom parts.new reads.now writes.now room.new) }
 {
-    let reads = place_reads(alloc, parts, reads)?;
-    let writes = place_writes(alloc, parts, writes)?;
-    Ok(Room { reads, writes })
+    place_reads(&mut room.reads, parts, reads)?;
+    place_writes(&mut room.writes, parts, writes)?;
+    Ok(())
 }
 
 /// Makes room in two sets of parts, with copies of the writes for each.
 pub(crate) fn make_both(
-    alloc: Global,
+    rooms: &mut Rooms,
     parts: &mut Parts,
     others: &mut Parts,
     reads: &ItemMap,
     writes: &ItemMap,
-) -> Result<(Room, Room), AllocError>
+) -> Result<(), AllocError>
     requires reads { AllByRecursion (λ e. IsHeldIn parts.old e.0) reads.now }
     requires writes { AllByRecursion (λ e. IsHeldIn parts.old e.0) writes.now }
     requires other_reads { AllByRecursion (λ e. IsHeldIn others.old e.0) reads.now }
     requires other_writes { AllByRecursion (λ e. IsHeldIn others.old e.0) writes.now }
     ensures grown { AreGrown parts.old parts.new × AreGrown others.old others.new }
-    ensures room { IfOk result (λ rooms. IsRoom parts.new reads.now writes.now rooms.0
-        × IsRoom others.new reads.now writes.now rooms.1) }
+    ensures room { OnOk result (IsRoom parts.new reads.now writes.now rooms.new.own
+        × IsRoom others.new reads.now writes.now rooms.new.others) }
 {
-    match make_room(alloc, parts, reads, writes) {
-        Ok(room) => match make_room(alloc, others, reads, writes) {
-            Ok(other_room) => Ok((room, other_room)),
-            Err(refused) => Err(refused),
-        },
+    match make_room(&mut rooms.own, parts, reads, writes) {
+        Ok(()) => make_room(&mut rooms.others, others, reads, writes),
         Err(refused) => Err(refused),
     }
 }

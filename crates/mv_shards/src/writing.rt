@@ -1,16 +1,17 @@
 //! What a commit marks and writes in the shards that are held, where room was made for it.
 
-ghost use Rattle.std.specs.Prelude.{◌<◌, ◌≢◌, OnErr, OnOk};
+ghost use Rattle.std.specs.Prelude.{◌≡◌, ◌<◌, ◌≢◌, OnErr, OnOk};
 ghost use Rattle.std.specs.List.{AllByRecursion};
 ghost use Rattle.mv_shards.specs.PartWriting.{AreGrown, AreInstalledAt, AreMarkedAt, ArePlaced, AreReadableSpots, AreReadyPlaced, AreSpots, AreWrittenParts, IsInstalledItem, IsMarkedItem, IsReadableSpot, IsSpot, TakesVersionThere, chains_at, chains_for, first_at};
 ghost use Rattle.mv_shards.specs.KeptChains.{AreChains, versions_of};
 ghost use Rattle.mv_shards.specs.KeptHelds.{IsHeldIn};
 ghost use Rattle.mv_shards.specs.Indexes.{shard_of as shard_index};
 
-use crate::room::{Parts, make_both};
+use crate::room::{Parts, Rooms, make_both};
 use crate::spot::Spot;
 use avm_items::{ItemMap, ItemValue};
-use std::alloc::{AllocError, Global};
+use std::alloc::AllocError;
+use std::mem;
 
 /// Notes that the newest version not above a timestamp was read at it, in the chain that stands there.
 fn mark_at(parts: &mut Parts, spot: Spot, timestamp: u64)
@@ -50,22 +51,30 @@ fn mark_all(parts: &mut Parts, spots: &[Spot], timestamp: u64)
     }
 }
 
-/// Adds a version to each of these chains.
-fn install_all(parts: &mut Parts, placed: Vec<(Spot, ItemValue)>, timestamp: u64)
-    requires ready { AreReadyPlaced timestamp parts.old placed.items }
+/// Adds a version to each of these chains, and takes the values out of the list.
+fn install_all(parts: &mut Parts, placed: &mut [(Spot, ItemValue)], timestamp: u64)
+    requires ready { AreReadyPlaced timestamp parts.old placed.old }
     requires positive { 0 < timestamp }
-    ensures { (writes : _) → ArePlaced parts.old writes placed.items
+    ensures { (writes : _) → ArePlaced parts.old writes placed.old
         → AreInstalledAt timestamp writes parts.old parts.new }
 {
-    for (spot, value) in placed {
+    for index in 0..placed.len() {
+        let (spot, value) = taken(&mut placed[index]);
         install_at(parts, spot, value, timestamp);
     }
+}
+
+/// What is to be written at a spot, which is left with nothing to write.
+fn taken(placed: &mut (Spot, ItemValue)) -> (Spot, ItemValue)
+    ensures { result ≡ placed.old }
+{
+    (placed.0, mem::replace(&mut placed.1, ItemValue::Absent))
 }
 
 /// Marks what was read and adds what was written, in this order, in two sets of parts. Where memory is refused, nothing that
 /// is seen of either has changed.
 pub(crate) fn write_parts(
-    alloc: Global,
+    rooms: &mut Rooms,
     parts: &mut Parts,
     others: &mut Parts,
     reads: &ItemMap,
@@ -90,12 +99,12 @@ pub(crate) fn write_parts(
         parts.new × AreWrittenParts timestamp reads.now writes.now others.old others.new) }
     ensures grown { OnErr result (AreGrown parts.old parts.new × AreGrown others.old others.new) }
 {
-    match make_both(alloc, parts, others, reads, writes) {
-        Ok((room, other_room)) => {
-            mark_all(parts, &room.reads, timestamp);
-            install_all(parts, room.writes, timestamp);
-            mark_all(others, &other_room.reads, timestamp);
-            install_all(others, other_room.writes, timestamp);
+    match make_both(rooms, parts, others, reads, writes) {
+        Ok(()) => {
+            mark_all(parts, &rooms.own.reads, timestamp);
+            install_all(parts, &mut rooms.own.writes, timestamp);
+            mark_all(others, &rooms.others.reads, timestamp);
+            install_all(others, &mut rooms.others.writes, timestamp);
             Ok(())
         }
         Err(refused) => Err(refused),
