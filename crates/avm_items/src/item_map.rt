@@ -89,6 +89,16 @@ impl ItemMap {
         self.values
     }
 
+    /// The same, in a list without room for more where there is memory for one: for a map that stays, since a list with
+    /// room is of more use to the next map that grows.
+    pub fn without_room(self, alloc: Global) -> ItemMap
+        ensures { result ≡ self }
+    {
+        ItemMap {
+            values: exact(alloc, self.values),
+        }
+    }
+
     /// Whether these are the same items with the same values. Nothing is copied.
     pub fn is_same(&self, other: &ItemMap) -> bool
         ensures { IsTrue result ↔ (self.now ≡ other.now) }
@@ -151,6 +161,23 @@ impl ItemMap {
         if let Ok(place) = place_of(self.values.as_slice(), item) {
             self.values[place].1.remove_entry(key);
         }
+    }
+}
+
+/// A list without room for more, where there is memory for another one.
+fn exact(alloc: Global, values: Vec<(Item, ItemValue)>) -> Vec<(Item, ItemValue)>
+    ensures { result.items ≡ values.items }
+{
+    if values.len() == values.capacity() {
+        return values;
+    }
+    let mut values = values;
+    match Vec::with_capacity(alloc, values.len()) {
+        Ok(mut exact) => match exact.append(&mut values) {
+            Ok(()) => exact,
+            Err(_refused) => values,
+        },
+        Err(_refused) => values,
     }
 }
 

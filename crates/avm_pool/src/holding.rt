@@ -8,6 +8,7 @@ use crate::waiting::lock_soon;
 use avm_run::Finished;
 use mv_parts::{Journal, RefusedCommit};
 use mv_shards::{Attempt, Held, Shard};
+use std::alloc::Global;
 use std::mem;
 use std::sync::{Mutex, Wait};
 use teal_value::Failure;
@@ -34,6 +35,13 @@ pub(crate) enum Worked {
 }
 
 impl Work {
+    /// A commit. The lists of what was read and is written are made as they stay, before any lock is taken.
+    pub fn commit(alloc: Global, attempt: Attempt, finished: Finished) -> Work
+        ensures { result ≡ Commit attempt finished }
+    {
+        Work::Commit(attempt.without_room(alloc), finished.without_room(alloc))
+    }
+
     /// The work, which is left as one that does little.
     fn taken(&mut self) -> Work
         ensures { result ≡ self.old }

@@ -99,7 +99,7 @@ fn commit<G: Gate, R: Wait>(
         locks: shared.shards,
         wanted: &wanted,
     };
-    let mut work = Work::Commit(attempt, finished);
+    let mut work = Work::commit(shared.alloc, attempt, finished);
     match work_with(&locks, journal, &mut Held::new(shared.alloc), &mut work) {
         Worked::Done => shared.gate.pause(number, 0, GateEvent::Committed),
         Worked::Again(attempt) => abandon(journal, attempt),

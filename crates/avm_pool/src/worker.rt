@@ -162,7 +162,7 @@ impl<'a, 'b, 'c, G: Gate, R: Wait> Site<'a, 'b, 'c, G, R> {
         } = trial;
         let number = attempt.number();
         let wanted = shards_of(&attempt, &finished);
-        let mut work = Work::Commit(attempt, finished);
+        let mut work = Work::commit(self.shared.alloc, attempt, finished);
         match self.under_locks(held, &wanted, &mut work) {
             Worked::Done => {
                 self.shared.gate.pause(number, tries, GateEvent::Committed);

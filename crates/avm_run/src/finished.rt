@@ -11,6 +11,7 @@ ghost use Rattle.avm_run.specs.Results.{IsResult, ResultOverMore, ResultOnLedger
 use avm_call::{Call, Outcome};
 use avm_items::ItemMap;
 use avm_ledger::Header;
+use std::alloc::Global;
 use std::marker::Model;
 
 /// A call that has ended, with the items that it read, those that it wrote, and its outcome. The definition of the call,
@@ -87,6 +88,19 @@ impl Finished {
         ensures { result.now ≡ self.now.writes }
     {
         &self.writes
+    }
+
+    /// The same, with writes in a list without room for more, as [`ItemMap::without_room`] has it.
+    pub fn without_room(self, alloc: Global) -> Finished
+        ensures { result ≡ self }
+    {
+        Finished {
+            call: self.call,
+            header: self.header,
+            reads: self.reads,
+            writes: self.writes.without_room(alloc),
+            outcome: self.outcome,
+        }
     }
 
     /// The items that it writes, without a copy.

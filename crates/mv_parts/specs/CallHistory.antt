@@ -1,5 +1,5 @@
 -- Calls as the order theorem sees them: the meaning of each by its number, over any look-up of items.
-use Rattle.std.specs.Prelude.{◌-◌, Bool, List, [], ◌∷◌, Option, None, Some}
+use Rattle.std.specs.Prelude.{Bool, List, [], ◌∷◌, Option, None, Some}
 use Rattle.std.specs.Ordering.{is_eq}
 use Rattle.avm_ledger.specs.declared.header.Header.{Header}
 use Rattle.avm_items.specs.declared.call_data.CallData.{CallData}

@@ -4,7 +4,6 @@ use Rattle.avm_ledger.specs.declared.header.Header.{Header}
 use Rattle.avm_ledger.specs.Ledgers.{Ledger}
 use Rattle.avm_items.specs.declared.call_data.CallData.{CallData}
 use Rattle.avm_items.specs.Items.{Look}
-use Rattle.avm_items.specs.LedgerItems.{put}
 use Rattle.avm_call.specs.Replay.{outcome_on, changes_on, ledger_after, outcomes, replayed}
 use Rattle.avm_laws.specs.LedgerLooks.{IsLookOf, IsOfLedger}
 use Rattle.avm_run.specs.Results.{CallRecord, IsFinishedCall}

@@ -6,7 +6,7 @@ ghost use Rattle.mv_parts.specs.CallLaws.{entry_of as entry_at};
 ghost use Rattle.mv_shards.specs.Writing.{AreWritten, CanTake};
 ghost use Rattle.mv_parts.specs.Commits.{entries_not_above};
 
-use crate::entry::{Entry, KeptItems};
+use crate::entry::Entry;
 use avm_run::Finished;
 use mv_shards::{Attempt, Held};
 use std::alloc::{AllocError, Global};
@@ -38,7 +38,7 @@ pub(crate) fn write_all(
     Ok(())
 }
 
-/// The entry of an attempt's own call.
+/// The entry of an attempt's own call. Entries stay to the end of the block, so its lists have no room for more.
 pub(crate) fn entry_of(alloc: Global, attempt: Attempt, finished: Finished) -> Entry
     requires own { finished.reads ≡ attempt.reads }
     ensures { result ≡ entry_at attempt.timestamp attempt.number finished }
@@ -49,23 +49,8 @@ pub(crate) fn entry_of(alloc: Global, attempt: Attempt, finished: Finished) -> E
         timestamp,
         number,
         outcome,
-        reads: without_room(alloc, attempt.into_reads().into_vec()),
-        writes: without_room(alloc, finished.into_writes().into_vec()),
-    }
-}
-
-/// A list without room for more, where there is memory for another one. Entries stay to the end of the block, and lists with
-/// room are used again from call to call.
-fn without_room(alloc: Global, values: KeptItems) -> KeptItems
-    ensures { result.items ≡ values.items }
-{
-    let mut values = values;
-    match Vec::with_capacity(alloc, values.len()) {
-        Ok(mut exact) => match exact.append(&mut values) {
-            Ok(()) => exact,
-            Err(_refused) => values,
-        },
-        Err(_refused) => values,
+        reads: attempt.into_reads().without_room(alloc).into_vec(),
+        writes: finished.into_writes().without_room(alloc).into_vec(),
     }
 }
 
@@ -87,5 +72,12 @@ fn index_of(entries: &[Entry], timestamp: u64) -> usize
     requires { IsRising 0 entries.now }
     ensures { result ≡ entries_not_above timestamp entries.now }
 {
-    entries.partition_point(|entry| entry.timestamp <= timestamp)
+    // Calls commit in about the order of their timestamps, so it is mostly among the last.
+    for above in 0..entries.len() {
+        let index = entries.len() - above;
+        if entries[index - 1].timestamp() <= timestamp {
+            return index;
+        }
+    }
+    0
 }
