@@ -62,6 +62,7 @@ impl Held {
 
     /// Holds a shard too. Shards are added by rising index, as they are locked: one that is not above all that are
     /// held is handed back.
+    #[inline]
     pub fn add(&mut self, shard: Shard) -> Result<(), Shard>
         ensures ok { OnOk result (AreFree self.old shard.index
             × (self.new ≡ set self.old shard.index (Some shard))) }
@@ -72,7 +73,11 @@ impl Held {
         if index < self.end {
             return Err(shard);
         }
-        self.parts[index] = Some(shard.part);
+        // There is no part to be dropped.
+        match self.parts[index].replace(shard.part) {
+            None => {}
+            Some(_part) => unreachable!(),
+        }
         self.end = index + 1;
         Ok(())
     }
