@@ -14,7 +14,7 @@ use crate::item::Item;
 use crate::item_map::ItemMap;
 use crate::item_value::ItemValue;
 use avm_ledger::Header;
-use avm_states::State;
+use avm_states::SharedState;
 use std::alloc::{AllocError, Global};
 use std::marker::Model;
 use std::mem;
@@ -153,9 +153,9 @@ impl Env {
         self.writes.insert(item, value)
     }
 
-    /// A copy of the local state that an item has, if it is known.
-    fn copy_of_state(&self, item: &Item) -> Result<Option<State>, AllocError>
-        ensures { IfOk result (λ copy. copy ≡ state_of (known_to self.now item.now)) }
+    /// The local state that an item has, if it is known, shared.
+    fn shared_state(&self, item: &Item) -> Result<Option<SharedState>, AllocError>
+        ensures { IfOk result (λ state. state ≡ state_of (known_to self.now item.now)) }
     {
         match self.value(item) {
             Some(ItemValue::Local(state)) => Ok(Some(state.clone()?)),
@@ -180,11 +180,11 @@ impl Env {
         if self.writes.has_state(&item) {
             return self.writes.put_entry(&item, key, value);
         }
-        let Some(mut copy) = self.copy_of_state(&item)? else {
+        let Some(mut state) = self.shared_state(&item)? else {
             return Ok(());
         };
-        copy.insert(key, value)?;
-        self.writes.insert(item, ItemValue::Local(copy))
+        state.insert(key, value)?;
+        self.writes.insert(item, ItemValue::Local(state))
     }
 
     /// Takes a key out of an account's local state of an application, if the state is known: out of the one that the call
@@ -196,14 +196,13 @@ impl Env {
     {
         let item = Item::Local(who, id);
         if self.writes.has_state(&item) {
-            self.writes.remove_entry(&item, key);
-            return Ok(());
+            return self.writes.remove_entry(&item, key);
         }
-        let Some(mut copy) = self.copy_of_state(&item)? else {
+        let Some(mut state) = self.shared_state(&item)? else {
             return Ok(());
         };
-        let _ = copy.remove(key);
-        self.writes.insert(item, ItemValue::Local(copy))
+        state.remove(key)?;
+        self.writes.insert(item, ItemValue::Local(state))
     }
 
     /// Takes out the items that the call was given and those that it has written. It takes no memory.

@@ -140,8 +140,8 @@ impl ItemMap {
         Ok(())
     }
 
-    /// Gives a key of the local state that an item has here a value, in place. Where it has none, nothing changes. Only a
-    /// new key can be refused, as by [`avm_states::State::insert`].
+    /// Gives a key of the local state that an item has here a value, in place where no other copy shares the state. Where
+    /// it has none, nothing changes.
     pub fn put_entry(&mut self, item: &Item, key: StateKey, value: Value) -> Result<(), AllocError>
         ensures ok { IfOk result (λ _. self.new ≡ with_state_changed (λ state.
             with_entry state key value) self.old item.now (value_in self.old item.now)) }
@@ -153,13 +153,16 @@ impl ItemMap {
         }
     }
 
-    /// Takes a key out of the local state that an item has here, in place. Where it has none, nothing changes.
-    pub fn remove_entry(&mut self, item: &Item, key: &StateKey)
-        ensures { self.new ≡ with_state_changed (λ state.
-            without_entry state key.now) self.old item.now (value_in self.old item.now) }
+    /// Takes a key out of the local state that an item has here, in place where no other copy shares the state. Where it
+    /// has none, nothing changes.
+    pub fn remove_entry(&mut self, item: &Item, key: &StateKey) -> Result<(), AllocError>
+        ensures ok { IfOk result (λ _. self.new ≡ with_state_changed (λ state.
+            without_entry state key.now) self.old item.now (value_in self.old item.now)) }
+        ensures memory { IfErr result (λ _. self.new ≡ self.old) }
     {
-        if let Ok(place) = place_of(self.values.as_slice(), item) {
-            self.values[place].1.remove_entry(key);
+        match place_of(self.values.as_slice(), item) {
+            Ok(place) => self.values[place].1.remove_entry(key),
+            Err(_) => Ok(()),
         }
     }
 }

@@ -6,7 +6,7 @@ ghost use Rattle.avm_items.specs.Items.{local_changed};
 ghost use Rattle.avm_items.specs.SameValues.{is_same_application, is_same_schema, is_same_value};
 
 use avm_ledger::{Application, SharedApplication};
-use avm_states::{EntryCounts, Schema, State};
+use avm_states::{EntryCounts, Schema, SharedState};
 use std::alloc::AllocError;
 use teal_value::{StateKey, Value};
 
@@ -19,7 +19,7 @@ pub enum ItemValue {
     App(SharedApplication),
     Counts(EntryCounts),
     Key(Value),
-    Local(State),
+    Local(SharedState),
 }
 
 /// Whether two schemas are the same.
@@ -48,7 +48,7 @@ pub(crate) fn is_same_application(app: &Application, other: &Application) -> boo
 }
 
 impl ItemValue {
-    /// A copy of the value, in memory of its own.
+    /// A copy of the value, which shares an application or a local state.
     pub fn clone(&self) -> Result<ItemValue, AllocError>
         ensures { IfOk result (λ copy. copy ≡ self.now) }
     {
@@ -83,8 +83,7 @@ impl ItemValue {
         }
     }
 
-    /// Puts an entry into a local state, in place. Any other value stays. Only a new key can be refused, as by
-    /// [`State::insert`].
+    /// Puts an entry into a local state, as [`SharedState::insert`]. Any other value stays.
     pub(crate) fn put_entry(&mut self, key: StateKey, value: Value) -> Result<(), AllocError>
         ensures ok { IfOk result
             (λ _. self.new ≡ local_changed (λ state. with_entry state key value) self.old) }
@@ -96,12 +95,15 @@ impl ItemValue {
         Ok(())
     }
 
-    /// Takes a key out of a local state, in place. Any other value stays.
-    pub(crate) fn remove_entry(&mut self, key: &StateKey)
-        ensures { self.new ≡ local_changed (λ state. without_entry state key.now) self.old }
+    /// Takes a key out of a local state, as [`SharedState::remove`]. Any other value stays.
+    pub(crate) fn remove_entry(&mut self, key: &StateKey) -> Result<(), AllocError>
+        ensures ok { IfOk result
+            (λ _. self.new ≡ local_changed (λ state. without_entry state key.now) self.old) }
+        ensures memory { IfErr result (λ _. self.new ≡ self.old) }
     {
         if let ItemValue::Local(state) = self {
-            let _ = state.remove(key);
+            state.remove(key)?;
         }
+        Ok(())
     }
 }

@@ -9,8 +9,8 @@ use crate::item_value::{ItemValue, is_same_application, is_same_counts};
 use avm_ledger::Ledger;
 use std::alloc::AllocError;
 
-/// The value of an item in a ledger, in memory of its own. It is found in logarithmic time; the calls of [`Ledger`] lend
-/// what needs no copy.
+/// The value of an item in a ledger, which shares an application or a local state with it. It is found in logarithmic
+/// time; the calls of [`Ledger`] lend what needs no copy.
 pub fn item_of(ledger: &Ledger, item: &Item) -> Result<ItemValue, AllocError>
     ensures { IfOk result (λ value. value ≡ at ledger.now item.now) }
 {

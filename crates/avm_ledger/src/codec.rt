@@ -97,7 +97,7 @@ fn put_local_states(bytes: &mut Vec<u8>, ledger: &Ledger) -> Result<(), AllocErr
 {
     put_long_count(bytes, ledger.local_state_count())?;
     for (key, state) in ledger.local_states() {
-        put_local_state(bytes, key, state)?;
+        put_local_state(bytes, key, state.get())?;
     }
     Ok(())
 }

@@ -14,7 +14,7 @@ use crate::ids_end::IdsEnd;
 use crate::open_ledger::OpenLedger;
 use crate::shared_application::SharedApplication;
 use crate::stored_program::StoredProgram;
-use avm_states::{Schema, State};
+use avm_states::{Schema, SharedState, State};
 use std::alloc::{AllocError, Global};
 use std::collections::BTreeMap;
 use std::collections::btree_map::Iter;
@@ -29,7 +29,7 @@ use teal_value::{Address, Failure, StateKey, Value};
 pub struct Ledger {
     next_id: u64,
     applications: BTreeMap<u64, StoredApplication>,
-    local_states: BTreeMap<(Address, u64), State>,
+    local_states: BTreeMap<(Address, u64), SharedState>,
 }
 
 impl Model for Ledger {
@@ -58,7 +58,7 @@ impl Ledger {
     pub(crate) fn from_parts(
         next_id: u64,
         applications: BTreeMap<u64, StoredApplication>,
-        local_states: BTreeMap<(Address, u64), State>,
+        local_states: BTreeMap<(Address, u64), SharedState>,
     ) -> Ledger
         requires { IsOrderly (record {
           next_id = next_id;
@@ -167,7 +167,7 @@ impl Ledger {
     }
 
     /// The local states by rising account and application.
-    pub fn local_states(&self) -> Iter<'_, (Address, u64), State>
+    pub fn local_states(&self) -> Iter<'_, (Address, u64), SharedState>
         ensures rest { result ≡ self.now.local_states }
         ensures runs { ShowsInOrder (deref_pair {K = Address × ℕ} {X = Entries}) }
     {
@@ -206,13 +206,13 @@ impl Ledger {
     }
 
     /// An account's local state of an application.
-    pub fn local_state(&self, who: &Address, id: u64) -> Option<&State>
+    pub fn local_state(&self, who: &Address, id: u64) -> Option<&SharedState>
         ensures { option_copied result ≡ local_state_at self.now who.now id }
     {
         self.local_states.get(&(*who, id))
     }
 
-    /// A copy of the ledger, in memory of its own.
+    /// A copy of the ledger, which shares its applications and local states.
     pub fn clone(&self) -> Result<Ledger, AllocError>
         ensures { IfOk result (λ copy. copy ≡ self.now) }
     {

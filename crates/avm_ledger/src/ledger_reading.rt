@@ -10,9 +10,9 @@ use crate::fields::Fields;
 use crate::ledger_fault::{LedgerError, LedgerFault};
 use crate::shared_application::SharedApplication;
 use crate::sorted_map::map_of;
-use crate::state_reading::state_of;
+use crate::state_reading::{shared_state_of, state_of};
 use crate::stored_program::StoredProgram;
-use avm_states::{MAX_GLOBAL_ENTRIES, MAX_LOCAL_ENTRIES, Schema, State};
+use avm_states::{MAX_GLOBAL_ENTRIES, MAX_LOCAL_ENTRIES, Schema, SharedState};
 use std::alloc::Global;
 use std::cmp::Ordering;
 use std::collections::BTreeMap;
@@ -24,7 +24,7 @@ use teal_value::{Address, Failure};
 pub(crate) struct Parts {
     pub next_id: u64,
     pub applications: BTreeMap<u64, StoredApplication>,
-    pub local_states: BTreeMap<(Address, u64), State>,
+    pub local_states: BTreeMap<(Address, u64), SharedState>,
 }
 
 /// The parts of the ledger that the bytes are.
@@ -170,7 +170,7 @@ fn local_states_of<'a>(
     next_id: u64,
     applications: &BTreeMap<u64, StoredApplication>,
     fields: Fields<'a>,
-) -> Result<(Vec<((Address, u64), State)>, Fields<'a>), LedgerError>
+) -> Result<(Vec<((Address, u64), SharedState)>, Fields<'a>), LedgerError>
     ensures { Gives (λ x. (x.0.items, x.1)) result
         (local_states_at count None next_id applications.now.entries fields.entry) }
 {
@@ -181,7 +181,7 @@ fn local_states_of<'a>(
         let (who, next) = account_of(before, rest)?;
         let (id, next) = local_id_of(before, next_id, who, next)?;
         let (most, kinds) = room_of(applications.get(&id));
-        let (state, next) = state_of(alloc, most, kinds, next)?;
+        let (state, next) = shared_state_of(alloc, most, kinds, next)?;
         local_states.push(((who, id), state))?;
         before = Some((who, id));
         rest = next;

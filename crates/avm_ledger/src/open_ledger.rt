@@ -10,7 +10,7 @@ ghost use Rattle.avm_ledger.specs.Ledgers.{IsInOrder, IsOrderly, application_at,
 use crate::application::StoredApplication;
 use crate::ledger::Ledger;
 use crate::shared_application::SharedApplication;
-use avm_states::State;
+use avm_states::{SharedState, State};
 use std::alloc::{AllocError, Global};
 use std::collections::BTreeMap;
 use std::collections::btree_map::Iter;
@@ -24,7 +24,7 @@ use teal_value::{Address, StateKey, Value};
 pub struct OpenLedger {
     pub(crate) next_id: u64,
     pub(crate) applications: BTreeMap<u64, StoredApplication>,
-    pub(crate) local_states: BTreeMap<(Address, u64), State>,
+    pub(crate) local_states: BTreeMap<(Address, u64), SharedState>,
 }
 
 impl Model for OpenLedger {
@@ -66,14 +66,14 @@ impl OpenLedger {
     }
 
     /// An account's local state of an application.
-    pub fn local_state(&self, who: &Address, id: u64) -> Option<&State>
+    pub fn local_state(&self, who: &Address, id: u64) -> Option<&SharedState>
         ensures { option_copied result ≡ local_state_at self.now who.now id }
     {
         self.local_states.get(&(*who, id))
     }
 
     /// The local states by rising account and application.
-    pub fn local_states(&self) -> Iter<'_, (Address, u64), State>
+    pub fn local_states(&self) -> Iter<'_, (Address, u64), SharedState>
         ensures rest { result ≡ self.now.local_states }
         ensures runs { ShowsInOrder (deref_pair {K = Address × ℕ} {X = Entries}) }
     {
@@ -157,8 +157,8 @@ impl OpenLedger {
         &mut self,
         who: Address,
         id: u64,
-        state: State,
-    ) -> Result<Option<State>, AllocError>
+        state: SharedState,
+    ) -> Result<Option<SharedState>, AllocError>
         ensures old { IfOk result (λ old. old ≡ local_state_at self.old who id) }
         ensures set { IfOk result (λ _. self.new ≡ with_local_state self.old who id state) }
         ensures unchanged { IfErr result (λ _. self.new ≡ self.old) }
@@ -171,7 +171,7 @@ impl OpenLedger {
     }
 
     /// Takes an account's local state of an application out, and answers it.
-    pub fn remove_local_state(&mut self, who: &Address, id: u64) -> Option<State>
+    pub fn remove_local_state(&mut self, who: &Address, id: u64) -> Option<SharedState>
         ensures old { result ≡ local_state_at self.old who.now id }
         ensures removed { self.new ≡ without_local_state self.old who.now id }
     {

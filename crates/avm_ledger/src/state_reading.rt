@@ -8,7 +8,7 @@ ghost use Rattle.avm_ledger.specs.LedgerReader.{bytes_value_at, entries_at, key_
 
 use crate::fields::Fields;
 use crate::ledger_fault::{LedgerError, LedgerFault};
-use avm_states::{MAX_VALUE_BYTES, Schema, State};
+use avm_states::{MAX_VALUE_BYTES, Schema, SharedState, State};
 use std::alloc::Global;
 use std::cmp::Ordering;
 use teal_value::{ByteString, Failure, MAX_KEY_BYTES, StateKey, Value};
@@ -28,6 +28,20 @@ pub(crate) fn state_of(
         return Err(Failure::Fault(LedgerFault::Malformed));
     }
     entries_of(alloc, count, kinds, rest)
+}
+
+/// The same, to be shared.
+pub(crate) fn shared_state_of(
+    alloc: Global,
+    most: u16,
+    kinds: Schema,
+    fields: Fields<'_>,
+) -> Result<(SharedState, Fields<'_>), LedgerError>
+    ensures { Gives (λ x. x) result
+        (state_at (record { entries = most; kinds = kinds }) fields.entry) }
+{
+    let (state, rest) = state_of(alloc, most, kinds, fields)?;
+    Ok((SharedState::new(alloc, state)?, rest))
 }
 
 /// So many entries, at most as many as a schema allows, in room for just these.

@@ -13,7 +13,7 @@ ghost use Rattle.avm_run.specs.Tests.{HasRoom, IsAdmitted, Tests};
 use avm_call::{Call, Why};
 use avm_items::{CallData, Completion, Item, ItemMap, ItemValue};
 use avm_ledger::SharedApplication;
-use avm_states::{EntryCounts, State};
+use avm_states::{EntryCounts, SharedState, State};
 use std::alloc::{AllocError, Global};
 
 /// Why the tests before a program give nothing.
@@ -195,8 +195,8 @@ pub(crate) fn prepared(alloc: Global, call: &Call, id: u64) -> Result<ItemMap, A
         ItemMap::new(alloc)
     };
     if fields.completion == Completion::OptIn {
-        let state = ItemValue::Local(State::new(alloc));
-        writes.insert(sender_item(fields, id), state)?;
+        let state = SharedState::new(alloc, State::new(alloc))?;
+        writes.insert(sender_item(fields, id), ItemValue::Local(state))?;
     }
     Ok(writes)
 }

@@ -52,7 +52,7 @@ pub(crate) fn local_state<'a>(
     ensures { Answers option_copied result (answer_from (known_to env.now) (local_state who id)) }
 {
     match known(alloc, env, &Item::Local(who, id))? {
-        ItemValue::Local(state) => Ok(Some(state)),
+        ItemValue::Local(state) => Ok(Some(state.get())),
         _ => Ok(None),
     }
 }

@@ -8,9 +8,11 @@
 mod entry_counts;
 pub mod laws;
 mod schema;
+mod shared_state;
 pub mod sorted_entries;
 mod state;
 
 pub use entry_counts::EntryCounts;
 pub use schema::{MAX_GLOBAL_ENTRIES, MAX_LOCAL_ENTRIES, Schema};
+pub use shared_state::SharedState;
 pub use state::{MAX_VALUE_BYTES, State};

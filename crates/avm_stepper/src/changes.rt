@@ -139,7 +139,7 @@ fn push_account(
         return Ok(());
     }
     let found = match before.local_state(&account, id) {
-        Some(old) => key_changes(alloc, old, state)?,
+        Some(old) => key_changes(alloc, old.get(), state)?,
         None => key_changes(alloc, &State::new(alloc), state)?,
     };
     push_all(changes, &account, found)
@@ -158,7 +158,7 @@ pub(crate) fn local_changes(
 {
     let mut changes = Vec::new(alloc);
     for (place, state) in after.local_states() {
-        push_account(alloc, &mut changes, before, id, place, state)?;
+        push_account(alloc, &mut changes, before, id, place, state.get())?;
     }
     Ok(changes)
 }

@@ -2,7 +2,7 @@
 
 use avm_items::{Item, ItemMap, ItemValue, item_of, put_open};
 use avm_ledger::{Application, IdsEnd, Ledger, OpenLedger};
-use avm_states::{EntryCounts, Schema, State};
+use avm_states::{EntryCounts, Schema, SharedState, State};
 use std::alloc::Global;
 use std::test::Fail;
 use teal_check::{Program, check};
@@ -190,7 +190,7 @@ fn some_items(alloc: Global) -> Result<ItemMap, Fail> {
     let mut items = ItemMap::new(alloc);
     items.insert(Item::Key(1, key("a")?), ItemValue::Key(Value::Uint(1)))?;
     items.insert(Item::Key(1, key("n")?), ItemValue::Absent)?;
-    let state = ItemValue::Local(State::new(alloc));
+    let state = ItemValue::Local(SharedState::new(alloc, State::new(alloc))?);
     items.insert(Item::Local(ZERO_ADDRESS, 1), state)?;
     items.insert(Item::NextApp, ItemValue::NextApp(5))?;
     Ok(items)

@@ -4,7 +4,7 @@ use crate::data::{bytes_of, ledger_of, programs};
 use avm_call_codec::{CallCodec, CallDataFault};
 use avm_items::CallData;
 use avm_ledger::Ledger;
-use avm_states::{Schema, State};
+use avm_states::{Schema, SharedState};
 use std::alloc::Global;
 use std::test::Fail;
 use teal_value::{Address, Failure, StateKey, Value};
@@ -57,9 +57,12 @@ fn has_row(ledger: &Ledger) -> bool {
 }
 
 /// Whether a state has one byte string alone.
-fn has_one(state: Option<&State>) -> bool {
+fn has_one(state: Option<&SharedState>) -> bool {
     match state {
-        Some(state) => state.counts().uints() == 0 && state.counts().bytes() == 1,
+        Some(state) => {
+            let counts = state.get().counts();
+            counts.uints() == 0 && counts.bytes() == 1
+        }
         None => false,
     }
 }

@@ -24,7 +24,7 @@ pub fn put_accounts(alloc: Global, out: &mut Pretty, ledger: &Ledger) -> Result<
         let (who, id) = *key;
         turn_to(alloc, out, "apps-local-state", current, who)?;
         current = Some(who);
-        put_local(alloc, out, id, state)?;
+        put_local(alloc, out, id, state.get())?;
     }
     close(out, current)?;
     end_array(out)

@@ -52,7 +52,10 @@ pub fn value_text(alloc: Global, value: &ItemValue) -> Result<String, AllocError
             let digits = hex::encode(alloc, bytes.as_slice())?;
             format!(in alloc; "0x{digits}")
         }
-        ItemValue::Local(state) => format!(in alloc; "a local state of {} entries", state.len()),
+        ItemValue::Local(state) => format!(in alloc;
+            "a local state of {} entries",
+            state.get().len()
+        ),
     }
 }
 
