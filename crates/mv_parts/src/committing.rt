@@ -72,12 +72,17 @@ fn index_of(entries: &[Entry], timestamp: u64) -> usize
     requires { IsRising 0 entries.now }
     ensures { result ≡ entries_not_above timestamp entries.now }
 {
-    // Calls commit in about the order of their timestamps, so it is mostly among the last.
-    for above in 0..entries.len() {
-        let index = entries.len() - above;
-        if entries[index - 1].timestamp() <= timestamp {
-            return index;
-        }
+    match entries.last() {
+        // Calls mostly commit in the order of their timestamps.
+        Some(last) if last.timestamp() <= timestamp => entries.len(),
+        _ => first_above(entries, timestamp),
     }
-    0
+}
+
+/// The index of the first entry above a timestamp, or how many entries there are.
+fn first_above(entries: &[Entry], timestamp: u64) -> usize
+    requires { IsRising 0 entries.now }
+    ensures { result ≡ entries_not_above timestamp entries.now }
+{
+    entries.partition_point(|entry| entry.timestamp <= timestamp)
 }
