@@ -7,6 +7,7 @@ ghost use Rattle.sha2.specs.Sha512.{sha512_256};
 ghost use Rattle.teal_value.specs.Answer.{Gives};
 ghost use Rattle.avm_ops.specs.ByteStrings.{big_endian, number_of_bytes, range_of};
 ghost use Rattle.avm_arith.specs.Families.{of_bytes_opcode, of_bytes_value};
+ghost use Rattle.avm_arith.specs.Given.{given_value};
 
 use avm_cpu::{Cpu, Flow};
 use avm_items::Env;
@@ -26,6 +27,13 @@ pub enum OfBytes {
     Len,
     Btoi,
     Substring,
+}
+
+/// What an instruction gives: a digest, which can stand in the memory of the bytes that it is of, or another value.
+#[derive(Drop)]
+enum Given {
+    Digest([u8; 32]),
+    Value(Value),
 }
 
 impl OfBytes {
@@ -56,27 +64,25 @@ impl OfBytes {
         }
     }
 
-    /// The value that it gives.
-    fn value(
+    /// What it gives.
+    #[inline(always)]
+    fn given(
         self,
         alloc: Global,
         immediates: &Immediates,
         bytes: &[u8],
-    ) -> Result<Value, Failure<Fault>>
-        ensures { Gives (λ v. v) result (of_bytes_value self immediates.now bytes.now) }
+    ) -> Result<Given, Failure<Fault>>
+        ensures { Gives given_value result (of_bytes_value self immediates.now bytes.now) }
     {
         match self {
-            OfBytes::Sha256 => Ok(Value::Bytes(ByteString::from_slice(alloc, &sha256(bytes))?)),
-            OfBytes::Sha512_256 => Ok(Value::Bytes(ByteString::from_slice(
-                alloc,
-                &sha512_256(bytes),
-            )?)),
-            OfBytes::Len => Ok(Value::Uint(bytes.len() as u64)),
-            OfBytes::Btoi => number_of(bytes),
+            OfBytes::Sha256 => Ok(Given::Digest(sha256(bytes))),
+            OfBytes::Sha512_256 => Ok(Given::Digest(sha512_256(bytes))),
+            OfBytes::Len => Ok(Given::Value(Value::Uint(bytes.len() as u64))),
+            OfBytes::Btoi => Ok(Given::Value(number_of(bytes)?)),
             OfBytes::Substring => {
                 let start = u64::from(start_of(immediates));
                 let end = u64::from(end_of(immediates));
-                range_of(alloc, bytes, start, end)
+                Ok(Given::Value(range_of(alloc, bytes, start, end)?))
             }
         }
     }
@@ -88,8 +94,10 @@ impl OfBytes {
             instr.now.immediates cpu.old _env.old result cpu.new _env.new }
     {
         let bytes = cpu.one_bytes()?;
-        let value = self.value(alloc, &instr.immediates, bytes)?;
-        cpu.replace(1, value);
+        match self.given(alloc, &instr.immediates, bytes)? {
+            Given::Digest(digest) => cpu.set_bytes(alloc, &digest)?,
+            Given::Value(value) => cpu.replace(1, value),
+        }
         Ok(Flow::Next)
     }
 }

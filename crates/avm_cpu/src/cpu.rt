@@ -506,6 +506,21 @@ impl Cpu {
         self.put_uint_over(count, number);
     }
 
+    /// Puts a copy of bytes in the place of the value on top: in the memory of that, if it is a byte string that has enough.
+    pub fn set_bytes(&mut self, alloc: Global, bytes: &[u8]) -> Result<(), AllocError>
+        requires { 0 < length self.old.stack }
+        ensures { IfOk result
+            (λ _. self.new ≡ with_stack self.old (Bytes bytes.now ∷ drop 1 self.old.stack)) }
+    {
+        let _depth = self.depth();
+        let copy = match self.take_top() {
+            Value::Bytes(memory) => memory.rewritten(alloc, bytes)?,
+            Value::Uint(_) => ByteString::from_slice(alloc, bytes)?,
+        };
+        self.put_over(0, Value::Bytes(copy));
+        Ok(())
+    }
+
     /// Puts two values in the place of those on top, so many, of which there are at least two; the second becomes the
     /// top.
     pub fn replace_pair(&mut self, count: usize, below: Value, top: Value)
@@ -692,6 +707,7 @@ impl Cpu {
 
     /// Puts other byte constants in force, and takes memory only where what the machine held before has no room for them.
     /// Where an allocation is refused those of before stay.
+    #[inline(always)]
     pub fn set_byte_constants(
         &mut self,
         alloc: Global,
