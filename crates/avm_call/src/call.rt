@@ -81,6 +81,7 @@ impl Call {
     }
 
     /// The fields as a call that shares them, or the first rule that they break.
+    #[inline(always)]
     pub fn of_shared(alloc: Global, fields: Arc<CallData>) -> Result<Call, CallError>
         ensures ok { IfOk result (λ call. (call ≡ arc_value fields)
             × (call_fault (arc_value fields) ≡ None)) }

@@ -136,6 +136,7 @@ impl Env {
     }
 
     /// Gives the call the value of an item.
+    #[inline(always)]
     pub fn read(&mut self, item: Item, value: ItemValue) -> Result<(), AllocError>
         ensures ok { IfOk result
             (λ _. self.new ≡ record self.old { reads = with_item self.old.reads item value }) }
@@ -145,6 +146,7 @@ impl Env {
     }
 
     /// Writes an item.
+    #[inline(always)]
     pub fn write(&mut self, item: Item, value: ItemValue) -> Result<(), AllocError>
         ensures ok { IfOk result
             (λ _. self.new ≡ record self.old { writes = with_item self.old.writes item value }) }
@@ -203,6 +205,14 @@ impl Env {
         };
         state.remove(key)?;
         self.writes.insert(item, ItemValue::Local(state))
+    }
+
+    /// Keeps the room of the items that a call was given, for the next call's.
+    pub fn keep_room(&mut self, items: ItemMap)
+        ensures { self.new ≡ record self.old { reads = [] } }
+    {
+        self.reads = items;
+        self.reads.clear();
     }
 
     /// Takes out the items that the call was given and those that it has written. It takes no memory.

@@ -55,6 +55,7 @@ impl ItemMap {
     }
 
     /// The value of an item, found in logarithmic time.
+    #[inline(always)]
     pub fn get(&self, item: &Item) -> Option<&ItemValue>
         ensures { option_copied result ≡ value_in self.now item.now }
     {
@@ -131,7 +132,15 @@ impl ItemMap {
         self.values.retain(|entry| !entry.0.is_global_of(id));
     }
 
+    /// Takes all items out, and keeps the room that they had.
+    pub fn clear(&mut self)
+        ensures { self.new ≡ [] }
+    {
+        self.values.clear();
+    }
+
     /// Gives an item a value, in place of the one that it may have had.
+    #[inline(always)]
     pub fn insert(&mut self, item: Item, value: ItemValue) -> Result<(), AllocError>
         ensures ok { IfOk result (λ _. self.new ≡ with_item self.old item value) }
         ensures memory { IfErr result (λ _. self.new ≡ self.old) }

@@ -11,6 +11,7 @@ use std::alloc::AllocError;
 
 /// The value of an item in a ledger, which shares an application or a local state with it. It is found in logarithmic
 /// time; the calls of [`Ledger`] lend what needs no copy.
+#[inline(always)]
 pub fn item_of(ledger: &Ledger, item: &Item) -> Result<ItemValue, AllocError>
     ensures { IfOk result (λ value. value ≡ at ledger.now item.now) }
 {

@@ -33,6 +33,7 @@ fn remove(ledger: &mut OpenLedger, item: &Item)
 
 /// Sets an item to a value that is not absent, and answers the value that it had; nothing, where the value is of another
 /// kind than the item's and nothing is set.
+#[inline(always)]
 fn set(
     alloc: Global,
     ledger: &mut OpenLedger,
@@ -104,6 +105,7 @@ fn remove_all(ledger: &mut OpenLedger, items: &[Item])
 
 /// Sets the item of an entry, or keeps it in `absent` for later if it is to be absent. The entry then has what puts the
 /// ledger back.
+#[inline(always)]
 fn change(
     alloc: Global,
     ledger: &mut OpenLedger,
@@ -131,6 +133,7 @@ fn change(
 
 /// Sets items, and keeps those that are to be absent. The entries then have what puts the ledger back; where memory is
 /// refused, only those are left that were changed.
+#[inline(always)]
 fn change_all(
     alloc: Global,
     ledger: &mut OpenLedger,
@@ -154,6 +157,7 @@ fn change_all(
 /// Puts items into an open ledger, without a copy of a value. Each takes logarithmic time.
 ///
 /// First all is set that is not to be absent, since only that can want memory; then what is to be absent is taken out.
+#[inline(always)]
 pub fn put_open(alloc: Global, ledger: &mut OpenLedger, items: ItemMap) -> Result<(), AllocError>
     ensures put { IfOk result (λ _. ledger.new ≡ put ledger.old items) }
     ensures unchanged { IfErr result (λ _. ledger.new ≡ ledger.old) }

@@ -196,6 +196,7 @@ impl Ledger {
     }
 
     /// The value of a key of an application's global state.
+    #[inline(always)]
     pub fn global_value(&self, id: u64, key: &StateKey) -> Option<&Value>
         ensures { option_copied result ≡ global_value self.now id key.now }
     {

@@ -122,6 +122,7 @@ impl OpenLedger {
 
     /// Gives a key of the global state of an application a value, and answers the one that it replaces. Where the
     /// application is gone, nothing is set. Only a new key can be refused, as by [`State::insert`].
+    #[inline(always)]
     pub fn set_key(
         &mut self,
         id: u64,

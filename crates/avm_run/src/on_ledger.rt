@@ -14,7 +14,7 @@ use crate::admission::first_item;
 use crate::context::RunContext;
 use crate::executions::Executions;
 use crate::phase::{EndedRun, Phase, RunOutcome, run_on};
-use crate::running::Spare;
+use crate::running::{Spare, keep_room, no_items};
 use avm_call::{Call, Outcome};
 use avm_items::{ItemMap, item_of, put_items};
 use avm_laws::call_laws::changes_are_handed_on;
@@ -93,6 +93,7 @@ pub fn call_on_counted<L: ledger::Ledger, O: Op>(
     every_call_keeps_order();
     changes_are_handed_on();
     put_items(context.alloc, ledger, closed.writes)?;
+    keep_room(spare, closed.reads);
     Ok(closed.outcome)
 }
 
@@ -132,7 +133,8 @@ fn run_over<L: ledger::Ledger, O: Op>(
     let _fields = call.fields();
     let first = first_item(call);
     let value = item_of(ledger, &first)?;
-    let mut phase = Phase::Tests(ItemMap::new(context.alloc)).supplied(first, value)?;
+    let items = no_items(context.alloc, spare);
+    let mut phase = Phase::Tests(items).supplied(first, value)?;
     loop {
         match run_on(context, call, phase, spare, executions)? {
             RunOutcome::Need(asking, item) => {

@@ -66,6 +66,7 @@ pub(crate) enum PathOutcome {
 
 impl Phase {
     /// The phase with one item more supplied. An application that is supplied has programs, as its type keeps.
+    #[inline(always)]
     pub(crate) fn supplied(self, item: Item, value: ItemValue) -> Result<Phase, AllocError>
         ensures supplied { IfOk result (λ phase. IsSupplied self phase item value) }
         ensures programs { IsTrue (has_programs value) }
@@ -111,6 +112,7 @@ fn keeps_programs(value: &ItemValue)
 
 /// Runs on to the end of the call, or to an item that was not supplied. A program begins in the spare box, where there is
 /// one, and leaves its own there at its end.
+#[inline(always)]
 pub(crate) fn run_on<L: Ledger, O: Op>(
     context: &RunContext<'_, O>,
     call: &Call,
@@ -163,6 +165,7 @@ pub(crate) fn step_on<L: Ledger, O: Op>(
 }
 
 /// Makes the tests before the program, and stands before its first instruction where they pass.
+#[inline(always)]
 fn run_tests<O: Op>(
     context: &RunContext<'_, O>,
     call: &Call,
@@ -227,6 +230,7 @@ fn step_program<L: Ledger, O: Op>(
 }
 
 /// Runs the program on to its end, or to an item that was not supplied.
+#[inline(always)]
 fn run_program<L: Ledger, O: Op>(
     context: &RunContext<'_, O>,
     call: &Call,
@@ -274,6 +278,7 @@ fn run_program<L: Ledger, O: Op>(
 fn discard(_running: Box<Running>) {}
 
 /// Leaves the box of a program for the next run.
+#[inline(always)]
 fn give_back(spare: &mut Option<Spare>, running: Box<Running>) {
     if let Some(before) = mem::replace(spare, Some(Spare { running })) {
         discard(before.running);
@@ -281,6 +286,7 @@ fn give_back(spare: &mut Option<Spare>, running: Box<Running>) {
 }
 
 /// A run whose program has ended so. Its box is spare again.
+#[inline(always)]
 fn close<O: Op>(
     context: &RunContext<'_, O>,
     call: &Call,
@@ -301,6 +307,7 @@ fn close<O: Op>(
 }
 
 /// Takes the items out of a run whose program has ended so, and ends the call.
+#[inline(always)]
 fn ended_run<O: Op>(
     context: &RunContext<'_, O>,
     call: &Call,

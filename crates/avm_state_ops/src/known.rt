@@ -15,6 +15,7 @@ use std::alloc::Global;
 use teal_value::{Address, StateKey, Value};
 
 /// The value of an item that is known.
+#[inline(always)]
 pub(crate) fn known<'a>(alloc: Global, env: &'a Env, item: &Item) -> Result<&'a ItemValue, Stop>
     ensures { MatchResult result (λ v. known_to env.now item.now ≡ Some v.now)
         (StopsFor (known_to env.now item.now) item.now) }

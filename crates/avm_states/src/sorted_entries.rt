@@ -14,6 +14,7 @@ use std::alloc::AllocError;
 use std::mem;
 
 /// Where a key stands, or where it would go, found in logarithmic time.
+#[inline(always)]
 pub fn place_of<K: Ord, V>(entries: &[(K, V)], key: &K) -> Result<usize, usize>
     requires order { IsStrictlySortedBy K.cmp (keys_of entries.now) }
     ensures { IsPlaceOf K.cmp key.now entries.now result }
@@ -33,6 +34,7 @@ pub fn value_of<'a, K: Ord, V>(entries: &'a [(K, V)], key: &K) -> Option<&'a V>
 }
 
 /// Gives a key a value, in place of the one that it may have had, which is answered. Only a new key can be refused.
+#[inline(always)]
 pub fn put<K: Ord + Drop, V: Drop>(
     entries: &mut Vec<(K, V)>,
     key: K,

@@ -107,6 +107,7 @@ impl State {
 
     /// Gives a key a value, in place of the one that it may have had, which is answered. Only a new key can want
     /// memory.
+    #[inline(always)]
     pub fn insert(&mut self, key: StateKey, value: Value) -> Result<Option<Value>, AllocError>
         ensures old { IfOk result (λ old. old ≡ value_of_key self.old key) }
         ensures set { IfOk result (λ _. self.new ≡ with_entry self.old key value) }

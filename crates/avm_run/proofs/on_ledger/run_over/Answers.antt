@@ -17,15 +17,15 @@ pub loop-asking-init : goal.loop-asking-init
 loop-asking-init g c =
     let call = c.args.call.now in
     let header = c.args.context.now.header.now in
-    let alive = starts_alive call header c.new.result c.new.ensures c.fields-fields.ensures.checked in
-    let asks = ap (λ items. answer_from (value_in items) (call_result call header)) c.new.ensures ∙ c.first_item-first.ensures header in
-    let given = supplied call header (phase.Tests c.new.result) c.in_ok-phase.phase c.first_item-first.result c.in_ok-value.value alive asks c.supplied.ensures.programs c.in_ok-phase.ensures.supplied in
-    let reads : reads_of c.in_ok-phase.phase ≡ with_item [] c.first_item-first.result c.in_ok-value.value = given.reads ∙ ap (λ items. with_item items c.first_item-first.result c.in_ok-value.value) c.new.ensures in
+    let alive = starts_alive call header c.no_items-items.result c.no_items-items.ensures c.fields-fields.ensures.checked in
+    let asks = ap (λ items. answer_from (value_in items) (call_result call header)) c.no_items-items.ensures ∙ c.first_item-first.ensures header in
+    let given = supplied call header (phase.Tests c.no_items-items.result) c.in_ok-phase.phase c.first_item-first.result c.in_ok-value.value alive asks c.supplied.ensures.programs c.in_ok-phase.ensures.supplied in
+    let reads : reads_of c.in_ok-phase.phase ≡ with_item [] c.first_item-first.result c.in_ok-value.value = given.reads ∙ ap (λ items. with_item items c.first_item-first.result c.in_ok-value.value) c.no_items-items.ensures in
     record {
       alive = given.alive;
       agrees = subst (λ (items : ItemMap). LookAgrees (value_in items) (at c.args.ledger.now)) (sym reads)
           (agrees_after [] c.first_item-first.result c.in_ok-value.value (at c.args.ledger.now) (sym c.in_ok-value.ensures) (record { at = λ x v e. absurd cc }));
-      few = omega (arith, few_left call header c.new.result c.first_item-first.result alive.few asks, ap length c.new.ensures, ap length reads, longer_by_one call header [] c.first_item-first.result c.in_ok-value.value (c.first_item-first.ensures header));
+      few = omega (arith, few_left call header c.no_items-items.result c.first_item-first.result alive.few asks, ap length c.no_items-items.ensures, ap length reads, longer_by_one call header [] c.first_item-first.result c.in_ok-value.value (c.first_item-first.ensures header));
       executed = executed_none _ _ _ given.steps;
     }
 
