@@ -4,7 +4,7 @@ ghost use Rattle.std.specs.Prelude.{◌≡◌, IfOk};
 ghost use Rattle.avm_commands.specs.Answers.{asm_reply, assembly_reply};
 ghost use Rattle.avm_input.specs.Shown.{reply_shown};
 
-use avm_input::{DONE, REFUSED, Reply, digit_line, input_refusal};
+use avm_input::{DONE, REFUSED, Reply, digit_line_bytes, input_refusal};
 use std::alloc::{AllocError, Global};
 use std::str;
 use teal_asm::{AsmFault, assemble};
@@ -27,7 +27,7 @@ pub fn asm_reply(alloc: Global, input: &[u8]) -> Result<Reply, AllocError>
 fn program_reply(alloc: Global, program: &[u8]) -> Result<Reply, AllocError>
     ensures { IfOk result (λ reply. reply_shown reply ≡ assembly_reply (Ok program.now)) }
 {
-    let text = digit_line(alloc, program)?;
+    let text = digit_line_bytes(alloc, program)?;
     Ok(Reply { text, status: DONE })
 }
 
@@ -38,7 +38,7 @@ fn fault_reply(alloc: Global, fault: AsmFault) -> Result<Reply, AllocError>
     let name = fault.kind.name();
     let text = format!(in alloc; "refused asm {line} {name}\n")?;
     Ok(Reply {
-        text,
+        text: text.into_bytes(),
         status: REFUSED,
     })
 }

@@ -10,7 +10,7 @@ ghost use Rattle.avm_input.specs.Shown.{reply_shown};
 use avm_block::Block;
 use avm_call::Outcome;
 use avm_input::{
-    DONE, REFUSED, Refusal, Reply, digit_line, ledger_and_block, outcome_text, refusal_reply,
+    DONE, REFUSED, Refusal, Reply, digit_line_bytes, ledger_and_block, outcome_text, refusal_reply,
 };
 use avm_ledger::Ledger;
 use avm_ops::Op;
@@ -52,7 +52,7 @@ fn ledger_reply(alloc: Global, ledger: &Ledger) -> Result<Reply, AllocError>
     ensures { IfOk result (λ reply. reply_shown reply ≡ ledger_reply (Ok ledger.now)) }
 {
     let bytes = ledger.canonical(alloc)?;
-    let text = digit_line(alloc, bytes.as_slice())?;
+    let text = digit_line_bytes(alloc, bytes.as_slice())?;
     Ok(Reply { text, status: DONE })
 }
 
@@ -82,7 +82,10 @@ fn agrees_reply(alloc: Global, digest: &[u8; 32]) -> Result<Reply, AllocError>
 {
     let digits = hex::encode(alloc, digest.as_slice())?;
     let text = format!(in alloc; "agrees {digits}\n")?;
-    Ok(Reply { text, status: DONE })
+    Ok(Reply {
+        text: text.into_bytes(),
+        status: DONE,
+    })
 }
 
 fn wrong_outcome_reply(alloc: Global, entry: usize, found: Outcome) -> Result<Reply, AllocError>
@@ -92,7 +95,7 @@ fn wrong_outcome_reply(alloc: Global, entry: usize, found: Outcome) -> Result<Re
     let found = outcome_text(alloc, found)?;
     let text = format!(in alloc; "wrong outcome {entry} {found}\n")?;
     Ok(Reply {
-        text,
+        text: text.into_bytes(),
         status: REFUSED,
     })
 }
@@ -103,7 +106,7 @@ fn wrong_reply(alloc: Global, text: &str) -> Result<Reply, AllocError>
 {
     let text = String::from_str(alloc, text)?;
     Ok(Reply {
-        text,
+        text: text.into_bytes(),
         status: REFUSED,
     })
 }

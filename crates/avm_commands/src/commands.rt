@@ -75,9 +75,9 @@ pub fn answer_to<R: Read, W: Write, O: Op>(
     ensures reads_nothing { command ≡ None → reader.new ≡ reader.old }
 {
     match command {
-        None => write_reply(writer, USAGE_TEXT, USAGE),
+        None => write_reply(writer, USAGE_TEXT.as_bytes(), USAGE),
         Some(command) => match reply_of(alloc, command, reader, ops) {
-            Ok(reply) => write_reply(writer, reply.text.as_str(), reply.status),
+            Ok(reply) => write_reply(writer, reply.text.as_slice(), reply.status),
             Err(_) => FAILED,
         },
     }

@@ -56,7 +56,10 @@ fn found_reply<O: Op>(
         IsFoundReply point.number point.steps (Ok (ledger.now, block.now)) (reply_shown reply)) }
 {
     match view_found(alloc, ledger, block, point, ops) {
-        Ok(text) => Ok(Reply { text, status: DONE }),
+        Ok(text) => Ok(Reply {
+            text: text.into_bytes(),
+            status: DONE,
+        }),
         Err(Failure::Fault(refusal)) => refusal_reply(alloc, refusal),
         Err(Failure::Memory) => Err(AllocError),
     }

@@ -20,7 +20,10 @@ pub fn dis_reply(alloc: Global, input: &[u8]) -> Result<Reply, AllocError>
     match only_program(alloc, input) {
         Ok(program) => {
             let text = list(alloc, &program)?;
-            Ok(Reply { text, status: DONE })
+            Ok(Reply {
+                text: text.into_bytes(),
+                status: DONE,
+            })
         }
         Err(failure) => refusal_reply(alloc, failure.into_fault()?),
     }
@@ -42,7 +45,10 @@ fn size_reply(alloc: Global, program: &Program) -> Result<Reply, AllocError>
     let count = program.count();
     let cost = program.cost();
     let text = format!(in alloc; "ok instructions {count} cost {cost}\n")?;
-    Ok(Reply { text, status: DONE })
+    Ok(Reply {
+        text: text.into_bytes(),
+        status: DONE,
+    })
 }
 
 // The program of the only line.

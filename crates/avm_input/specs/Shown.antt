@@ -4,7 +4,7 @@ use Rattle.avm_input.specs.declared.replies.Reply.{Reply as WrittenReply}
 use Rattle.avm_input.specs.Replies.{Reply}
 
 abbrev pub reply_shown : WrittenReply → Reply
-reply_shown reply = record { text = string_bytes reply.text; status = reply.status }
+reply_shown reply = record { text = reply.text.items; status = reply.status }
 
 abbrev pub texts : {A : Type 0} → List (String A) → List (List ℕ)
 texts lines = map string_bytes lines

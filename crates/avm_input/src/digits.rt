@@ -128,13 +128,20 @@ fn digit_number(digit: u8) -> u8
 pub fn digit_line(alloc: Global, bytes: &[u8]) -> Result<String, AllocError>
     ensures { IfOk result (λ line. string_bytes line ≡ encode_lower bytes.now ++ codes "\n") }
 {
-    let mut line = Vec::with_capacity(alloc, bytes.len().saturating_mul(2).saturating_add(1))?;
-    add_digits(&mut line, bytes)?;
-    line.push(b'\n')?;
-    match String::from_utf8(line) {
+    match String::from_utf8(digit_line_bytes(alloc, bytes)?) {
         Ok(line) => Ok(line),
         Err(_) => unreachable!(),
     }
+}
+
+/// A line of the digits of bytes, as [`digit_line`] makes it, without the test for UTF-8 that makes a text of it.
+pub fn digit_line_bytes(alloc: Global, bytes: &[u8]) -> Result<Vec<u8>, AllocError>
+    ensures { IfOk result (λ line. line.items ≡ encode_lower bytes.now ++ codes "\n") }
+{
+    let mut line = Vec::with_capacity(alloc, bytes.len().saturating_mul(2).saturating_add(1))?;
+    add_digits(&mut line, bytes)?;
+    line.push(b'\n')?;
+    Ok(line)
 }
 
 /// Adds the digits of bytes.

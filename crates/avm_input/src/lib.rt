@@ -18,7 +18,7 @@ pub use block_lines::{ledger_and_block, needed_bytes, next_base};
 pub use call_line::{CallLineFault, checked_call};
 pub use command_line::{NodeCommand, command_in, words_of_commands, workers_of};
 pub use digit_lines::{DigitLines, NumberedLine, line_bytes};
-pub use digits::{decode_digits, digit_line};
+pub use digits::{decode_digits, digit_line, digit_line_bytes};
 pub use input::{INPUT_LIMIT, read_input};
 pub use outcomes::outcome_text;
 pub use refusals::{Refusal, check_place, refusal_reply};

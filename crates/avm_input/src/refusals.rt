@@ -55,7 +55,7 @@ pub fn refusal_reply(alloc: Global, refusal: Refusal) -> Result<Reply, AllocErro
         Refusal::Ended => String::from_str(alloc, "refused debug Ended\n")?,
     };
     Ok(Reply {
-        text,
+        text: text.into_bytes(),
         status: REFUSED,
     })
 }

@@ -9,10 +9,10 @@ ghost use Rattle.avm_input.specs.Shown.{reply_shown};
 use std::alloc::{AllocError, Global};
 use std::io::{ErrorKind, Write};
 
-/// A text to write and an exit status.
+/// The bytes of a text to write, and an exit status. A `String` would test long lines of digits for being UTF-8.
 #[derive(Drop)]
 pub struct Reply {
-    pub text: String,
+    pub text: Vec<u8>,
     pub status: u8,
 }
 
@@ -34,20 +34,20 @@ pub fn input_refusal(alloc: Global) -> Result<Reply, AllocError>
 {
     let text = String::from_str(alloc, "refused input\n")?;
     Ok(Reply {
-        text,
+        text: text.into_bytes(),
         status: REFUSED,
     })
 }
 
 /// Writes a text, and gives the status that goes with it, or that of a failed write, before which a beginning of the text
 /// may have been written.
-pub fn write_reply<W: Write>(writer: &mut W, text: &str, status: u8) -> u8
+pub fn write_reply<W: Write>(writer: &mut W, text: &[u8], status: u8) -> u8
     ensures written { result ≢ failed → IsWritten (record { text = text.now; status = status })
         (W.contents writer.old) (W.contents writer.new) result }
     ensures begun { IsBegun (record { text = text.now; status = status })
         (W.contents writer.old) (W.contents writer.new) }
 {
-    if write_text(writer, text.as_bytes()) {
+    if write_text(writer, text) {
         status
     } else {
         FAILED

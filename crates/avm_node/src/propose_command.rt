@@ -9,7 +9,7 @@ ghost use Rattle.avm_input.specs.Shown.{reply_shown};
 ghost use Rattle.avm_node.specs.WorkerSets.{AreWorkerSets};
 
 use crate::propose_input::{ProposeInput, propose_input};
-use avm_input::{DONE, REFUSED, Reply, digit_line, refusal_reply};
+use avm_input::{DONE, REFUSED, Reply, digit_line_bytes, refusal_reply};
 use avm_ops::{Op, Ops};
 use avm_pool::{Draft, OpenGate, PoolFault, Proposal, SharedBase, ThreadSets, propose_on};
 use std::alloc::{AllocError, Global};
@@ -70,8 +70,10 @@ fn pool_answer<R: Threads + Wait + Sync, O: Op>(
 fn proposal_reply(alloc: Global, proposal: &Proposal) -> Result<Reply, AllocError>
     ensures { IfOk result (λ reply. reply_shown reply ≡ proposal_reply proposal.now) }
 {
-    let mut text = digit_line(alloc, proposal.bytes.as_slice())?;
-    add_left(alloc, &mut text, proposal.left.as_slice())?;
+    let mut text = digit_line_bytes(alloc, proposal.bytes.as_slice())?;
+    let mut left = String::new(alloc);
+    add_left(alloc, &mut left, proposal.left.as_slice())?;
+    text.extend_from_slice(left.as_bytes())?;
     Ok(Reply { text, status: DONE })
 }
 
@@ -94,7 +96,7 @@ fn pool_reply(alloc: Global, fault: PoolFault) -> Result<Reply, AllocError>
     let name = fault.name();
     let text = format!(in alloc; "refused pool {name}\n")?;
     Ok(Reply {
-        text,
+        text: text.into_bytes(),
         status: REFUSED,
     })
 }

@@ -51,7 +51,7 @@ pub fn run<'a, T: Threads + Wait + Sync, R: Read, W: Write, O: Op>(
             Some(workers) => {
                 sets.truncate(usize::from(workers));
                 match proposed(rt, alloc, workers, reader, sets, own) {
-                    Ok(reply) => write_reply(writer, reply.text.as_str(), reply.status),
+                    Ok(reply) => write_reply(writer, reply.text.as_slice(), reply.status),
                     Err(_) => FAILED,
                 }
             }

@@ -41,7 +41,10 @@ fn document_reply(alloc: Global, document: &Document) -> Result<Reply, AllocErro
         (λ reply. reply_shown reply ≡ document_reply (Ok (document_shown document.now))) }
 {
     let text = lines_text(alloc, document)?;
-    Ok(Reply { text, status: DONE })
+    Ok(Reply {
+        text: text.into_bytes(),
+        status: DONE,
+    })
 }
 
 /// The line that names a fault, as an answer.
@@ -50,7 +53,7 @@ fn fault_reply(alloc: Global, fault: &Fault) -> Result<Reply, AllocError>
 {
     let text = fault_text(alloc, fault)?;
     Ok(Reply {
-        text,
+        text: text.into_bytes(),
         status: REFUSED,
     })
 }

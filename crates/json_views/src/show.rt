@@ -40,7 +40,10 @@ fn document_reply(
     let mut out = Pretty::new(alloc);
     put_document(alloc, &mut out, base, block)?;
     let text = document_text(out)?;
-    Ok(Reply { text, status: DONE })
+    Ok(Reply {
+        text: text.into_bytes(),
+        status: DONE,
+    })
 }
 
 fn put_document(

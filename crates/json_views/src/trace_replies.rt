@@ -41,7 +41,10 @@ fn found_reply<O: Op>(
         (λ reply. IsFoundReply entry (Ok (ledger.now, block.now)) (reply_shown reply)) }
 {
     match trace_found(alloc, ledger, block, entry, ops) {
-        Ok(text) => Ok(Reply { text, status: DONE }),
+        Ok(text) => Ok(Reply {
+            text: text.into_bytes(),
+            status: DONE,
+        }),
         Err(Failure::Fault(refusal)) => refused_reply(alloc, refusal),
         Err(Failure::Memory) => Err(AllocError),
     }
@@ -53,7 +56,7 @@ fn refused_reply(alloc: Global, refusal: TraceRefusal) -> Result<Reply, AllocErr
     match refusal {
         TraceRefusal::Opening(fault) => refusal_reply(alloc, Refusal::Opening(fault)),
         TraceRefusal::TooLong => Ok(Reply {
-            text: String::from_str(alloc, "refused trace TooLong\n")?,
+            text: String::from_str(alloc, "refused trace TooLong\n")?.into_bytes(),
             status: REFUSED,
         }),
     }

@@ -4,7 +4,7 @@ use Rattle.json_views.proofs.TraceTexts.{found_shown}
 use Rattle.json_views.proofs.trace_replies.found_reply.Goals as goal
 
 pub returns-in-Ok : goal.returns-in-Ok
-returns-in-Ok g c = found_shown (c.args.ledger.now, c.args.block.now) c.args.entry _ _ c.in-Ok.ensures.found refl
+returns-in-Ok g c = rw c.into_bytes.ensures.value (found_shown (c.args.ledger.now, c.args.block.now) c.args.entry _ _ c.in-Ok.ensures.found refl)
 
 pub returns-in-Err-Fault : goal.returns-in-Err-Fault
 returns-in-Err-Fault g c =
