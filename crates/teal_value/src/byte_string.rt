@@ -85,6 +85,7 @@ impl ByteString {
     }
 
     /// Other bytes, in the memory of these where they fit.
+    #[inline(always)]
     pub fn rewritten(self, alloc: Global, bytes: &[u8]) -> Result<Self, AllocError>
         ensures { IfOk result (λ other. other ≡ bytes.now) }
     {
