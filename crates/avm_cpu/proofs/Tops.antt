@@ -1,5 +1,5 @@
 -- Values by their place from the top, where the top is the last of the first values of a list, so many.
-use Rattle.std.proofs.Common.{◌≡◌, ℕ, suc, zero, ◌+◌, ◌-◌, ◌<◌, ◌≤◌, List, [], ◌∷◌, ◌++◌, length, take, drop, get_or, set, refl, ap, sym, ◌∙◌, arith, length-drop}
+use Rattle.std.proofs.Common.{◌≡◌, ℕ, suc, ◌+◌, ◌-◌, ◌<◌, ◌≤◌, List, [], ◌∷◌, ◌++◌, length, take, drop, get_or, set, ap, sym, ◌∙◌, arith, length-drop}
 use Rattle.std.specs.Prelude.{reverse, slice_get, IfOk, Some}
 use Rattle.std.specs.List.{refill, swap}
 use Rattle.std.proofs.lemmas.List.{append_assoc, drop_all, drop_at, length-reverse, length-set, length-take-le, reverse-append, take-set, take_at, take_more_set}
@@ -82,3 +82,12 @@ swapped xs ys i n is within swaps =
 -- a slice that is written back whole
 pub refilled : {A : Type 0} (xs ws : List A) → length ws ≡ length xs → refill (length xs) xs ws ≡ ws
 refilled xs ws same = ap (λ rest. take (length xs) (ws ++ rest)) (drop_all (length ws) xs (omega arith)) ∙ take_at ws [] (length xs) same
+
+-- the first n, where the last of them was written over
+pub written_top : {A : Type 0} (n : ℕ) (xs ys : List A) (v : A) → 0 < n → n ≤ length xs → ys ≡ set xs (n - 1) v → reverse (take n ys) ≡ v ∷ drop 1 (reverse (take n xs))
+written_top n xs ys v some within is =
+    let whole : n ≡ n - 1 + 1 = omega arith in
+    let room : n - 1 < length xs = omega arith in
+    ap (λ zs. reverse (take n zs)) is
+    ∙ ap (λ j. reverse (take j (set xs (n - 1) v))) whole
+    ∙ put_tops 1 n xs v (omega arith) within room

@@ -20,9 +20,7 @@ fn write_at(
     ensures there { OnOk result (place < length list.new.items) }
 {
     if place < list.len() {
-        let there = &mut list.as_mut_slice()[place];
-        let other = mem::replace(there, ByteString::new());
-        *there = other.rewritten(alloc, string.as_slice())?;
+        list.as_mut_slice()[place].rewrite(alloc, string.as_slice())?;
     } else {
         list.push(string.clone()?)?;
     }

@@ -11,7 +11,9 @@ ghost use Rattle.avm_cpu.specs.Operands.{one_uint, one_bytes, one_value, two_uin
 
 use crate::constants::ByteConstants;
 use crate::push::Push;
-use crate::values::{below_last, put, put_uint, put_zeros, swap_last, take_out, zeros};
+use crate::values::{
+    below_last, put, put_uint, put_zeros, swap_last, take_out, write_bytes, zeros,
+};
 use arrayvec::ArrayVec;
 use std::alloc::{AllocError, Global};
 use std::marker::Model;
@@ -513,11 +515,8 @@ impl Cpu {
             (λ _. self.new ≡ with_stack self.old (Bytes bytes.now ∷ drop 1 self.old.stack)) }
     {
         let _depth = self.depth();
-        let copy = match self.take_top() {
-            Value::Bytes(memory) => memory.rewritten(alloc, bytes)?,
-            Value::Uint(_) => ByteString::from_slice(alloc, bytes)?,
-        };
-        self.put_over(0, Value::Bytes(copy));
+        let place = self.depth - 1;
+        write_bytes(&mut self.stack, place, alloc, bytes)?;
         Ok(())
     }
 

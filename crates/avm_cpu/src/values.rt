@@ -3,13 +3,13 @@
 
 ghost use Rattle.std.specs.Prelude.{◌≡◌, ◌-◌, ◌<◌, ◌≤◌, ◌∷◌, length, drop, replicate, reverse, slice_get, slice_set, take, IfOk, Some};
 ghost use Rattle.std.specs.Option.{option_copied};
-ghost use Rattle.teal_value.specs.declared.value.Value.TheVariants.{Uint};
+ghost use Rattle.teal_value.specs.declared.value.Value.TheVariants.{Bytes, Uint};
 ghost use Rattle.avm_cpu.specs.Operands.{two_values};
 
 use arrayvec::ArrayVec;
 use std::alloc::{AllocError, Global};
 use std::mem;
-use teal_value::Value;
+use teal_value::{ByteString, Value};
 
 /// A list of zeros. It is made out of line, since no caller is to have room for one among its own variables.
 #[inline(never)]
@@ -66,6 +66,35 @@ fn write_uint_over_bytes(there: &mut Value, number: u64)
     ensures { there.new ≡ Uint number }
 {
     *there = Value::Uint(number);
+}
+
+/// Writes a copy of bytes to a place: in the memory of the value there, if it is a byte string that has enough.
+#[inline]
+pub(crate) fn write_bytes<const N: usize>(
+    values: &mut ArrayVec<Value, N>,
+    place: usize,
+    alloc: Global,
+    bytes: &[u8],
+) -> Result<(), AllocError>
+    requires { place < length values.old.items }
+    ensures written { IfOk result
+        (λ _. values.new.items ≡ slice_set values.old.items place (Bytes bytes.now)) }
+    ensures len { length values.new.items ≡ length values.old.items }
+{
+    write_bytes_over(&mut values.as_mut_slice()[place], alloc, bytes)
+}
+
+#[inline]
+fn write_bytes_over(there: &mut Value, alloc: Global, bytes: &[u8]) -> Result<(), AllocError>
+    ensures { IfOk result (λ _. there.new ≡ Bytes bytes.now) }
+{
+    match there {
+        Value::Bytes(before) => before.rewrite(alloc, bytes),
+        Value::Uint(_) => {
+            *there = Value::Bytes(ByteString::from_slice(alloc, bytes)?);
+            Ok(())
+        }
+    }
 }
 
 /// Takes the value at a place, and leaves a zero there.

@@ -69,7 +69,17 @@ impl Item {
 fn is_same_local(who: &[u8; 32], id: u64, other_who: &[u8; 32], other: u64) -> bool
     ensures { result ≡ pointwise ◌==◌ (who.now ++ id ∷ []) (other_who.now ++ other ∷ []) }
 {
-    who == other_who && id == other
+    is_same_account(who, other_who) && id == other
+}
+
+/// Whether two accounts are the same. Where they are not, the first byte mostly shows it.
+fn is_same_account(who: &[u8; 32], other: &[u8; 32]) -> bool
+    ensures { result ≡ pointwise ◌==◌ who.now other.now }
+{
+    if who[0] != other[0] {
+        return false;
+    }
+    who == other
 }
 
 /// The order of local states: by account, and then by application.

@@ -35,8 +35,16 @@ impl Ord for Address {
 
     fn cmp(&self, other: &Address) -> Ordering {
         match self.0[0].cmp(&other.0[0]) {
-            Ordering::Equal => self.0.cmp(&other.0),
+            Ordering::Equal => bytes_cmp(&self.0, &other.0),
             order => order,
         }
     }
+}
+
+/// The order of bytes. It is out of line, so that the test of the first byte alone stands where addresses are compared.
+#[inline(never)]
+fn bytes_cmp(bytes: &[u8; 32], other: &[u8; 32]) -> Ordering
+    ensures { result ≡ slice_cmp nat_cmp bytes.now other.now }
+{
+    bytes.cmp(other)
 }

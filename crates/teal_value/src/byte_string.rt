@@ -84,18 +84,17 @@ impl ByteString {
         }
     }
 
-    /// Other bytes, in the memory of these where they fit.
+    /// Becomes other bytes, in the memory of these where they fit.
     #[inline(always)]
-    pub fn rewritten(self, alloc: Global, bytes: &[u8]) -> Result<Self, AllocError>
-        ensures { IfOk result (λ other. other ≡ bytes.now) }
+    pub fn rewrite(&mut self, alloc: Global, bytes: &[u8]) -> Result<(), AllocError>
+        ensures { IfOk result (λ _. self.new ≡ bytes.now) }
     {
-        match self.bytes {
-            Bytes::Here(_) => ByteString::from_slice(alloc, bytes),
-            Bytes::Apart(memory) => {
-                let mut memory = memory;
-                write_over(&mut memory, bytes)?;
-                Ok(ByteString::from_vec(memory))
+        match &mut self.bytes {
+            Bytes::Here(_) => {
+                *self = ByteString::from_slice(alloc, bytes)?;
+                Ok(())
             }
+            Bytes::Apart(memory) => write_over(memory, bytes),
         }
     }
 

@@ -9,6 +9,10 @@ pub fn write_over<T: Copy>(list: &mut Vec<T>, items: &[T]) -> Result<(), AllocEr
     ensures { MatchResult result
         (λ _. list.new.items ≡ items.now) (λ _. list.new.items ≡ list.old.items) }
 {
+    if list.len() == items.len() {
+        list.as_mut_slice().copy_from_slice(items);
+        return Ok(());
+    }
     list.reserve(items.len().saturating_sub(list.len()))?;
     list.clear();
     list.extend_from_slice(items)

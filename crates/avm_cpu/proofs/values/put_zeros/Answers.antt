@@ -1,4 +1,4 @@
-use Rattle.std.proofs.Common.{◌≡◌, ap, sym, ◌∙◌, arith, length, take}
+use Rattle.std.proofs.Common.{◌≡◌, ap, sym, ◌∙◌, arith, take}
 use Rattle.std.specs.Prelude.{replicate}
 use Rattle.teal_value.specs.declared.value.Value.TheVariants.{Uint}
 use Rattle.avm_cpu.proofs.Zeros.{all_zeros}
