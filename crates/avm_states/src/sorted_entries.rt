@@ -3,7 +3,7 @@
 //! They serve maps of few entries: a list takes one piece of memory of its own size, which is read from its front to its
 //! back, where a tree takes a node of a fixed size and more for the first entry. A new entry moves those behind it.
 
-ghost use Rattle.std.specs.Prelude.{◌≡◌, ◌+◌, ◌≤◌, None, IfErr, IfOk, if◌then◌else◌, is_some, length};
+ghost use Rattle.std.specs.Prelude.{◌≡◌, ◌+◌, ◌≤◌, None, IfErr, IfOk, MatchResult, if◌then◌else◌, insert, is_some, length};
 ghost use Rattle.std.specs.Option.{option_copied};
 ghost use Rattle.std.specs.Map.{keys_of, lookup, remove_entry};
 ghost use Rattle.std.specs.BTreeMap.{insert_entry, is_at};
@@ -52,10 +52,25 @@ pub fn put<K: Ord + Drop, V: Drop>(
     match place_of(entries, &key) {
         Ok(place) => Ok(Some(mem::replace(&mut entries[place].1, value))),
         Err(place) => {
-            entries.insert(place, (key, value))?;
+            add(entries, place, (key, value))?;
             Ok(None)
         }
     }
+}
+
+/// Puts an entry in at a place. Most come last, where nothing has to be moved.
+#[inline(always)]
+fn add<T: Drop>(entries: &mut Vec<T>, place: usize, entry: T) -> Result<(), AllocError>
+    requires { place ≤ length entries.old.items }
+    ensures { MatchResult result (λ _. entries.new.items ≡ insert entries.old.items place entry)
+        (λ _. entries.new.items ≡ entries.old.items) }
+{
+    if place == entries.len() {
+        entries.push(entry)?;
+    } else {
+        entries.insert(place, entry)?;
+    }
+    Ok(())
 }
 
 /// Takes a key out, and gives the value that it had.
