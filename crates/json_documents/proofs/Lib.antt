@@ -1,2 +1,3 @@
 pub mod ReplyTexts
 pub mod SpelledNames
+pub mod Moved

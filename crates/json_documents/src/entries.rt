@@ -63,7 +63,7 @@ impl Entries {
     {
         let mut map = self.map;
         let mut state = State::with_room(alloc, map.len())?;
-        while let Some((key, value)) = map.pop_last() {
+        while let Some((key, value)) = map.pop_first() {
             state.insert(key, value)?;
         }
         Ok(state)

@@ -26,7 +26,8 @@ use Rattle.json_views.specs.Documents.{array_of, base64, uint}
 use Rattle.json_views.specs.Applications.{shown_application, shown_params, shown_schema}
 use Rattle.json_laws.specs.OfBytes.{IsApplicationOfBytes}
 use Rattle.json_laws.proofs.ArraysBack.{AddItself, array_back, at_seam, then, then_in}
-use Rattle.json_laws.proofs.OrderBack.{goes_last, not_there}
+use Rattle.avm_ledger.proofs.RisingReading.{goes_last}
+use Rattle.json_laws.proofs.OrderBack.{not_there}
 use Rattle.json_laws.proofs.PlainBack.{address_back, bytes_back, uint_back}
 use Rattle.json_laws.proofs.StatesBack.{state_back}
 

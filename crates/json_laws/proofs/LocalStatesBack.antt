@@ -27,7 +27,8 @@ use Rattle.json_laws.specs.OfBytes.{IsLocalStateOfBytes}
 use Rattle.json_laws.proofs.ApplicationsBack.{id_back}
 use Rattle.json_laws.proofs.ByAccountBack.{EachAddsItself, OfItem, grouped_back}
 use Rattle.json_laws.proofs.ArraysBack.{at_seam, then_in}
-use Rattle.json_laws.proofs.OrderBack.{goes_last, not_there}
+use Rattle.avm_ledger.proofs.RisingReading.{goes_last}
+use Rattle.json_laws.proofs.OrderBack.{not_there}
 use Rattle.json_laws.proofs.PlainBack.{address_back}
 use Rattle.json_laws.proofs.StatesBack.{state_back}
 

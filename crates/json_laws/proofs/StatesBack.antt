@@ -19,7 +19,8 @@ use Rattle.json_views.specs.Documents.{base64, text, uint}
 use Rattle.json_views.specs.States.{shown_entry, shown_state, shown_value}
 use Rattle.json_laws.specs.OfBytes.{IsEntryOfBytes, IsValueOfBytes}
 use Rattle.json_laws.proofs.ArraysBack.{AddItself, array_back, at_seam, then, then_in}
-use Rattle.json_laws.proofs.OrderBack.{goes_last, not_there}
+use Rattle.avm_ledger.proofs.RisingReading.{goes_last}
+use Rattle.json_laws.proofs.OrderBack.{not_there}
 use Rattle.json_laws.proofs.PlainBack.{bytes_back, uint_back}
 
 kind_one : kind (uint 1) ≡ Ok true
