@@ -1,8 +1,5 @@
 -- Reading applications one after another.
 use Rattle.std.proofs.Common.{◌≡◌, ℕ, zero, suc, ◌<◌, List, [], ◌∷◌, ◌++◌, Ok, refl, sym, ap, ◌∙◌, arith}
-use Rattle.std.specs.Ordering.{nat_cmp}
-use Rattle.std.specs.BTreeMap.{insert_entry}
-use Rattle.std.proofs.lemmas.Cmp.{nat_cmp_total}
 use Rattle.std.proofs.lemmas.List.{append-nil}
 use Rattle.teal_value.specs.Answer.{◌>>=◌, Fails}
 use Rattle.teal_value.specs.declared.failure.Failure.{Failure}
@@ -12,39 +9,27 @@ use Rattle.avm_ledger.specs.declared.application.StoredApplication.{StoredApplic
 use Rattle.avm_ledger.specs.FieldReader.{Front}
 use Rattle.avm_ledger.specs.LedgerReader.{id_between, stored_application_at, applications_at}
 use Rattle.avm_ledger.proofs.FieldsBack.{then}
-use Rattle.avm_ledger.proofs.LedgerKept.{id_kept, nat_lower}
-use Rattle.avm_ledger.proofs.RisingReading.{AllLower, with_front, none_in_front, one_in_front, stopped, insert_last, all_lower_more}
+use Rattle.avm_ledger.proofs.RisingReading.{with_front, one_in_front, stopped}
 
--- the applications so far and those of the rest are those that are meant, and an id that comes next stands above all so far
+-- the applications so far and those of the rest are those that are meant
 pub record ReadsOn (apps : List (ℕ × StoredApplication)) (before next : ℕ) (left : ℕ) (rest : List ℕ) (meant : Front LedgerFault (List (ℕ × StoredApplication))) : Type 0 where
   pub same : with_front apps (applications_at left before next rest) ≡ meant
-  pub above : (id : ℕ) → before < id → AllLower nat_cmp_total apps id
-
--- before any application is read, what is meant is the reading of all of them
-pub begins : (apps : List (ℕ × StoredApplication)) (next count left : ℕ) (bytes : List ℕ) → apps ≡ [] → left ≡ count → ReadsOn apps 0 next left bytes (applications_at count 0 next bytes)
-begins apps next count left bytes e f = record {
-  same = rw (e, f) (none_in_front _);
-  above = λ id rises. rw e tt;
-}
 
 one_more : (before next n : ℕ) (rest : List ℕ) (id : ℕ) (behind : List ℕ) (app : StoredApplication) (after : List ℕ) → id_between before next rest ≡ Ok (id, behind) → stored_application_at behind ≡ Ok (app, after)
     → applications_at (suc n) before next rest ≡ (applications_at n id next after >>= λ apps. Ok ((id, app) ∷ apps.0, apps.1))
 one_more before next n rest id behind app after ei ea = then _ _ _ _ ei (then _ _ _ _ ea refl)
 
--- after one more application is read and set, those so far and the rest still give what is meant
+-- after one more application is read, those so far and the rest still give what is meant
 pub goes_on : (apps now : List (ℕ × StoredApplication)) (before next left n : ℕ) (rest : List ℕ) (id : ℕ) (behind : List ℕ) (app : StoredApplication) (after : List ℕ) (meant : Front LedgerFault (List (ℕ × StoredApplication)))
-    → ReadsOn apps before next left rest meant → id_between before next rest ≡ Ok (id, behind) → stored_application_at behind ≡ Ok (app, after) → now ≡ insert_entry nat_cmp apps id app → left ≡ suc n
+    → ReadsOn apps before next left rest meant → id_between before next rest ≡ Ok (id, behind) → stored_application_at behind ≡ Ok (app, after) → now ≡ apps ++ (id, app) ∷ [] → left ≡ suc n
     → ReadsOn now id next n after meant
-goes_on apps now before next left n rest id behind app after meant r ei ea put less_left =
-    let lower = r.above id (id_kept before next rest (id, behind) ei).0 in
-    let last : now ≡ apps ++ (id, app) ∷ [] = put ∙ insert_last nat_cmp_total id app apps lower in
+goes_on apps now before next left n rest id behind app after meant r ei ea pushed less_left =
     record {
       same =
-          rw last (sym (one_in_front apps (id, app) (applications_at n id next after))
+          rw pushed (sym (one_in_front apps (id, app) (applications_at n id next after))
           ∙ ap (with_front apps) (sym (one_more before next n rest id behind app after ei ea))
           ∙ ap (λ m. with_front apps (applications_at m before next rest)) (sym less_left)
           ∙ r.same);
-      above = λ q rises. rw last (all_lower_more nat_cmp_total id q app apps lower (nat_lower id q rises));
     }
 
 -- while any are left, a failure at the next id is the failure of the whole reading

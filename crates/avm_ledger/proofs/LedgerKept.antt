@@ -186,20 +186,33 @@ stored_kept next id bytes x positive below all e =
     } in
     subst (λ p. IsApplicationBelow next (id, p.0)) is keeps))))))
 
-record AreApplications (before next : ℕ) (apps : List (ℕ × StoredApplication)) : Type 0 where
-  above : AllByRecursion (λ k. nat_cmp before k ≡ Less) (keys_of apps)
-  rising : IsStrictlySortedBy nat_cmp (keys_of apps)
-  each : All (IsApplicationBelow next) apps
-
 -- a number below another compares as less
 pub nat_lower : (a b : ℕ) → a < b → nat_cmp a b ≡ Less
 nat_lower a b lt = let test : ltb a b ≡ true = lt-ltb a b lt in rw test refl
 
-applications_kept : (n before next : ℕ) (bytes : List ℕ) (x : List (ℕ × StoredApplication) × List ℕ) → AllBytes bytes → applications_at n before next bytes ≡ Ok x → AreApplications before next x.0
+pub record RiseAbove (before : ℕ) (apps : List (ℕ × StoredApplication)) : Type 0 where
+  above : AllByRecursion (λ k. nat_cmp before k ≡ Less) (keys_of apps)
+  pub rising : IsStrictlySortedBy nat_cmp (keys_of apps)
+
+-- ids that are read rise, and are above the one before
+pub applications_rise : (n before next : ℕ) (bytes : List ℕ) (x : List (ℕ × StoredApplication) × List ℕ) → applications_at n before next bytes ≡ Ok x → RiseAbove before x.0
 unfolding IsStrictlySortedBy
+applications_rise zero before next bytes x e =
+    let is : ◌≡◌ {A = List (ℕ × StoredApplication) × List ℕ} ([], bytes) x = same_value _ _ e in
+    subst (λ p. RiseAbove before p.0) is (record { above = tt; rising = tt })
+applications_rise (suc n) before next bytes x e =
+    from (id_between before next bytes) _ x e (λ i ei e1.
+    from (stored_application_at i.1) _ x e1 (λ a ea e2.
+    from (applications_at n i.0 next a.1) _ x e2 (λ m em e3.
+    let more = applications_rise n i.0 next a.1 m em in
+    let lower : nat_cmp before i.0 ≡ Less = nat_lower before i.0 (id_kept before next bytes i ei).0 in
+    let is : ◌≡◌ {A = List (ℕ × StoredApplication) × List ℕ} ((i.0, a.0) ∷ m.0, m.1) x = same_value _ _ e3 in
+    subst (λ p. RiseAbove before p.0) is (record { above = (lower, all_below nat_cmp_total before i.0 (keys_of m.0) lower more.above); rising = (more.above, more.rising) }))))
+
+applications_kept : (n before next : ℕ) (bytes : List ℕ) (x : List (ℕ × StoredApplication) × List ℕ) → AllBytes bytes → applications_at n before next bytes ≡ Ok x → All (IsApplicationBelow next) x.0
 applications_kept zero before next bytes x all e =
     let is : ◌≡◌ {A = List (ℕ × StoredApplication) × List ℕ} ([], bytes) x = same_value _ _ e in
-    subst (λ p. AreApplications before next p.0) is (record { above = tt; rising = tt; each = All-nil (IsApplicationBelow next) })
+    subst (λ p. All (IsApplicationBelow next) p.0) is (All-nil (IsApplicationBelow next))
 applications_kept (suc n) before next bytes x all e =
     from (id_between before next bytes) _ x e (λ i ei e1.
     let id = id_kept before next bytes i ei in
@@ -210,13 +223,8 @@ applications_kept (suc n) before next bytes x all e =
     let keeps = stored_kept next i.0 i.1 a positive id.1 behind.rest_are_bytes ea in
     from (applications_at n i.0 next a.1) _ x e2 (λ m em e3.
     let more = applications_kept n i.0 next a.1 m app.rest_are_bytes em in
-    let lower : nat_cmp before i.0 ≡ Less = nat_lower before i.0 id.0 in
     let is : ◌≡◌ {A = List (ℕ × StoredApplication) × List ℕ} ((i.0, a.0) ∷ m.0, m.1) x = same_value _ _ e3 in
-    subst (λ p. AreApplications before next p.0) is (record {
-      above = (lower, all_below nat_cmp_total before i.0 (keys_of m.0) lower more.above);
-      rising = (more.above, more.rising);
-      each = All-cons (IsApplicationBelow next) (i.0, a.0) m.0 keeps more.each;
-    }))))
+    subst (λ p. All (IsApplicationBelow next) p.0) is (All-cons (IsApplicationBelow next) (i.0, a.0) m.0 keeps more))))
 
 -- ---- local states
 
@@ -304,8 +312,8 @@ front_kept bytes x all e =
     let rules : KeepsRules l = record {
       next_id = leb-true 1 n.0 positive.0;
       small = small;
-      rising_ids = kept_apps.rising;
-      applications = kept_apps.each;
+      rising_ids = (applications_rise c.0 0 n.0 c.1 a ea).rising;
+      applications = kept_apps;
       rising_accounts = (local_states_rise d.0 None n.0 a.0 d.1 s es).rising;
       local_states = kept_states;
     } in

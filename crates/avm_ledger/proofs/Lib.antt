@@ -6,10 +6,10 @@ pub mod LedgerBack
 pub mod LedgerSpelled
 pub mod LedgerKept
 pub mod RisingReading
-pub mod FirstInserted
 pub mod EntriesReading
 pub mod ApplicationsReading
 pub mod LocalStatesReading
 pub mod LedgerRead
 pub mod ManyReading
 pub mod KeptOrder
+pub mod Collected

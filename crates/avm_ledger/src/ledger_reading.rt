@@ -38,6 +38,7 @@ pub(crate) fn parts_of(alloc: Global, bytes: &[u8]) -> Result<Parts, LedgerError
     let (next_id, rest) = next_id_of(Fields::new(bytes))?;
     let (count, rest) = rest.u32(LedgerFault::Truncated)?;
     let (applications, rest) = applications_of(alloc, count, next_id, rest)?;
+    let applications = map_of(alloc, applications)?;
     let (count, rest) = rest.u32(LedgerFault::Truncated)?;
     let (local_states, rest) = local_states_of(alloc, count, next_id, &applications, rest)?;
     if !rest.is_empty() {
@@ -68,20 +69,20 @@ fn applications_of(
     count: u32,
     next_id: u64,
     fields: Fields<'_>,
-) -> Result<(BTreeMap<u64, StoredApplication>, Fields<'_>), LedgerError>
-    ensures { Gives (λ x. (x.0.entries, x.1)) result
+) -> Result<(Vec<(u64, StoredApplication)>, Fields<'_>), LedgerError>
+    ensures { Gives (λ x. (x.0.items, x.1)) result
         (applications_at count 0 next_id fields.entry) }
 {
-    let mut applications = BTreeMap::new(alloc);
+    let mut applications = Vec::new(alloc);
     let mut before = 0;
     let mut rest = fields;
     for _ in 0..count {
         let (id, next) = id_of(before, next_id, rest)?;
         let last = applications
-            .last_key_value()
-            .map(|entry: (&u64, &StoredApplication)| entry.1.row.get());
+            .last()
+            .map(|entry: &(u64, StoredApplication)| entry.1.row.get());
         let (application, next) = application_of(alloc, last, next)?;
-        applications.insert(id, application)?;
+        applications.push((id, application))?;
         before = id;
         rest = next;
     }
