@@ -207,12 +207,30 @@ impl Env {
         self.writes.insert(item, ItemValue::Local(state))
     }
 
-    /// Keeps the room of the items that a call was given, for the next call's.
-    pub fn keep_room(&mut self, items: ItemMap)
-        ensures { self.new ≡ record self.old { reads = [] } }
+    /// Keeps the room of the items that a call was given and of those that it wrote, for the next call's.
+    pub fn keep_room(&mut self, reads: ItemMap, writes: ItemMap)
+        ensures { self.new ≡ record self.old { reads = []; writes = [] } }
     {
-        self.reads = items;
+        self.reads = reads;
         self.reads.clear();
+        self.writes = writes;
+        self.writes.clear();
+    }
+
+    /// Takes out the items that the call was given. It takes no memory.
+    pub fn take_reads(&mut self, alloc: Global) -> ItemMap
+        ensures taken { result ≡ self.old.reads }
+        ensures left { self.new ≡ record self.old { reads = [] } }
+    {
+        mem::replace(&mut self.reads, ItemMap::new(alloc))
+    }
+
+    /// Takes out the items that the call has written. It takes no memory.
+    pub fn take_writes(&mut self, alloc: Global) -> ItemMap
+        ensures taken { result ≡ self.old.writes }
+        ensures left { self.new ≡ record self.old { writes = [] } }
+    {
+        mem::replace(&mut self.writes, ItemMap::new(alloc))
     }
 
     /// Takes out the items that the call was given and those that it has written. It takes no memory.
@@ -220,8 +238,8 @@ impl Env {
         ensures taken { result ≡ (self.old.reads, self.old.writes) }
         ensures left { self.new ≡ record self.old { reads = []; writes = [] } }
     {
-        let reads = mem::replace(&mut self.reads, ItemMap::new(alloc));
-        let writes = mem::replace(&mut self.writes, ItemMap::new(alloc));
+        let reads = self.take_reads(alloc);
+        let writes = self.take_writes(alloc);
         (reads, writes)
     }
 }

@@ -60,7 +60,9 @@ impl ItemMap {
         ensures { option_copied result ≡ value_in self.now item.now }
     {
         let values = self.values.as_slice();
-        if values.len() <= FEW {
+        if values.is_empty() {
+            None
+        } else if values.len() <= FEW {
             value_among_few(values, item)
         } else {
             value_of(values, item)
@@ -88,6 +90,15 @@ impl ItemMap {
         ensures order { IsInItemOrder self }
     {
         self.values
+    }
+
+    /// No items, in the room of a list that is not needed any more.
+    pub(crate) fn in_room_of(values: Vec<(Item, ItemValue)>) -> ItemMap
+        ensures { result ≡ [] }
+    {
+        let mut values = values;
+        values.clear();
+        ItemMap { values }
     }
 
     /// The same, in a list without room for more where there is memory for one: for a map that stays, since a list with
@@ -194,6 +205,7 @@ fn exact(alloc: Global, values: Vec<(Item, ItemValue)>) -> Vec<(Item, ItemValue)
 }
 
 /// The value of an item, looked for in one entry after another.
+#[inline(always)]
 fn value_among_few<'a>(entries: &'a [(Item, ItemValue)], item: &Item) -> Option<&'a ItemValue>
     ensures { option_copied result ≡ value_in entries.now item.now }
 {

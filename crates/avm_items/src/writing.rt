@@ -157,9 +157,19 @@ fn change_all(
 /// Puts items into an open ledger, without a copy of a value. Each takes logarithmic time.
 ///
 /// First all is set that is not to be absent, since only that can want memory; then what is to be absent is taken out.
-#[inline(always)]
 pub fn put_open(alloc: Global, ledger: &mut OpenLedger, items: ItemMap) -> Result<(), AllocError>
     ensures put { IfOk result (λ _. ledger.new ≡ put ledger.old items) }
+    ensures unchanged { IfErr result (λ _. ledger.new ≡ ledger.old) }
+{
+    let _room = put_all(alloc, ledger, items)?;
+    Ok(())
+}
+
+/// Puts items into an open ledger, and hands back the room of their list.
+#[inline(always)]
+fn put_all(alloc: Global, ledger: &mut OpenLedger, items: ItemMap) -> Result<ItemMap, AllocError>
+    ensures put { IfOk result (λ _. ledger.new ≡ put ledger.old items) }
+    ensures room { IfOk result (λ room. room ≡ []) }
     ensures unchanged { IfErr result (λ _. ledger.new ≡ ledger.old) }
 {
     // The ledger's maps are in order, as its readers say.
@@ -171,22 +181,23 @@ pub fn put_open(alloc: Global, ledger: &mut OpenLedger, items: ItemMap) -> Resul
         return Err(refused);
     }
     remove_all(ledger, absent.as_slice());
-    Ok(())
+    Ok(ItemMap::in_room_of(entries))
 }
 
-/// Puts items into a ledger, as [`put_open`] does.
+/// Puts items into a ledger, as [`put_open`] does, and hands back the room of their list, with nothing in it.
 ///
 /// What is put leaves a ledger: no application has the next id or one above it.
-pub fn put_items(alloc: Global, ledger: &mut Ledger, items: ItemMap) -> Result<(), AllocError>
+pub fn put_items(alloc: Global, ledger: &mut Ledger, items: ItemMap) -> Result<ItemMap, AllocError>
     requires { IsOrderly (put ledger.old items) }
     ensures put { IfOk result (λ _. ledger.new ≡ put ledger.old items) }
+    ensures room { IfOk result (λ room. room ≡ []) }
     ensures unchanged { IfErr result (λ _. ledger.new ≡ ledger.old) }
 {
     let mut open = mem::replace(ledger, Ledger::new(alloc)).open();
-    match put_open(alloc, &mut open, items) {
-        Ok(()) => {
+    match put_all(alloc, &mut open, items) {
+        Ok(room) => {
             *ledger = open.close();
-            Ok(())
+            Ok(room)
         }
         Err(refused) => {
             *ledger = open.close();

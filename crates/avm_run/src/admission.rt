@@ -183,16 +183,22 @@ fn new_application(alloc: Global, call: &Call, id: u64) -> Result<ItemMap, Alloc
     Ok(writes)
 }
 
-/// What is written before the program runs.
-pub(crate) fn prepared(alloc: Global, call: &Call, id: u64) -> Result<ItemMap, AllocError>
-    requires { HasRoom call.now id }
+/// What is written before the program runs, mostly nothing, which then has the room that is handed over.
+pub(crate) fn prepared(
+    alloc: Global,
+    call: &Call,
+    id: u64,
+    room: ItemMap,
+) -> Result<ItemMap, AllocError>
+    requires id { HasRoom call.now id }
+    requires none { room ≡ [] }
     ensures { IfOk result (λ writes. writes ≡ prepared call.now id) }
 {
     let fields = call.fields();
     let mut writes = if fields.application == 0 {
         new_application(alloc, call, id)?
     } else {
-        ItemMap::new(alloc)
+        room
     };
     if fields.completion == Completion::OptIn {
         let state = SharedState::new(alloc, State::new(alloc))?;

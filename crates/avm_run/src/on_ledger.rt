@@ -92,8 +92,8 @@ pub fn call_on_counted<L: ledger::Ledger, O: Op>(
     ledger.holds();
     every_call_keeps_order();
     changes_are_handed_on();
-    put_items(context.alloc, ledger, closed.writes)?;
-    keep_room(spare, closed.reads);
+    let room = put_items(context.alloc, ledger, closed.writes)?;
+    keep_room(spare, closed.reads, room);
     Ok(closed.outcome)
 }
 

@@ -17,8 +17,8 @@ pub returns-clause-after : goal.returns-clause-after
 returns-clause-after g c =
     let l = c.args.ledger.now in
     let all = c.changes_are_handed_on.ensures.all l c.args.call.now c.args.context.now.header.now c.holds.ensures in
-    c.in_ok-put_items.ensures.put ∙ ap (λ (r : _). put l r.1) c.in_ok-closed.ensures.result ∙ sym all
+    c.in_ok-room.ensures.put ∙ ap (λ (r : _). put l r.1) c.in_ok-closed.ensures.result ∙ sym all
 
-pub returns-in_err-put_items-clause-few : goal.returns-in_err-put_items-clause-few
-returns-in_err-put_items-clause-few g c =
+pub returns-in_err-room-clause-few : goal.returns-in_err-room-clause-few
+returns-in_err-room-clause-few g c =
     if_err _ _ (refused_ended c.args.ledger.now c.args.call.now c.args.context.now.header.now _ _ _ c.in_ok-closed.ensures.executes)

@@ -1,7 +1,7 @@
 use Rattle.std.proofs.Common.{ap, ◌∙◌, ◌++◌}
 use Rattle.avm_items.specs.Putting.{absent_items, set_all, without_all}
 use Rattle.avm_items.proofs.Passes.{two_passes}
-use Rattle.avm_items.proofs.writing.put_open.Goals as goal
+use Rattle.avm_items.proofs.writing.put_all.Goals as goal
 
 pub returns-in-Err-clause-unchanged : goal.returns-in-Err-clause-unchanged
 returns-in-Err-clause-unchanged c = c.put_all_back.ensures c.args.ledger.now c.in-Err.ensures.back
