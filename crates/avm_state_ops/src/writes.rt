@@ -133,12 +133,12 @@ fn counts_within(
 
 /// Whether a value may be put under a key of a state: it is of the old one's kind, or the counts then keep to the limit.
 #[tactic(auto, using(avm_states::proofs::Counts::follow_puts))]
-fn test_schema(state: &State, key: &[u8], value: &Value, limit: Schema) -> Result<(), Fault>
+fn test_schema(state: &State, key: &StateKey, value: &Value, limit: Schema) -> Result<(), Fault>
     ensures { result ≡ schema_test state.now key.now value.now limit }
 {
     // A state is in order, as its length says.
     let _count = state.len();
-    let old = state.value_of(key);
+    let old = state.get(key);
     if keeps_kind(old, value) || counts_within(old, value, state.counts(), limit).is_some() {
         Ok(())
     } else {
@@ -202,7 +202,7 @@ fn local_put(alloc: Global, cpu: &mut Cpu, env: &mut Env) -> Executed
         return Err(Stop::Fault(Fault::TooLong));
     }
     let limit = local_limit(application(alloc, env, current)?);
-    test_schema(state, key, value, limit)?;
+    test_schema(state, &state_key, value, limit)?;
     let copy = value.clone()?;
     env.put_entry(who, current, state_key, copy)?;
     cpu.drop_top(3);

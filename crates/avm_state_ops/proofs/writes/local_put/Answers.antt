@@ -35,7 +35,7 @@ returns-in_err-test_schema-clause-row c =
     let left = λ (u : Unit {0}). done (leaves (context_of m e) 3 (with_item e.writes (item.Local c.in_ok-who.who e.current) (value.Local (with_entry state key v)))) in
     passed_on c.from_residual-in_err-test_schema.result (stop.Fault c.in_err-test_schema.field-0.0) m e (known_row local_put m e) c.from_residual-in_err-test_schema.ensures.1
     (local_put_row m e c.in_ok-index.index key v c.in_ok-who.who state row app c.in_ok-index.ensures who_is c.current-current.ensures state_is short small c.in_ok-application.ensures
-    ∙ ap (λ r. answer_from (known_to e) (on_ok left r)) (ap (schema_test state key v) (sym c.local_limit-limit.ensures) ∙ sym c.in_err-test_schema.ensures))
+    ∙ ap (λ r. answer_from (known_to e) (on_ok left r)) (ap (schema_test state key v) (sym c.local_limit-limit.ensures) ∙ ap (λ k. schema_test state k v c.local_limit-limit.result) (sym c.in-Some-of.ensures.key) ∙ sym c.in_err-test_schema.ensures))
 
 pub returns-clause-row : goal.returns-clause-row
 returns-clause-row c =
@@ -53,5 +53,5 @@ returns-clause-row c =
     let state_is = subst (λ o. answer_from (known_to e) (local_state c.in_ok-who.who app) ≡ Ok (Ok (option_copied o))) c.in-Some.is c.in_ok-state.ensures in
     let left = λ (u : Unit {0}). done (leaves (context_of m e) 3 (with_item e.writes (item.Local c.in_ok-who.who e.current) (value.Local (with_entry state key v)))) in
     local_put_row m e c.in_ok-index.index key v c.in_ok-who.who state row app c.in_ok-index.ensures who_is c.current-current.ensures state_is short small c.in_ok-application.ensures
-    ∙ ap (λ r. answer_from (known_to e) (on_ok left r)) (ap (schema_test state key v) (sym c.local_limit-limit.ensures) ∙ sym c.in_ok-test_schema.ensures)
+    ∙ ap (λ r. answer_from (known_to e) (on_ok left r)) (ap (schema_test state key v) (sym c.local_limit-limit.ensures) ∙ ap (λ k. schema_test state k v c.local_limit-limit.result) (sym c.in-Some-of.ensures.key) ∙ sym c.in_ok-test_schema.ensures)
     ∙ ap (λ x. Ok (Ok x)) (local_put_left m c.drop_top.new.self e c.put_entry.new.self key c.in-Some-of.state_key v c.in_ok-copy.copy c.in_ok-who.who state app c.current-current.ensures c.in-Some-of.ensures.key c.in_ok-copy.ensures state_is c.drop_top.ensures c.in_ok-put_entry.ensures.ok)
