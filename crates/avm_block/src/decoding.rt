@@ -27,6 +27,9 @@ use std::alloc::Global;
 use std::sync::Arc;
 use teal_value::Failure;
 
+/// How many bytes an entry has at least: those of a call without note, lists and programs, a timestamp and an outcome.
+const LEAST_ENTRY_BYTES: usize = 151;
+
 /// The block that the bytes are. The first fault in reading order counts. Nothing grows by a count or a length that the
 /// bytes do not back.
 pub fn decode(alloc: Global, bytes: &[u8]) -> Result<Block, BlockError>
@@ -131,7 +134,9 @@ fn entries_of(
     ensures { Gives (λ x. (x.0.items, x.1)) result
         (block_entries_at (is_accepted profile) count 0 fields.entry) }
 {
-    let mut entries = Vec::new(alloc);
+    // Room for all of them, where the bytes can be so many entries.
+    let most = fields.len() / LEAST_ENTRY_BYTES;
+    let mut entries = Vec::with_capacity(alloc, most.min(count as usize))?;
     let mut before = 0;
     let mut rest = fields;
     for _ in 0..count {

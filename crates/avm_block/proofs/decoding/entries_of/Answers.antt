@@ -6,7 +6,7 @@ use Rattle.avm_block.proofs.decoding.entries_of.Goals as goal
 
 pub returns-in_err-entry : goal.returns-in_err-entry
 returns-in_err-entry c =
-    let p = err_from_is_err_and c.from_residual.result c.from_residual.ensures.1 in
+    let p = err_from_is_err_and c.from_residual-in_err-entry.result c.from_residual-in_err-entry.ensures.1 in
     rw (p.1, p.2) (no_more (is_accepted c.args.profile) c.loop.entries.items c.loop.before (c.args.count - c.loop.counter) c.loop.rest c.in_err-entry.field-0.0 _ c.loop.invariant c.in_err-entry.ensures (omega arith))
 
 pub loop-preserved : goal.loop-preserved
