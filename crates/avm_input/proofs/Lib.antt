@@ -2,6 +2,7 @@ pub mod CommandNames
 pub mod NumberTexts
 pub mod DigitNumbers
 pub mod ReadPairs
+pub mod ReadPieces
 pub mod LineReading
 pub mod Inputs
 pub mod Written

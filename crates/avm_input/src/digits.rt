@@ -1,6 +1,6 @@
 //! Hexadecimal digits. They are read and written without a branch for each, so that many are at once.
 
-ghost use Rattle.std.specs.Prelude.{ℕ, ◌≡◌, ◌≤◌, ◌<◌, ◌+◌, ◌*◌, ◌++◌, IfOk, None, OnOk, Some, codes, if◌then◌else◌, length};
+ghost use Rattle.std.specs.Prelude.{ℕ, ◌≡◌, ◌≤◌, ◌<◌, ◌+◌, ◌*◌, ◌%◌, ◌++◌, IfOk, None, OnOk, Some, codes, if◌then◌else◌, length};
 ghost use Rattle.std.specs.String.{string_bytes};
 ghost use Rattle.std.specs.Option.{SomeIff, option_map};
 ghost use Rattle.std.specs.Result.{result_ok};
@@ -13,6 +13,9 @@ use std::alloc::{AllocError, Global};
 /// How many bytes are read or written together: a fixed number, for which the compiler takes instructions that work on many at once.
 const BLOCK: usize = 32;
 
+/// How many bytes are zeroed and then written at once: so few that the nearest cache keeps them.
+const PIECE: usize = 1024;
+
 /// The bytes that digits of either case spell, where they are an even number of such digits.
 pub fn decode_digits(alloc: Global, digits: &[u8]) -> Result<Option<Vec<u8>>, AllocError>
     ensures { IfOk result
@@ -21,9 +24,29 @@ pub fn decode_digits(alloc: Global, digits: &[u8]) -> Result<Option<Vec<u8>>, Al
     if digits.len() % 2 != 0 {
         return Ok(None);
     }
-    let mut bytes = vec![in alloc; 0u8; digits.len() / 2]?;
-    let read = put_bytes(digits, bytes.as_mut_slice());
+    let mut bytes = Vec::with_capacity(alloc, digits.len() / 2)?;
+    let mut rest = digits;
+    while rest.len() > 2 * PIECE {
+        let (front, back) = rest.split_at(2 * PIECE);
+        if !add_piece(&mut bytes, front)? {
+            return Ok(None);
+        }
+        rest = back;
+    }
+    let read = add_piece(&mut bytes, rest)?;
     Ok(if read { Some(bytes) } else { None })
+}
+
+/// Adds the bytes that digits spell, and says whether all are digits; if not, it adds any bytes.
+fn add_piece(bytes: &mut Vec<u8>, digits: &[u8]) -> Result<bool, AllocError>
+    requires { length digits.now % 2 ≡ 0 }
+    ensures { IfOk result
+        (λ read. option_map (λ xs. bytes.old.items ++ xs) (result_ok (decode_pairs 0 digits.now))
+        ≡ (if read then Some bytes.new.items else None)) }
+{
+    let start = bytes.len();
+    bytes.resize(start + digits.len() / 2, 0)?;
+    Ok(put_bytes(digits, bytes.slice_mut(start..)))
 }
 
 /// Writes the bytes that digits spell, and says whether all of them are digits; if not, it writes any bytes.
