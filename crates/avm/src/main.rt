@@ -71,7 +71,7 @@ fn answered<O: Op>(rt: &HostRuntime, words: &[&str], own: Ops<O>) -> Result<u8, 
     let Ok(own) = FullOps::of(own) else {
         return Ok(FAILED);
     };
-    match answer(rt.alloc(), words, &mut rt.stdin(), &mut rt.stdout(), &own) {
+    match answer::<_, _, _, true>(rt.alloc(), words, &mut rt.stdin(), &mut rt.stdout(), &own) {
         Some(status) => Ok(status),
         None => Err(own.into_set()),
     }
@@ -87,7 +87,7 @@ fn proposed<T: Threads + Wait + Sync, O: Op>(
     if !are_sets(&sets) {
         return FAILED;
     }
-    run(
+    run::<_, _, _, _, true>(
         threads,
         rt.alloc(),
         words,

@@ -75,7 +75,7 @@ fn command_answer<'a, O: Op>(
 {
     let mut reader = input;
     let mut text = Vec::new(alloc);
-    match answer(alloc, words, &mut reader, &mut text, ops) {
+    match answer::<_, _, _, false>(alloc, words, &mut reader, &mut text, ops) {
         None => Ok(refusal(alloc, Status::Propose)),
         Some(FAILED) => Err(AllocError),
         Some(status) => Ok(Answer {

@@ -7,6 +7,7 @@ ghost use Rattle.avm_commands.specs.BlockCommands.{IsReplayReply, IsVerdictReply
 ghost use Rattle.avm_input.specs.Replies.{refused};
 ghost use Rattle.avm_input.specs.Shown.{reply_shown};
 
+use crate::leftovers::let_go;
 use avm_block::Block;
 use avm_call::Outcome;
 use avm_input::{
@@ -20,7 +21,7 @@ use std::alloc::{AllocError, Global};
 use teal_value::Failure;
 
 /// What `replay` answers to its input: whether the block replays over the ledger, or the first thing that differs.
-pub fn replay_reply<O: Op>(
+pub fn replay_reply<O: Op, const ENDS: bool>(
     alloc: Global,
     input: Vec<u8>,
     ops: &FullOps<O>,
@@ -28,13 +29,17 @@ pub fn replay_reply<O: Op>(
     ensures { IfOk result (λ reply. IsReplayReply input.items (reply_shown reply)) }
 {
     match ledger_and_block(alloc, input) {
-        Ok((base, block)) => verdict_on(alloc, base, &block, ops),
+        Ok((base, block)) => {
+            let reply = verdict_on::<O, ENDS>(alloc, base, &block, ops);
+            let_go::<Block, ENDS>(block);
+            reply
+        }
         Err(failure) => refusal_reply(alloc, failure.into_fault()?),
     }
 }
 
 /// What `state` answers to its input: the ledger after the calls with timestamps up to this one.
-pub fn state_reply<O: Op>(
+pub fn state_reply<O: Op, const ENDS: bool>(
     alloc: Global,
     timestamp: u64,
     input: Vec<u8>,
@@ -42,8 +47,12 @@ pub fn state_reply<O: Op>(
 ) -> Result<Reply, AllocError>
     ensures { IfOk result (λ reply. reply_shown reply ≡ state_reply timestamp input.items) }
 {
-    match past_ledger(alloc, timestamp, input, ops) {
-        Ok(ledger) => ledger_reply(alloc, &ledger),
+    match past_ledger::<O, ENDS>(alloc, timestamp, input, ops) {
+        Ok(ledger) => {
+            let reply = ledger_reply(alloc, &ledger);
+            let_go::<Ledger, ENDS>(ledger);
+            reply
+        }
         Err(failure) => refusal_reply(alloc, failure.into_fault()?),
     }
 }
@@ -57,7 +66,7 @@ fn ledger_reply(alloc: Global, ledger: &Ledger) -> Result<Reply, AllocError>
 }
 
 /// The verdict on a block, as an answer.
-fn verdict_on<O: Op>(
+fn verdict_on<O: Op, const ENDS: bool>(
     alloc: Global,
     base: Base,
     block: &Block,
@@ -66,7 +75,8 @@ fn verdict_on<O: Op>(
     ensures { IfOk result (λ reply. IsVerdictReply (Ok (base, block.now)) (reply_shown reply)) }
 {
     match replay_owned(alloc, base, block, ops)? {
-        Verdict::Agrees(_after) => {
+        Verdict::Agrees(after) => {
+            let_go::<Ledger, ENDS>(after);
             let reply = agrees_reply(alloc, block.after())?;
             Ok(reply)
         }
@@ -112,7 +122,7 @@ fn wrong_reply(alloc: Global, text: &str) -> Result<Reply, AllocError>
 }
 
 /// The ledger after the calls with timestamps up to this one.
-fn past_ledger<O: Op>(
+fn past_ledger<O: Op, const ENDS: bool>(
     alloc: Global,
     timestamp: u64,
     input: Vec<u8>,
@@ -121,7 +131,9 @@ fn past_ledger<O: Op>(
     ensures { Gives (λ l. l) result (past_ledger_at timestamp input.items) }
 {
     let (base, block) = ledger_and_block(alloc, input)?;
-    match state_at_owned(alloc, base, &block, timestamp, ops) {
+    let past = state_at_owned(alloc, base, &block, timestamp, ops);
+    let_go::<Block, ENDS>(block);
+    match past {
         Ok(past) => Ok(past),
         Err(Failure::Fault(fault)) => Err(Failure::Fault(Refusal::State(fault))),
         Err(Failure::Memory) => Err(Failure::Memory),

@@ -6,11 +6,13 @@ ghost use Rattle.avm_commands.specs.DebugCommands.{FindsText, IsDebugReply, IsFo
 ghost use Rattle.avm_commands.specs.DebugRuns.{HasCome, IsDebugRefused, ShowsText};
 ghost use Rattle.avm_input.specs.Shown.{reply_shown};
 
+use crate::leftovers::let_go;
 use crate::view_text::view_text;
 use avm_block::Block;
 use avm_input::{DONE, Refusal, Reply, ledger_and_block, refusal_reply};
 use avm_ledger::Ledger;
 use avm_ops::Op;
+use avm_replay::Base;
 use avm_run::FullOps;
 use avm_stepper::{StepFault, Stepper};
 use std::alloc::{AllocError, Global};
@@ -26,7 +28,7 @@ pub struct DebugPoint {
 
 /// What `debug` answers to its input: what stands where the program of an entry's call is after so many steps. Entries are
 /// numbered from 1. It costs no more steps than the program has.
-pub fn debug_reply<O: Op>(
+pub fn debug_reply<O: Op, const ENDS: bool>(
     alloc: Global,
     entry: u64,
     steps: u64,
@@ -40,7 +42,12 @@ pub fn debug_reply<O: Op>(
         steps,
     };
     match ledger_and_block(alloc, input) {
-        Ok((base, block)) => found_reply(alloc, base.ledger(), &block, point, ops),
+        Ok((base, block)) => {
+            let reply = found_reply(alloc, base.ledger(), &block, point, ops);
+            let_go::<Base, ENDS>(base);
+            let_go::<Block, ENDS>(block);
+            reply
+        }
         Err(failure) => refusal_reply(alloc, failure.into_fault()?),
     }
 }

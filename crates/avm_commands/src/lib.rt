@@ -9,8 +9,10 @@ mod asm;
 mod block_commands;
 mod commands;
 mod debug_command;
+mod leftovers;
 mod programs;
 mod view_text;
 
 pub use commands::{answer, answer_to};
 pub use debug_command::{DebugPoint, one_finding, view_found};
+pub use leftovers::let_go;

@@ -9,6 +9,7 @@ ghost use Rattle.avm_input.specs.Shown.{reply_shown};
 ghost use Rattle.avm_node.specs.WorkerSets.{AreWorkerSets};
 
 use crate::propose_input::{ProposeInput, propose_input};
+use avm_commands::let_go;
 use avm_input::{DONE, REFUSED, Reply, digit_line_bytes, refusal_reply};
 use avm_ops::{Op, Ops};
 use avm_pool::{Draft, OpenGate, PoolFault, Proposal, SharedBase, ThreadSets, propose_on};
@@ -18,7 +19,7 @@ use std::thread::Threads;
 use teal_value::Failure;
 
 /// What `propose` answers to its input, by a worker of each set.
-pub fn propose_reply<R: Threads + Wait + Sync, O: Op>(
+pub fn propose_reply<R: Threads + Wait + Sync, O: Op, const ENDS: bool>(
     rt: &R,
     alloc: Global,
     input: Vec<u8>,
@@ -29,13 +30,13 @@ pub fn propose_reply<R: Threads + Wait + Sync, O: Op>(
     ensures { IfOk result (λ reply. IsProposeReply input.items (reply_shown reply)) }
 {
     match propose_input(rt, alloc, sets.len(), input) {
-        Ok(read) => pool_answer(rt, alloc, read, sets, own),
+        Ok(read) => pool_answer::<R, O, ENDS>(rt, alloc, read, sets, own),
         Err(failure) => refusal_reply(alloc, failure.into_fault()?),
     }
 }
 
 /// The block that the workers make of what was read, or why there is none.
-fn pool_answer<R: Threads + Wait + Sync, O: Op>(
+fn pool_answer<R: Threads + Wait + Sync, O: Op, const ENDS: bool>(
     rt: &R,
     alloc: Global,
     read: ProposeInput,
@@ -59,8 +60,13 @@ fn pool_answer<R: Threads + Wait + Sync, O: Op>(
         calls,
     };
     let sets = ThreadSets { workers: sets, own };
-    match propose_on(rt, alloc, draft, sets, &OpenGate) {
-        Ok(proposal) => proposal_reply(alloc, &proposal),
+    match propose_on::<_, _, _, ENDS>(rt, alloc, draft, sets, &OpenGate) {
+        Ok(proposal) => {
+            let reply = proposal_reply(alloc, &proposal);
+            let_go::<Proposal, ENDS>(proposal);
+            let_go::<SharedBase, ENDS>(base);
+            reply
+        }
         Err(Failure::Fault(fault)) => pool_reply(alloc, fault),
         Err(Failure::Memory) => Err(AllocError),
     }

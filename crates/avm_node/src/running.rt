@@ -25,7 +25,7 @@ use std::thread::Threads;
 /// but for `propose`, whose calls are executed in as many threads as it has workers.
 ///
 /// There are nine sets with an object of every opcode: one for each worker, and the last for the thread that calls.
-pub fn run<'a, T: Threads + Wait + Sync, R: Read, W: Write, O: Op>(
+pub fn run<'a, T: Threads + Wait + Sync, R: Read, W: Write, O: Op, const ENDS: bool>(
     rt: &T,
     alloc: Global,
     words: &'a [&'a str],
@@ -50,19 +50,25 @@ pub fn run<'a, T: Threads + Wait + Sync, R: Read, W: Write, O: Op>(
         Ok(command) => match workers_of(command) {
             Some(workers) => {
                 sets.truncate(usize::from(workers));
-                match proposed(rt, alloc, workers, reader, sets, own) {
+                match proposed::<T, R, O, ENDS>(rt, alloc, workers, reader, sets, own) {
                     Ok(reply) => write_reply(writer, reply.text.as_slice(), reply.status),
                     Err(_) => FAILED,
                 }
             }
-            None => answer_to(alloc, command, reader, writer, &FullOps::from_full(own)),
+            None => answer_to::<R, W, O, ENDS>(
+                alloc,
+                command,
+                reader,
+                writer,
+                &FullOps::from_full(own),
+            ),
         },
         Err(_) => FAILED,
     }
 }
 
 /// What `propose` answers to its whole input.
-fn proposed<T: Threads + Wait + Sync, R: Read, O: Op>(
+fn proposed<T: Threads + Wait + Sync, R: Read, O: Op, const ENDS: bool>(
     rt: &T,
     alloc: Global,
     workers: u8,
@@ -78,5 +84,5 @@ fn proposed<T: Threads + Wait + Sync, R: Read, O: Op>(
     if input.len() > INPUT_LIMIT {
         return Ok(input_refusal(alloc)?);
     }
-    Ok(propose_reply(rt, alloc, input, sets, own)?)
+    Ok(propose_reply::<T, O, ENDS>(rt, alloc, input, sets, own)?)
 }

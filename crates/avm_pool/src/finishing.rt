@@ -1,5 +1,6 @@
 //! From a journal to its proposal. Freeing the shards and the journal takes as long as making the block, so other threads do
-//! it meanwhile; where no thread can be made, one comes after the other.
+//! it meanwhile; where no thread can be made, one comes after the other. Where the process ends with the proposal, they are left
+//! to the operating system.
 
 ghost use Rattle.std.specs.Prelude.{◌≡◌, ◌↔◌, IfNone, IfOk, IfSome, IsTrue};
 ghost use Rattle.std.specs.Arc.{arc_value};
@@ -14,10 +15,11 @@ use crate::proposal::Proposal;
 use avm_block::{Block, encode};
 use mv_parts::{Journal, Sealed};
 use std::alloc::{AllocError, Global};
+use std::mem;
 use std::thread::{Threads, join};
 
 /// The proposal of a journal, if it is of this draft. The shards are not needed any more.
-pub(crate) fn proposal_of<R: Threads + Sync>(
+pub(crate) fn proposal_of<R: Threads + Sync, const ENDS: bool>(
     rt: &R,
     alloc: Global,
     journal: Journal,
@@ -29,13 +31,14 @@ pub(crate) fn proposal_of<R: Threads + Sync>(
     ensures none { IfOk result (λ made. IfNone made (IsJournalOf journal
         draft.now.base.now draft.now.header (arc_value draft.now.calls).items → ⊥)) }
 {
+    let shards = to_free::<Vec<ShardLock>, ENDS>(shards);
     let (is_own, sealed) = block_of(rt, alloc, &journal, shards, draft);
     if !is_own {
         return Ok(None);
     }
     let Sealed { block, numbers } = sealed?;
     let count = journal.calls().len() as u32;
-    let bytes = bytes_of(rt, alloc, journal, &block)?;
+    let bytes = bytes_of::<R, ENDS>(rt, alloc, journal, &block)?;
     let left = left_of(alloc, &numbers, count)?;
     Ok(Some(Proposal {
         block,
@@ -50,7 +53,7 @@ fn block_of<R: Threads + Sync>(
     rt: &R,
     alloc: Global,
     journal: &Journal,
-    shards: Vec<ShardLock>,
+    shards: Option<Vec<ShardLock>>,
     draft: &SharedDraft,
 ) -> (bool, Result<Sealed, AllocError>)
     ensures own { IsTrue result.0 ↔ IsJournalOf journal.now draft.now.base.now draft.now.header
@@ -76,7 +79,22 @@ fn block_of<R: Threads + Sync>(
 }
 
 /// The bytes of a block. The journal is not needed any more.
-fn bytes_of<R: Threads + Sync>(
+fn bytes_of<R: Threads + Sync, const ENDS: bool>(
+    rt: &R,
+    alloc: Global,
+    journal: Journal,
+    block: &Block,
+) -> Result<Vec<u8>, AllocError>
+    ensures { IfOk result (λ bytes. bytes.items ≡ block_bytes block.now) }
+{
+    match to_free::<Journal, ENDS>(journal) {
+        Some(journal) => bytes_and_room(rt, alloc, journal, block),
+        None => encode(alloc, block),
+    }
+}
+
+/// The bytes of a block, while another thread frees the journal.
+fn bytes_and_room<R: Threads + Sync>(
     rt: &R,
     alloc: Global,
     journal: Journal,
@@ -94,6 +112,16 @@ fn bytes_of<R: Threads + Sync>(
     bytes
 }
 
-fn free_shards(_shards: Vec<ShardLock>) {}
+/// What is to be freed: nothing, where the process ends, which takes all memory back.
+fn to_free<T: Drop, const ENDS: bool>(value: T) -> Option<T> {
+    if ENDS {
+        mem::forget(value);
+        None
+    } else {
+        Some(value)
+    }
+}
+
+fn free_shards(_shards: Option<Vec<ShardLock>>) {}
 
 fn free_journal(_journal: Journal) {}

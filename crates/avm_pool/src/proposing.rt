@@ -61,7 +61,10 @@ pub fn propose<G: Gate, R: Threads + Wait + Sync, O: Op>(
 }
 
 /// As [`propose`], on a ledger that is shared and has its digest: it is not copied, and not encoded again.
-pub fn propose_on<G: Gate, R: Threads + Wait + Sync, O: Op>(
+///
+/// `ENDS` says whether the process ends with the proposal. If so, what the workers kept is left to the operating system, which
+/// takes all memory back at once; else other threads give it back while the block is made.
+pub fn propose_on<G: Gate, R: Threads + Wait + Sync, O: Op, const ENDS: bool>(
     rt: &R,
     alloc: Global,
     draft: Draft<SharedBase>,
@@ -80,7 +83,7 @@ pub fn propose_on<G: Gate, R: Threads + Wait + Sync, O: Op>(
         None => {
             let ThreadSets { workers, own } = sets;
             let own = FullOps::from_full(own);
-            proposed(rt, alloc, draft, Crew { workers, own }, gate)
+            proposed::<G, R, O, ENDS>(rt, alloc, draft, Crew { workers, own }, gate)
         }
     }
 }
@@ -109,11 +112,11 @@ fn proposed_over<G: Gate, R: Threads + Wait + Sync, O: Op>(
         header,
         calls,
     };
-    proposed(rt, alloc, draft, crew, gate)
+    proposed::<G, R, O, false>(rt, alloc, draft, crew, gate)
 }
 
 /// What comes out where no test fails.
-fn proposed<G: Gate, R: Threads + Wait + Sync, O: Op>(
+fn proposed<G: Gate, R: Threads + Wait + Sync, O: Op, const ENDS: bool>(
     rt: &R,
     alloc: Global,
     draft: Draft<SharedBase>,
@@ -160,16 +163,16 @@ fn proposed<G: Gate, R: Threads + Wait + Sync, O: Op>(
         if !run_rest(rt, &shared, &mut journal, &own) {
             return Err(Failure::Fault(PoolFault::ClockEnd));
         }
-        if let Some(proposal) = proposal_of(rt, alloc, journal, shards, &draft)? {
+        if let Some(proposal) = proposal_of::<R, ENDS>(rt, alloc, journal, shards, &draft)? {
             return Ok(proposal);
         }
     }
-    proposed_anew(rt, alloc, &draft, &own, gate)
+    proposed_anew::<G, R, O, ENDS>(rt, alloc, &draft, &own, gate)
 }
 
 /// What one thread makes of all calls. It is for a journal that is not the one that was opened, which nothing rules out that
 /// is known of a value behind a lock.
-fn proposed_anew<G: Gate, R: Threads + Wait + Sync, O: Op>(
+fn proposed_anew<G: Gate, R: Threads + Wait + Sync, O: Op, const ENDS: bool>(
     rt: &R,
     alloc: Global,
     draft: &SharedDraft,
@@ -193,7 +196,7 @@ fn proposed_anew<G: Gate, R: Threads + Wait + Sync, O: Op>(
     if !run_rest(rt, &shared, &mut journal, own) {
         return Err(Failure::Fault(PoolFault::ClockEnd));
     }
-    match proposal_of(rt, alloc, journal, shards, draft)? {
+    match proposal_of::<R, ENDS>(rt, alloc, journal, shards, draft)? {
         Some(proposal) => Ok(proposal),
         None => unreachable!(),
     }

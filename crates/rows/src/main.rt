@@ -182,7 +182,7 @@ fn answered<O: Op>(
     let words: Vec<&str> = words.split_whitespace().collect(alloc)?;
     let mut input = Input::new(row.bytes.as_slice(), row.failure);
     let mut output = Output::new(alloc, row.room);
-    let status = answer(alloc, words.as_slice(), &mut input, &mut output, ops);
+    let status = answer::<_, _, _, false>(alloc, words.as_slice(), &mut input, &mut output, ops);
     *row = Row::new(alloc);
     let Ok(text) = String::from_utf8(output.taken) else {
         return Err("answers are text".into());

@@ -6,8 +6,8 @@ use Rattle.avm_commands.proofs.block_commands.verdict_on.Goals as goal
 
 pub returns-in_ok-reply-in-Agrees : goal.returns-in_ok-reply-in-Agrees
 returns-in_ok-reply-in-Agrees g c =
-    let judged = rw c.in-Agrees.is at c.in_ok-_after.ensures in (
-      verdict.Agrees c.in-Agrees._after,
+    let judged = rw c.in-Agrees.is at c.in_ok-after.ensures in (
+      verdict.Agrees c.in-Agrees.after,
       judged,
       c.in_ok-reply-in-Agrees.ensures ∙ ap agrees_reply (c.after.ensures ∙ judged.0.after ∙ ap ledger_digest (sym judged.1)),
     )
