@@ -2,7 +2,7 @@
 
 use avm_items::{Addresses, Completion};
 use avm_states::Schema;
-use teal_value::{Address, ByteString, ByteStrings, Uints};
+use teal_value::{Address, ByteString, ByteStrings, ThinBytes, Uints};
 
 /// Who calls, for what fee, in which rounds, and with which note.
 #[derive(Drop)]
@@ -34,8 +34,8 @@ pub(crate) struct Lists {
 /// What a creation or an update brings.
 #[derive(Drop)]
 pub(crate) struct Programs {
-    pub approval: ByteString,
-    pub clear: ByteString,
+    pub approval: ThinBytes,
+    pub clear: ThinBytes,
     pub global_schema: Schema,
     pub local_schema: Schema,
 }

@@ -15,7 +15,7 @@ use avm_items::{Addresses, CallData, Completion};
 use avm_ledger::Fields;
 use std::alloc::Global;
 use std::sync::Arc;
-use teal_value::{Address, ByteString, ByteStrings, Failure, Uints};
+use teal_value::{Address, ByteString, ByteStrings, Failure, ThinBytes, Uints};
 
 /// The call that the bytes are.
 pub(crate) fn call_alone(alloc: Global, bytes: &[u8]) -> Result<CallData, CallDataError>
@@ -147,8 +147,8 @@ fn lists_of(alloc: Global, fields: Fields<'_>) -> Result<(Lists, Fields<'_>), Ca
 fn programs_of(alloc: Global, fields: Fields<'_>) -> Result<(Programs, Fields<'_>), CallDataError>
     ensures { Gives (λ x. x) result (programs_at fields.entry) }
 {
-    let (approval, rest) = string_of(alloc, fields)?;
-    let (clear, rest) = string_of(alloc, rest)?;
+    let (approval, rest) = thin_string_of(alloc, fields)?;
+    let (clear, rest) = thin_string_of(alloc, rest)?;
     let (global_schema, rest) = rest.schema(CallDataFault::Truncated)?;
     let (local_schema, rest) = rest.schema(CallDataFault::Truncated)?;
     let programs = Programs {
@@ -181,6 +181,16 @@ fn string_of(alloc: Global, fields: Fields<'_>) -> Result<(ByteString, Fields<'_
 {
     let (bytes, rest) = fields.string(CallDataFault::Truncated)?;
     Ok((ByteString::from_slice(alloc, bytes)?, rest))
+}
+
+fn thin_string_of(
+    alloc: Global,
+    fields: Fields<'_>,
+) -> Result<(ThinBytes, Fields<'_>), CallDataError>
+    ensures { Gives (λ x. x) result (string_at Truncated fields.entry) }
+{
+    let (bytes, rest) = fields.string(CallDataFault::Truncated)?;
+    Ok((ThinBytes::from_slice(alloc, bytes)?, rest))
 }
 
 fn strings_of(alloc: Global, fields: Fields<'_>) -> Result<(ByteStrings, Fields<'_>), CallDataError>

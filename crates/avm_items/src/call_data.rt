@@ -6,7 +6,7 @@ ghost use Rattle.avm_items.specs.SameCalls.{HasSameLists, HasSameTarget, HasSame
 
 use avm_states::Schema;
 use std::marker::Model;
-use teal_value::{Address, ByteString, ByteStrings, Uints};
+use teal_value::{Address, ByteString, ByteStrings, ThinBytes, Uints};
 
 /// A list of accounts, which contracts see as the list of their addresses.
 #[derive(Debug, Drop)]
@@ -95,9 +95,9 @@ pub struct CallData {
     /// The applications beside the one that is called.
     pub foreign_applications: Uints,
     /// The approval program that a creation or an update brings, and else empty.
-    pub approval: ByteString,
+    pub approval: ThinBytes,
     /// The clear state program that a creation or an update brings, and else empty.
-    pub clear: ByteString,
+    pub clear: ThinBytes,
     pub global_schema: Schema,
     pub local_schema: Schema,
 }

@@ -1,11 +1,12 @@
 //! The fields of a call, in the two parts in which a transaction has them.
 
-ghost use Rattle.std.specs.Prelude.{◌≡◌};
+ghost use Rattle.std.specs.Prelude.{◌≡◌, IfOk};
 ghost use Rattle.json_documents.specs.Transactions.{fields};
 
 use avm_items::{Addresses, CallData, Completion};
 use avm_states::Schema;
-use teal_value::{Address, ByteString, ByteStrings, Uints};
+use std::alloc::{AllocError, Global};
+use teal_value::{Address, ByteString, ByteStrings, ThinBytes, Uints};
 
 /// What is called, and with what.
 #[derive(Drop)]
@@ -34,11 +35,11 @@ pub(crate) struct Terms {
 }
 
 /// Both as the fields of a call.
-pub(crate) fn fields(target: Target, terms: Terms) -> CallData
-    ensures { result ≡ fields target terms }
+pub(crate) fn fields(alloc: Global, target: Target, terms: Terms) -> Result<CallData, AllocError>
+    ensures { IfOk result (λ call. call ≡ fields target terms) }
 {
     let lease = terms.lease;
-    CallData {
+    Ok(CallData {
         sender: terms.sender,
         fee: terms.fee,
         first_valid: terms.first_valid,
@@ -51,9 +52,9 @@ pub(crate) fn fields(target: Target, terms: Terms) -> CallData
         arguments: target.arguments,
         accounts: target.accounts,
         foreign_applications: target.foreign_applications,
-        approval: target.approval,
-        clear: target.clear,
+        approval: ThinBytes::from_bytes(alloc, target.approval)?,
+        clear: ThinBytes::from_bytes(alloc, target.clear)?,
         global_schema: target.global_schema,
         local_schema: target.local_schema,
-    }
+    })
 }

@@ -133,7 +133,7 @@ impl Form for TransactionForm<'_> {
         known(alloc, &TRANSACTION, value)?;
         let target = self.target(alloc, value)?;
         let terms = terms(alloc, value)?;
-        checked_call(alloc, fields(target, terms))
+        checked_call(alloc, fields(alloc, target, terms)?)
     }
 }
 

@@ -8,7 +8,7 @@ use avm_ledger::{Header, Profile};
 use avm_states::Schema;
 use std::alloc::Global;
 use std::test::Fail;
-use teal_value::{Address, ByteString, ByteStrings, Failure, Uints};
+use teal_value::{Address, ByteString, ByteStrings, Failure, ThinBytes, Uints};
 
 /// The header of profile 2, all of whose numbers are 0.
 pub const HEADER: Header = Header {
@@ -60,8 +60,8 @@ fn plain(alloc: Global) -> CallData {
         arguments: ByteStrings::from_vec(Vec::new(alloc)),
         accounts: Addresses::from_vec(Vec::new(alloc)),
         foreign_applications: Uints::from_vec(Vec::new(alloc)),
-        approval: ByteString::new(),
-        clear: ByteString::new(),
+        approval: ThinBytes::new(),
+        clear: ThinBytes::new(),
         global_schema: NO_ENTRY,
         local_schema: NO_ENTRY,
     }
@@ -116,8 +116,8 @@ fn set_at(
     match place {
         0 => fields.application = word.parse::<u64>()?,
         1 => fields.completion = completion(word)?,
-        2 => fields.approval = programs.named(alloc, word)?,
-        3 => fields.clear = programs.named(alloc, word)?,
+        2 => fields.approval = ThinBytes::from_bytes(alloc, programs.named(alloc, word)?)?,
+        3 => fields.clear = ThinBytes::from_bytes(alloc, programs.named(alloc, word)?)?,
         4 => fields.global_schema.uints = word.parse::<u8>()?,
         _ => fields.global_schema.bytes = word.parse::<u8>()?,
     }

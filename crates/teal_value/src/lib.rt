@@ -10,6 +10,7 @@ mod failure;
 mod fault;
 mod list_memory;
 mod state_key;
+mod thin_bytes;
 mod value;
 
 pub use address::Address;
@@ -24,4 +25,5 @@ pub use failure::Failure;
 pub use fault::Fault;
 pub use list_memory::write_over;
 pub use state_key::{MAX_KEY_BYTES, StateKey};
+pub use thin_bytes::ThinBytes;
 pub use value::Value;
