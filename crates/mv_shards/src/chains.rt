@@ -4,13 +4,16 @@ ghost use Rattle.std.specs.Prelude.{◌≡◌, ◌≤◌, ◌<◌, [], IfOk, IfS
 ghost use Rattle.std.specs.Option.{option_copied};
 ghost use Rattle.std.specs.Ordering.{is_eq};
 ghost use Rattle.avm_items.specs.Items.{item_cmp};
+ghost use Rattle.avm_items.specs.LedgerItems.{at};
 ghost use Rattle.mv_chain.specs.Versions.{versions_from};
 
 use crate::slot::{SLOT_COUNT, slot_of};
-use avm_items::{Item, ItemValue};
+use avm_items::{Item, ItemValue, item_of};
+use avm_ledger::Ledger;
 use mv_chain::Chain;
 use std::alloc::{AllocError, Global};
 use std::collections::BTreeMap;
+use std::collections::btree_map::Entry;
 use std::marker::Model;
 
 /// The chains of some items, in the order in which they were made. A chain's number is its index there, and stays.
@@ -58,21 +61,6 @@ impl Chains {
         }
     }
 
-    /// The number of an item's chain, which is noted for the next time, if it isn't yet.
-    pub(crate) fn find_and_note(&mut self, item: &Item) -> Option<usize>
-        ensures number { result ≡ number_in self.old item.now }
-        ensures unchanged { self.new ≡ self.old }
-    {
-        if let Some(number) = self.noted(item) {
-            return Some(number);
-        }
-        let found = self.number_of(item);
-        if let Some(number) = found {
-            note(&mut self.recent, item, number);
-        }
-        found
-    }
-
     /// The number of an item's chain, if it is noted.
     fn noted(&self, item: &Item) -> Option<usize>
         ensures { IfSome result (λ number. number_in self.now item.now ≡ Some number) }
@@ -114,27 +102,52 @@ impl Chains {
         &self.list[number].1
     }
 
-    /// Gives an item a chain, which has none, and says its number. Its versions stay.
-    pub(crate) fn make(
+    /// The number of an item's chain. Where it has none, one is made of what it is in a ledger, and no versions change.
+    pub(crate) fn find_or_make(
         &mut self,
         alloc: Global,
+        base: &Ledger,
         item: &Item,
-        first: ItemValue,
     ) -> Result<usize, AllocError>
-        requires none { chain_in self.old item.now ≡ None }
-        ensures grown { (value_of : _)
-            → value_of item.now ≡ first → IsGrown value_of self.old self.new }
+        ensures grown { IsGrown (at base.now) self.old self.new }
         ensures roomier { OnOk result (IsRoomier self.old self.new) }
         ensures number { IfOk result (λ number. number_in self.new item.now ≡ Some number) }
     {
-        let chain = Chain::new(alloc, first)?;
-        make_slots(alloc, &mut self.recent)?;
-        self.list.reserve(1)?;
-        let number = self.list.len();
-        self.numbers.insert(item.copied(), number)?;
-        self.list.push_reserved((item.copied(), chain));
-        note(&mut self.recent, item, number);
-        Ok(number)
+        match self.noted(item) {
+            Some(number) => Ok(number),
+            None => self.look_up_or_make(alloc, base, item),
+        }
+    }
+
+    /// The same, looked up. It is out of line, since most items are noted.
+    #[inline(never)]
+    fn look_up_or_make(
+        &mut self,
+        alloc: Global,
+        base: &Ledger,
+        item: &Item,
+    ) -> Result<usize, AllocError>
+        ensures grown { IsGrown (at base.now) self.old self.new }
+        ensures roomier { OnOk result (IsRoomier self.old self.new) }
+        ensures number { IfOk result (λ number. number_in self.new item.now ≡ Some number) }
+    {
+        match self.numbers.entry(item.copied())? {
+            Entry::Occupied(entry) => {
+                let number = *entry.get();
+                note(&mut self.recent, item, number);
+                Ok(number)
+            }
+            Entry::Vacant(entry) => {
+                let chain = Chain::new(alloc, item_of(base, item)?)?;
+                make_slots(alloc, &mut self.recent)?;
+                self.list.reserve(1)?;
+                let number = self.list.len();
+                entry.insert(number);
+                self.list.push_reserved((item.copied(), chain));
+                note(&mut self.recent, item, number);
+                Ok(number)
+            }
+        }
     }
 
     /// Makes room in the chain of a number for one more version.

@@ -15,7 +15,7 @@ ghost use Rattle.mv_shards.specs.KeptShards.{IsMarkedRead, IsNewestValue, IsPart
 use crate::attempt::Attempt;
 use crate::chains::Chains;
 use crate::read_fault::{ReadError, ReadFault};
-use avm_items::{Item, ItemValue, is_value_in, item_of};
+use avm_items::{Item, ItemValue, is_value_in};
 use avm_ledger::Ledger;
 use mv_chain::Late;
 use std::alloc::{AllocError, Global};
@@ -30,26 +30,6 @@ pub(crate) struct Part {
     pub(crate) low: u64,
     pub(crate) base: Arc<Ledger>,
     pub(crate) chains: Chains,
-}
-
-/// Gives an item a chain, if it has none, and says its number.
-pub(crate) fn add_chain(
-    alloc: Global,
-    chains: &mut Chains,
-    base: &Ledger,
-    item: &Item,
-) -> Result<usize, AllocError>
-    ensures grown { IsGrown (at base.now) chains.old chains.new }
-    ensures roomier { OnOk result (IsRoomier chains.old chains.new) }
-    ensures number { IfOk result (λ number. number_in chains.new item.now ≡ Some number) }
-{
-    match chains.find_and_note(item) {
-        Some(number) => Ok(number),
-        None => {
-            let first = item_of(base, item)?;
-            chains.make(alloc, item, first)
-        }
-    }
 }
 
 /// A copy of the newest value not above a timestamp in the chain of a number.
@@ -78,7 +58,7 @@ fn first_read(
     ensures kept { (low : _)
         → AreChains (at base.now) low chains.old → AreChains (at base.now) low chains.new }
 {
-    let number = add_chain(alloc, chains, base, &item)?;
+    let number = chains.find_or_make(alloc, base, &item)?;
     let value = value_at(chains, number, attempt.timestamp)?;
     attempt.reads.insert(item, value.clone()?)?;
     chains.mark(number, attempt.timestamp);

@@ -8,7 +8,7 @@ ghost use Rattle.mv_shards.specs.KeptHelds.{IsHeldIn};
 ghost use Rattle.mv_shards.specs.PartWriting.{AreGrown, AreRoomier, AreRoomy, AreSpots, IsRoom, IsSpot, chains_for};
 
 use crate::index::shard_of;
-use crate::part::{Part, add_chain};
+use crate::part::Part;
 use crate::spot::Spot;
 use avm_items::{Item, ItemMap, ItemValue};
 use std::alloc::{AllocError, Global};
@@ -60,7 +60,7 @@ fn add_chain_for(parts: &mut Parts, item: &Item) -> Result<Spot, AllocError>
     let shard = usize::from(shard_of(item));
     match &mut parts[shard] {
         Some(part) => {
-            let number = add_chain(part.alloc, &mut part.chains, &part.base, item)?;
+            let number = part.chains.find_or_make(part.alloc, &part.base, item)?;
             Ok(Spot { shard, number })
         }
         None => unreachable!(),
