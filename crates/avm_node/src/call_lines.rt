@@ -10,12 +10,16 @@ ghost use Rattle.avm_node.specs.ProposeInputs.{call_on_line, calls_on_lines, on_
 
 use avm_call::Call;
 use avm_input::{NumberedLine, Refusal, checked_call, line_bytes};
+use avm_pool::take_room;
 use std::alloc::Global;
 use std::thread::{Threads, join};
 use teal_value::Failure;
 
 /// How few lines one thread reads alone: to make a thread for them would cost more than it saves.
 const FEW: usize = 128;
+
+/// What a call takes, in bytes.
+const CALL_ROOM: usize = 512;
 
 /// Calls, or the first refusal of a line.
 type Calls = Result<Vec<Call>, Failure<Refusal>>;
@@ -109,6 +113,7 @@ fn calls_on(alloc: Global, number: usize, lines: &[NumberedLine<'_>]) -> Calls
     requires { number + length lines.now < 2 ^ 64 }
     ensures { Gives (λ calls. calls.items) result (calls_on_lines number (lines_shown lines.now)) }
 {
+    take_room(alloc, lines.len(), CALL_ROOM);
     let mut calls = Vec::with_capacity(alloc, lines.len())?;
     for index in 0..lines.len() {
         calls.push(call_on(alloc, number + index, lines[index])?)?;

@@ -8,6 +8,7 @@ use crate::ends::{AttemptEnd, ThreadEnd};
 use crate::gate::{Gate, GateEvent};
 use crate::holding::{Wanted, Work, Worked, work_with};
 use crate::running::{Executor, Shared, Trial};
+use crate::thread_room::take_room;
 use crate::waiting::{lock_soon, stand_back};
 use avm_ops::{Op, Ops};
 use avm_run::{Finished, FullOps};
@@ -19,6 +20,9 @@ use teal_value::Failure;
 /// How many commits a worker makes before its first prune. Before each further one it makes twice as many as before the last,
 /// since a prune visits each item that the block has touched: so all prunes together visit as many as its commits touch.
 const FIRST_PRUNE: u32 = 64;
+
+/// What the attempts of a call and its entry take, in bytes. A worker may run all calls.
+const CALL_ROOM: usize = 2048;
 
 /// A set of objects, and a pass of the queue.
 #[derive(Drop)]
@@ -72,6 +76,7 @@ impl<'a, O: Op> Worker<'a, O> {
             ops: &ops,
             spare: None,
         };
+        take_room(shared.alloc, shared.calls.len(), CALL_ROOM);
         let mut held = Held::new(shared.alloc);
         let mut commits = 0u32;
         let mut next_prune = FIRST_PRUNE;
