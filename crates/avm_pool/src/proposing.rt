@@ -6,11 +6,8 @@ ghost use Rattle.mv_parts.specs.Opening.{open_fault};
 ghost use Rattle.mv_parts.specs.Sealing.{IsJournalOf};
 ghost use Rattle.avm_pool.specs.Proposals.{IsProposal};
 ghost use Rattle.avm_pool.specs.Refusals.{IsRefusal, IsWant, MayPropose};
-ghost use Rattle.avm_block.specs.Blocks.{most_calls};
 
-use crate::call_numbers::Numbers;
 use crate::draft::{Crew, Draft, SharedDraft, ThreadSets};
-use crate::ends::ThreadEnd;
 use crate::finishing::proposal_of;
 use crate::gate::Gate;
 use crate::holding::ShardLock;
@@ -19,7 +16,7 @@ use crate::proposal::Proposal;
 use crate::refusals::pool_fault;
 use crate::rest::run_rest;
 use crate::running::Shared;
-use crate::workers::{enlist_all, put_all, run_workers};
+use crate::workers::run_sets;
 use avm_ledger::Ledger;
 use avm_ops::Op;
 use avm_run::FullOps;
@@ -134,10 +131,6 @@ fn proposed<G: Gate, R: Threads + Wait + Sync, O: Op, const ENDS: bool>(
         calls,
     } = draft;
     let Crew { workers, own } = crew;
-    let count = calls.len() as u32;
-    let (numbers, mut pass) = Numbers::new(alloc)?;
-    put_all(rt, &numbers, &mut pass, count);
-    let workers = enlist_all(alloc, &numbers, &mut pass, workers)?;
     let calls = Arc::new(alloc, calls)?;
     let draft = SharedDraft {
         base,
@@ -153,11 +146,7 @@ fn proposed<G: Gate, R: Threads + Wait + Sync, O: Op, const ENDS: bool>(
         header: &draft.header,
         gate,
     };
-    match run_workers(rt, &journal, &shared, workers)? {
-        ThreadEnd::Over => {}
-        ThreadEnd::NotStarted => return Err(Failure::Fault(PoolFault::Spawn)),
-        ThreadEnd::ClockEnd => return Err(Failure::Fault(PoolFault::ClockEnd)),
-    }
+    run_sets(rt, &journal, &shared, workers)?;
     let mut journal = journal.into_inner();
     if journal.is_over() {
         if !run_rest(rt, &shared, &mut journal, &own) {

@@ -1,13 +1,15 @@
 //! Workers in threads.
 
-ghost use Rattle.std.specs.Prelude.{◌≡◌, ◌≤◌, true, []};
+ghost use Rattle.std.specs.Prelude.{◌≡◌, ◌≤◌, true, [], IfErr, length};
 ghost use Rattle.avm_pool.specs.NumberPasses.{IsWith, view};
 ghost use Rattle.avm_pool.specs.NumberRule.{hand};
+ghost use Rattle.avm_pool.specs.Refusals.{IsWant};
 ghost use Rattle.avm_block.specs.Blocks.{most_calls};
 
 use crate::call_numbers::{NumberPass, Numbers};
 use crate::ends::ThreadEnd;
 use crate::gate::Gate;
+use crate::pool_fault::{PoolError, PoolFault};
 use crate::running::Shared;
 use crate::worker::{Worker, enlist};
 use avm_ops::{Op, Ops};
@@ -16,9 +18,10 @@ use std::alloc::{AllocError, Global};
 use std::sync::{Mutex, Wait};
 use std::thread;
 use std::thread::Threads;
+use teal_value::Failure;
 
 /// Puts the numbers 1 to the count.
-pub(crate) fn put_all<R: Wait>(rt: &R, numbers: &Numbers, pass: &mut NumberPass, count: u32)
+fn put_all<R: Wait>(rt: &R, numbers: &Numbers, pass: &mut NumberPass, count: u32)
     requires queue { IsWith numbers.now pass.old × (view pass.old ≡ hand true 0 []) }
     requires room { count ≤ most_calls }
     ensures { IsWith numbers.now pass.new × (view pass.new ≡ hand true count []) }
@@ -31,7 +34,7 @@ pub(crate) fn put_all<R: Wait>(rt: &R, numbers: &Numbers, pass: &mut NumberPass,
 }
 
 /// A worker of each set.
-pub(crate) fn enlist_all<'a, O: Op>(
+fn enlist_all<'a, O: Op>(
     alloc: Global,
     numbers: &'a Numbers,
     pass: &mut NumberPass,
@@ -47,8 +50,28 @@ pub(crate) fn enlist_all<'a, O: Op>(
     Ok(workers)
 }
 
+/// Has a worker of each set run the calls on a journal behind its lock, each in a thread of its own.
+pub(crate) fn run_sets<O: Op, G: Gate, R: Threads + Wait + Sync>(
+    rt: &R,
+    journal: &Mutex<Journal>,
+    shared: &Shared<G>,
+    sets: Vec<Ops<O>>,
+) -> Result<(), PoolError>
+    requires few { length shared.now.calls.now ≤ most_calls }
+    ensures want { IfErr result IsWant }
+{
+    let (numbers, mut pass) = Numbers::new(shared.alloc)?;
+    put_all(rt, &numbers, &mut pass, shared.calls.len() as u32);
+    let workers = enlist_all(shared.alloc, &numbers, &mut pass, sets)?;
+    match run_workers(rt, journal, shared, workers)? {
+        ThreadEnd::Over => Ok(()),
+        ThreadEnd::NotStarted => Err(Failure::Fault(PoolFault::Spawn)),
+        ThreadEnd::ClockEnd => Err(Failure::Fault(PoolFault::ClockEnd)),
+    }
+}
+
 /// Runs the workers in threads of their own, and joins those that were started.
-pub(crate) fn run_workers<O: Op, G: Gate, R: Threads + Wait + Sync>(
+fn run_workers<O: Op, G: Gate, R: Threads + Wait + Sync>(
     rt: &R,
     journal: &Mutex<Journal>,
     shared: &Shared<G>,
