@@ -1,6 +1,7 @@
 -- The bytes of a block.
 use Rattle.std.specs.Prelude.{ℕ, List, [], ◌∷◌, ◌++◌}
 use Rattle.sha2.specs.Sha256.{sha256}
+use Rattle.avm_ledger.specs.declared.header.Header.{Header}
 use Rattle.avm_ledger.specs.declared.header.Profile.{Profile}
 use Rattle.avm_ledger.specs.declared.header.Profile.TheVariants as profile
 use Rattle.avm_ledger.specs.Spellings.{u32_bytes, u64_bytes, counted_bytes, header_bytes}
@@ -21,9 +22,13 @@ format_bytes profile.Three = 2 ∷ 3 ∷ []
 abbrev pub block_entry_bytes : Entry → List ℕ
 block_entry_bytes e = u64_bytes e.timestamp ++ call_bytes e.call ++ outcome_bytes e.outcome
 
+-- all up to the digest of the ledger after, of a block of these entries over a ledger with this digest
+abbrev pub front_bytes : List ℕ → Header → List Entry → List ℕ
+front_bytes base header entries = magic ++ format_bytes header.profile ++ base ++ header_bytes header ++ counted_bytes u32_bytes block_entry_bytes entries
+
 -- all up to the last digest
 abbrev pub body_bytes : Block → List ℕ
-body_bytes b = magic ++ format_bytes b.header.profile ++ b.base ++ header_bytes b.header ++ counted_bytes u32_bytes block_entry_bytes b.entries ++ b.after
+body_bytes b = front_bytes b.base b.header b.entries ++ b.after
 
 abbrev pub block_bytes : Block → List ℕ
 block_bytes b = body_bytes b ++ sha256 (body_bytes b)

@@ -1,5 +1,5 @@
 -- Reading an outcome from bytes.
-use Rattle.std.specs.Prelude.{ℕ, ◌==◌, nat_le, if◌then◌else◌, List, [], Ok, Err}
+use Rattle.std.specs.Prelude.{ℕ, ◌==◌, nat_le, if◌then◌else◌, List, Ok, Err}
 use Rattle.std.specs.Option.{ok_or}
 use Rattle.std.specs.Int.{w8, w16}
 use Rattle.teal_value.specs.Answer.{◌>>=◌}

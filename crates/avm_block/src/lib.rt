@@ -1,5 +1,5 @@
 //! Blocks: calls in the order of their timestamps, with how each ended. A `Block` is one by its type; `encode` writes its
-//! bytes, and `decode` reads them. What a block is and when it replays over a ledger stands in `specs/Blocks.antt`, which
+//! bytes, and `decode` reads them; a `Front` is what they begin with, before the digest of the ledger after is known. What a block is and when it replays over a ledger stands in `specs/Blocks.antt`, which
 //! calls it may have in `specs/AcceptedCalls.antt`, its bytes in `specs/BlockSpelling.antt` and `specs/BlockReader.antt`,
 //! their laws in `reading_laws`.
 #![tactic(auto)]
@@ -11,6 +11,7 @@ mod call_sizes;
 mod decoding;
 mod encoding;
 mod entry;
+mod front;
 pub mod header_codec;
 pub mod outcome_codec;
 mod places;
@@ -22,4 +23,5 @@ pub use block_fault::{BlockError, BlockFault};
 pub use decoding::decode;
 pub use encoding::encode;
 pub use entry::Entry;
+pub use front::Front;
 pub use places::outcome_has_place;

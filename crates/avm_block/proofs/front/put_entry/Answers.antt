@@ -3,7 +3,7 @@ use Rattle.avm_ledger.specs.Spellings.{u64_bytes}
 use Rattle.avm_call_codec.specs.CallSpelling.{call_bytes}
 use Rattle.avm_items.proofs.Appending.{more, more_as}
 use Rattle.avm_call.specs.OutcomeSpelling.{outcome_bytes}
-use Rattle.avm_block.proofs.encoding.put_entry.Goals as goal
+use Rattle.avm_block.proofs.front.put_entry.Goals as goal
 
 pub returns : goal.returns
 returns c =
