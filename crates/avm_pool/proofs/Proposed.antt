@@ -1,8 +1,13 @@
 -- What is sealed is a proposal.
-use Rattle.std.proofs.Common.{◌≡◌, ℕ, ◌<◌, ◌≤◌, ◌==◌, List, [], ◌∷◌, ◌++◌, length, Bool, true, false, cond, refl, sym, ap, subst, AllPairs, arith}
+use Rattle.std.proofs.Common.{◌≡◌, ℕ, ◌<◌, ◌≤◌, ◌==◌, List, [], ◌∷◌, ◌++◌, length, Bool, true, false, cond, refl, sym, ap, ◌∙◌, subst, AllPairs, arith}
 use Rattle.std.specs.List.{AllByRecursion}
 use Rattle.std.proofs.lemmas.List.Sums.{sum_by-cons}
 use Rattle.std.proofs.lemmas.Bool.{eqb-true}
+use Rattle.sha2.specs.Sha256.{sha256}
+use Rattle.avm_ledger.specs.declared.header.Header.{Header}
+use Rattle.avm_block.specs.declared.entry.Entry.{Entry}
+use Rattle.avm_block.specs.Blocks.{Block}
+use Rattle.avm_block.specs.BlockSpelling.{block_bytes, front_bytes}
 use Rattle.mv_parts.specs.Journals.{Journal}
 use Rattle.mv_parts.specs.Sealing.{IsSealed}
 use Rattle.avm_pool.specs.declared.proposal.Proposal.{Proposal}
@@ -34,3 +39,8 @@ sealed_is_proposal j p s left =
       all = subst P (sym left) (all_numbers xs n s.once (λ m some. within_counted n m xs s.within some));
       rising = subst Q (sym left) (rising xs n);
     }
+
+-- the bytes that a front comes to are those of the block of its parts
+pub spelled_as_made : (b : Block) (base : List ℕ) (header : Header) (entries : List Entry) (after front bytes : List ℕ) → b ≡ record { base = base; header = header; entries = entries; after = after }
+    → front ≡ front_bytes base header entries → bytes ≡ front ++ after ++ sha256 (front ++ after) → bytes ≡ block_bytes b
+spelled_as_made b base header entries after front bytes made is spelled = spelled ∙ ap (λ xs. xs ++ after ++ sha256 (xs ++ after)) is ∙ ap block_bytes (sym made)

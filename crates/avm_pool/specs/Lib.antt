@@ -1,3 +1,4 @@
+pub mod Finishing
 pub mod Holding
 pub mod Proposals
 pub mod Refusals

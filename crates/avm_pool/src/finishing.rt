@@ -1,22 +1,34 @@
-//! From a journal to its proposal. Freeing the shards and the journal takes as long as making the block, so other threads do
-//! it meanwhile; where no thread can be made, one comes after the other. Where the process ends with the proposal, they are left
-//! to the operating system.
+//! From a journal to its proposal. The ledger after the calls takes about as long to make as the entries of the block, their
+//! bytes and SHA-256 of these; so one thread makes the one and another the others, and a third asks whether the journal is of
+//! the draft and frees the shards. Where no thread can be made, one comes after the other. Where the process ends with the
+//! proposal, shards and journal are left to the operating system.
 
 ghost use Rattle.std.specs.Prelude.{◌≡◌, ◌↔◌, IfNone, IfOk, IfSome, IsTrue};
 ghost use Rattle.std.specs.Arc.{arc_value};
-ghost use Rattle.avm_block.specs.BlockSpelling.{block_bytes};
-ghost use Rattle.mv_parts.specs.Sealing.{IsJournalOf, IsSealed};
+ghost use Rattle.mv_parts.specs.MadeEntries.{IsDigestAfter};
+ghost use Rattle.mv_parts.specs.Sealing.{IsJournalOf};
+ghost use Rattle.avm_pool.specs.Finishing.{AreBegun, AreParts};
 ghost use Rattle.avm_pool.specs.Proposals.{IsProposal};
 
 use crate::draft::SharedDraft;
 use crate::holding::ShardLock;
 use crate::left::left_of;
 use crate::proposal::Proposal;
-use avm_block::{Block, encode};
-use mv_parts::{Journal, Sealed};
+use avm_block::{Entry, Front};
+use avm_ledger::Header;
+use mv_parts::{Journal, Sealed, SharedBase};
 use std::alloc::{AllocError, Global};
 use std::mem;
 use std::thread::{Threads, join};
+
+/// What the bytes of a block are made of.
+#[derive(Drop)]
+pub(crate) struct Parts {
+    entries: Vec<Entry>,
+    front: Front,
+    /// The digest of the ledger after the entries.
+    after: [u8; 32],
+}
 
 /// The proposal of a journal, if it is of this draft. The shards are not needed any more.
 pub(crate) fn proposal_of<R: Threads + Sync, const ENDS: bool>(
@@ -32,13 +44,19 @@ pub(crate) fn proposal_of<R: Threads + Sync, const ENDS: bool>(
         draft.now.base.now draft.now.header (arc_value draft.now.calls).items → ⊥)) }
 {
     let shards = to_free::<Vec<ShardLock>, ENDS>(shards);
-    let (is_own, sealed) = block_of(rt, alloc, &journal, shards, draft);
+    let (is_own, parts) = test_and_parts(rt, alloc, &journal, shards, draft);
     if !is_own {
         return Ok(None);
     }
-    let Sealed { block, numbers } = sealed?;
+    let Parts {
+        entries,
+        front,
+        after,
+    } = parts?;
+    let Sealed { block, numbers } = journal.block_with(alloc, entries, after)?;
+    let bytes = front.finish(&after)?;
     let count = journal.calls().len() as u32;
-    let bytes = bytes_of::<R, ENDS>(rt, alloc, journal, &block)?;
+    to_free::<Journal, ENDS>(journal);
     let left = left_of(alloc, &numbers, count)?;
     Ok(Some(Proposal {
         block,
@@ -48,20 +66,19 @@ pub(crate) fn proposal_of<R: Threads + Sync, const ENDS: bool>(
     }))
 }
 
-/// Whether a journal is of this draft, and the block that it makes.
-fn block_of<R: Threads + Sync>(
+/// Whether a journal is of this draft, and the parts of its block.
+fn test_and_parts<R: Threads + Sync>(
     rt: &R,
     alloc: Global,
     journal: &Journal,
     shards: Option<Vec<ShardLock>>,
     draft: &SharedDraft,
-) -> (bool, Result<Sealed, AllocError>)
+) -> (bool, Result<Parts, AllocError>)
     ensures own { IsTrue result.0 ↔ IsJournalOf journal.now draft.now.base.now draft.now.header
         (arc_value draft.now.calls).items }
-    ensures sealed { IfOk result.1
-        (λ sealed. IsSealed journal.now sealed.block sealed.numbers.items) }
+    ensures parts { IfOk result.1 (AreParts journal.now draft.now.base.now draft.now.header) }
 {
-    let (base, header, calls) = (draft.base.ledger(), &draft.header, draft.calls.as_slice());
+    let (base, header, calls) = (draft.base, &draft.header, draft.calls.as_slice());
     join(
         rt,
         move || -> bool
@@ -69,47 +86,58 @@ fn block_of<R: Threads + Sync>(
                 ↔ IsJournalOf journal.entry.now base.entry.now header.entry.now calls.entry.now }
         {
             free_shards(shards);
-            journal.is_of(base, header, calls)
+            journal.is_of(base.ledger(), header, calls)
         },
-        || -> Result<Sealed, AllocError>
+        || -> Result<Parts, AllocError>
             ensures { IfOk result
-                (λ sealed. IsSealed journal.entry.now sealed.block sealed.numbers.items) }
-        { journal.to_block(alloc) },
+                (AreParts journal.entry.now base.entry.now header.entry.now) }
+        { parts_of(rt, alloc, journal, base, header) },
     )
 }
 
-/// The bytes of a block. The journal is not needed any more.
-fn bytes_of<R: Threads + Sync, const ENDS: bool>(
+/// The parts of a journal's block, over this ledger and under this header.
+fn parts_of<R: Threads + Sync>(
     rt: &R,
     alloc: Global,
-    journal: Journal,
-    block: &Block,
-) -> Result<Vec<u8>, AllocError>
-    ensures { IfOk result (λ bytes. bytes.items ≡ block_bytes block.now) }
+    journal: &Journal,
+    base: &SharedBase,
+    header: &Header,
+) -> Result<Parts, AllocError>
+    ensures { IfOk result (AreParts journal.now base.now header.now) }
 {
-    match to_free::<Journal, ENDS>(journal) {
-        Some(journal) => bytes_and_room(rt, alloc, journal, block),
-        None => encode(alloc, block),
-    }
+    let (after, begun) = join(
+        rt,
+        || -> Result<[u8; 32], AllocError>
+            ensures { IfOk result
+                (IsDigestAfter journal.entry.now.base journal.entry.now.world.entries) }
+        { journal.digest_after(alloc) },
+        || -> Result<(Vec<Entry>, Front), AllocError>
+            ensures { IfOk result (λ begun. AreBegun journal.entry.now
+                base.entry.now header.entry.now (begun.0.items, begun.1)) }
+        { begun_of(alloc, journal, base, header) },
+    );
+    let (entries, front) = begun?;
+    let after = after?;
+    Ok(Parts {
+        entries,
+        front,
+        after,
+    })
 }
 
-/// The bytes of a block, while another thread frees the journal.
-fn bytes_and_room<R: Threads + Sync>(
-    rt: &R,
+/// The entries of a journal's block, and its bytes up to the digest of the ledger after them.
+fn begun_of(
     alloc: Global,
-    journal: Journal,
-    block: &Block,
-) -> Result<Vec<u8>, AllocError>
-    ensures { IfOk result (λ bytes. bytes.items ≡ block_bytes block.now) }
+    journal: &Journal,
+    base: &SharedBase,
+    header: &Header,
+) -> Result<(Vec<Entry>, Front), AllocError>
+    ensures { IfOk result
+        (λ begun. AreBegun journal.now base.now header.now (begun.0.items, begun.1)) }
 {
-    let (_freed, bytes) = join(
-        rt,
-        move || free_journal(journal),
-        || -> Result<Vec<u8>, AllocError>
-            ensures { IfOk result (λ bytes. bytes.items ≡ block_bytes block.entry.now) }
-        { encode(alloc, block) },
-    );
-    bytes
+    let entries = journal.block_entries(alloc)?;
+    let front = Front::of(alloc, base.digest(), header, entries.as_slice())?;
+    Ok((entries, front))
 }
 
 /// What is to be freed: nothing, where the process ends, which takes all memory back.
@@ -123,5 +151,3 @@ fn to_free<T: Drop, const ENDS: bool>(value: T) -> Option<T> {
 }
 
 fn free_shards(_shards: Option<Vec<ShardLock>>) {}
-
-fn free_journal(_journal: Journal) {}
