@@ -46,6 +46,10 @@ abbrev pub calls_on_lines : ℕ → List DigitLine → Result (List CallData) Re
 calls_on_lines number [] = Ok []
 calls_on_lines number (line ∷ more) = call_on_line number line >>= λ call. calls_on_lines (number + 1) more >>= λ calls. Ok (call ∷ calls)
 
+-- what stands behind the ledger: the header, and the calls of all other lines
+abbrev pub header_and_calls : List DigitLine → Result (Header × List CallData) Refusal
+header_and_calls lines = first_header lines >>= λ h. calls_on_lines 1 h.1 >>= λ calls. Ok (h.0, calls)
+
 -- the first refusal in the order of the lines, or what they are
 abbrev pub propose_input : List DigitLine → Result ProposeInput Refusal
 propose_input lines =

@@ -3,18 +3,21 @@
 ghost use Rattle.std.specs.Prelude.{◌≡◌, IfOk};
 ghost use Rattle.teal_value.specs.Answer.{Gives};
 ghost use Rattle.avm_ledger.specs.declared.header.Profile.TheVariants.{Three};
-ghost use Rattle.avm_input.specs.DigitLines.{DigitLine, digit_lines};
-ghost use Rattle.avm_node.specs.ProposeInputs.{first_header, header_of, propose_input};
+ghost use Rattle.avm_ledger.specs.LedgerReader.{ledger_at};
+ghost use Rattle.avm_input.specs.BlockLines.{on_ledger};
+ghost use Rattle.avm_input.specs.DigitLines.{digit_lines};
+ghost use Rattle.avm_input.specs.Lines.{lines_shown};
+ghost use Rattle.avm_node.specs.ProposeInputs.{header_and_calls, header_of, propose_input};
 ghost use Rattle.avm_node.specs.ProposeShown.{input_shown};
 
 use crate::call_lines::calls_of;
 use avm_block::header_codec::header_of as header_in;
 use avm_call::Call;
-use avm_input::{DigitLines, Refusal, needed_bytes, next_base};
+use avm_input::{DigitLines, NumberedLine, Refusal, line_bytes, needed_bytes};
 use avm_ledger::{Fields, Header, Profile};
 use avm_replay::Base;
 use std::alloc::Global;
-use std::thread::Threads;
+use std::thread::{Threads, join};
 use teal_value::Failure;
 
 /// What calls are to be made of, on which ledger and by which header.
@@ -25,7 +28,11 @@ pub struct ProposeInput {
     pub calls: Vec<Call>,
 }
 
-/// What the lines are, or the first refusal in their order. The calls are read for so many workers.
+/// A header and calls, or the first refusal of a line.
+type HeaderAndCalls = Result<(Header, Vec<Call>), Failure<Refusal>>;
+
+/// What the lines are, or the first refusal in their order. The calls are read for so many workers, and where there are
+/// several, while another thread reads the ledger.
 pub fn propose_input<R: Threads + Sync>(
     rt: &R,
     alloc: Global,
@@ -36,10 +43,18 @@ pub fn propose_input<R: Threads + Sync>(
     ensures profile { IfOk result (λ read. read.header.profile ≡ Three) }
 {
     let mut lines = DigitLines::new(input.as_slice());
-    let base = next_base(alloc, &mut lines)?;
-    let header = next_header(alloc, &mut lines)?;
+    let bytes = needed_bytes(alloc, &mut lines)?;
     let lines = lines.into_lines(alloc)?;
-    let calls = calls_of(rt, alloc, workers, lines.as_slice())?;
+    let (base, behind) = if workers < 2 {
+        (
+            base_of(alloc, bytes.as_slice()),
+            header_and_calls(rt, alloc, workers, lines.as_slice()),
+        )
+    } else {
+        side_by_side(rt, alloc, workers, bytes.as_slice(), lines.as_slice())
+    };
+    let base = base?;
+    let (header, calls) = behind?;
     Ok(ProposeInput {
         base,
         header,
@@ -47,12 +62,57 @@ pub fn propose_input<R: Threads + Sync>(
     })
 }
 
-fn next_header(alloc: Global, lines: &mut DigitLines) -> Result<Header, Failure<Refusal>>
-    ensures exact { Gives (λ header. (header, lines.new)) result (first_header lines.old) }
-    ensures profile { IfOk result (λ header. header.profile ≡ Three) }
+/// The ledger that the bytes are, and what the lines behind it are, each read by a thread.
+fn side_by_side<R: Threads + Sync>(
+    rt: &R,
+    alloc: Global,
+    workers: usize,
+    bytes: &[u8],
+    lines: &[NumberedLine<'_>],
+) -> (Result<Base, Failure<Refusal>>, HeaderAndCalls)
+    ensures base { Gives (λ base. base) result.0 (on_ledger (ledger_at bytes.now)) }
+    ensures behind { Gives (λ read. (read.0, read.1.items)) result.1
+        (header_and_calls (lines_shown lines.now)) }
+    ensures profile { IfOk result.1 (λ read. read.0.profile ≡ Three) }
 {
-    let bytes = needed_bytes(alloc, lines)?;
-    header_of(bytes.as_slice())
+    join(
+        rt,
+        || -> Result<Base, Failure<Refusal>>
+            ensures { Gives (λ base. base) result (on_ledger (ledger_at bytes.entry.now)) }
+        { base_of(alloc, bytes) },
+        || -> HeaderAndCalls
+            ensures { Gives (λ read. (read.0, read.1.items)) result
+                (header_and_calls (lines_shown lines.entry.now))
+                × IfOk result (λ read. read.0.profile ≡ Three) }
+        { header_and_calls(rt, alloc, workers, lines) },
+    )
+}
+
+/// The ledger that the bytes are, with its digest.
+fn base_of(alloc: Global, bytes: &[u8]) -> Result<Base, Failure<Refusal>>
+    ensures { Gives (λ base. base) result (on_ledger (ledger_at bytes.now)) }
+{
+    Base::read(alloc, bytes).map_err(|failure| failure.map(Refusal::Ledger))
+}
+
+/// The header on the first of these lines, and the calls on the others.
+fn header_and_calls<R: Threads + Sync>(
+    rt: &R,
+    alloc: Global,
+    workers: usize,
+    lines: &[NumberedLine<'_>],
+) -> HeaderAndCalls
+    ensures exact { Gives (λ read. (read.0, read.1.items)) result
+        (header_and_calls (lines_shown lines.now)) }
+    ensures profile { IfOk result (λ read. read.0.profile ≡ Three) }
+{
+    let Some((first, rest)) = lines.split_first() else {
+        return Err(Failure::Fault(Refusal::Lines));
+    };
+    let bytes = line_bytes(alloc, first.0, first.1)?;
+    let header = header_of(bytes.as_slice())?;
+    let calls = calls_of(rt, alloc, workers, rest)?;
+    Ok((header, calls))
 }
 
 /// The header that the bytes are, of a block that may have calls of all versions.
