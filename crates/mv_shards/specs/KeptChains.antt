@@ -1,5 +1,5 @@
 -- The chains of a map as they are kept, and what each change of them leaves.
-use Rattle.std.specs.Prelude.{◌≡◌, ◌≢◌, ℕ, suc, ◌<◌, ◌≤◌, ◌==◌, ◌&&◌, Bool, true, false, if◌then◌else◌, List, [], ◌∷◌, Option, None, Some, option_map}
+use Rattle.std.specs.Prelude.{◌≡◌, ◌≢◌, ℕ, zero, suc, ◌<◌, ◌≤◌, ◌==◌, ◌&&◌, Bool, true, false, if◌then◌else◌, List, [], ◌∷◌, Option, None, Some, option_map}
 use Rattle.std.specs.Ordering.{is_eq}
 use Rattle.std.specs.List.{AllByRecursion}
 use Rattle.std.specs.Map.{lookup}
@@ -9,6 +9,7 @@ use Rattle.avm_items.specs.Items.{item_cmp}
 use Rattle.mv_chain.specs.declared.chain.Version.{Version}
 use Rattle.mv_chain.specs.Versions.{Versions, IsChain, oldest_timestamp, versions_read_at, versions_with}
 use Rattle.mv_shards.specs.Chains.{VersionLists, first_version, with_versions}
+use Rattle.mv_shards.specs.NumberMaps.{NotedNumbers, number_by_item, number_by_mix}
 
 -- in the order in which they were made: a chain's number is its index, from 0
 abbrev pub ChainMap : Type 0 → Type 0
@@ -27,10 +28,21 @@ abbrev pub AreOnce : {V : Type 0} → ChainMap V → Type 0
 AreOnce [] = Unit {0}
 AreOnce (c ∷ cs) = (chain_in cs c.0 ≡ None) × AreOnce cs
 
+-- whether the chain of a number, if there is one, is an item's
+abbrev pub is_of : {V : Type 0} → ChainMap V → ℕ → Item → Bool
+is_of [] n x = false
+is_of (c ∷ cs) zero x = is_eq (item_cmp x c.0)
+is_of (c ∷ cs) (suc n) x = is_of cs n x
+
+-- the number that an item's mix leads to, if it is the item's, and else the one found by the item
+abbrev pub number_of : {V : Type 0} → ChainMap V → Item → Option ℕ → Option ℕ → Option ℕ
+number_of map x None own = own
+number_of map x (Some n) own = if is_of map n x then Some n else own
+
 -- the numbers that are noted are those of the chains
-pub record AreNumbered {V : Type 0} (numbers : List (Item × ℕ)) (map : ChainMap V) : Type 0 where
+pub record AreNumbered {V : Type 0} (noted : NotedNumbers) (map : ChainMap V) : Type 0 where
   pub once : AreOnce map
-  pub noted : (x : Item) → lookup (is_at (item_cmp x)) numbers ≡ number_in map x
+  pub found : (x : Item) → number_of map x (number_by_mix noted x) (number_by_item noted x) ≡ number_in map x
 
 abbrev pub list_or : {V : Type 0} → V → Option (Versions V) → List (Version V)
 list_or first None = first_version first

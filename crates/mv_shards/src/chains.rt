@@ -6,20 +6,20 @@ ghost use Rattle.std.specs.Ordering.{is_eq};
 ghost use Rattle.avm_items.specs.Items.{item_cmp};
 ghost use Rattle.avm_items.specs.LedgerItems.{at};
 ghost use Rattle.mv_chain.specs.Versions.{versions_from};
+ghost use Rattle.mv_shards.specs.KeptChains.{is_of};
 
+use crate::number_maps::Numbers;
 use crate::slot::{SLOT_COUNT, slot_of};
 use avm_items::{Item, ItemValue, item_of};
 use avm_ledger::Ledger;
 use mv_chain::Chain;
 use std::alloc::{AllocError, Global};
-use std::collections::BTreeMap;
-use std::collections::btree_map::Entry;
 use std::marker::Model;
 
 /// The chains of some items, in the order in which they were made. A chain's number is its index there, and stays.
 #[derive(Drop)]
 pub(crate) struct Chains {
-    numbers: BTreeMap<Item, usize>,
+    numbers: Numbers,
     list: Vec<(Item, Chain<ItemValue>)>,
     /// For each slot the number of the item that was asked for last, so that most items are found without a look into the
     /// map. Nothing rests on it: whether the chain of the number is the item's is asked each time.
@@ -34,7 +34,7 @@ impl Model for Chains {
 
     ghost view = { λ c. c.list.items };
 
-    ghost invariant = { λ c. AreNumbered c.numbers.entries c.list.items };
+    ghost invariant = { λ c. AreNumbered c.numbers c.list.items };
 }
 
 impl Chains {
@@ -45,7 +45,7 @@ impl Chains {
         ensures { result ≡ [] }
     {
         Chains {
-            numbers: BTreeMap::new(alloc),
+            numbers: Numbers::new(alloc),
             list: Vec::new(alloc),
             recent: Vec::new(alloc),
         }
@@ -66,7 +66,7 @@ impl Chains {
         ensures { IfSome result (λ number. number_in self.now item.now ≡ Some number) }
     {
         let number = noted_in(&self.recent, item);
-        if number < self.list.len() && is_item(item, &self.list[number].0) {
+        if has_item(&self.list, number, item) {
             Some(number)
         } else {
             None
@@ -77,9 +77,9 @@ impl Chains {
     fn number_of(&self, item: &Item) -> Option<usize>
         ensures { result ≡ number_in self.now item.now }
     {
-        match self.numbers.get(item) {
-            Some(number) => Some(*number),
-            None => None,
+        match self.numbers.by_mix(item) {
+            Some(number) if has_item(&self.list, number, item) => Some(number),
+            _ => self.numbers.by_item(item),
         }
     }
 
@@ -131,23 +131,35 @@ impl Chains {
         ensures roomier { OnOk result (IsRoomier self.old self.new) }
         ensures number { IfOk result (λ number. number_in self.new item.now ≡ Some number) }
     {
-        match self.numbers.entry(item.copied())? {
-            Entry::Occupied(entry) => {
-                let number = *entry.get();
+        match self.number_of(item) {
+            Some(number) => {
                 note(&mut self.recent, item, number);
                 Ok(number)
             }
-            Entry::Vacant(entry) => {
-                let chain = Chain::new(alloc, item_of(base, item)?)?;
-                make_slots(alloc, &mut self.recent)?;
-                self.list.reserve(1)?;
-                let number = self.list.len();
-                entry.insert(number);
-                self.list.push_reserved((item.copied(), chain));
-                note(&mut self.recent, item, number);
-                Ok(number)
-            }
+            None => self.make(alloc, base, item),
         }
+    }
+
+    /// Makes a chain for an item that has none, of what it is in a ledger.
+    fn make(
+        &mut self,
+        alloc: Global,
+        base: &Ledger,
+        item: &Item,
+    ) -> Result<usize, AllocError>
+        requires { number_in self.old item.now ≡ None }
+        ensures grown { IsGrown (at base.now) self.old self.new }
+        ensures roomier { OnOk result (IsRoomier self.old self.new) }
+        ensures number { IfOk result (λ number. number_in self.new item.now ≡ Some number) }
+    {
+        let chain = Chain::new(alloc, item_of(base, item)?)?;
+        make_slots(alloc, &mut self.recent)?;
+        self.list.reserve(1)?;
+        let number = self.list.len();
+        self.numbers.add(item, number)?;
+        self.list.push_reserved((item.copied(), chain));
+        note(&mut self.recent, item, number);
+        Ok(number)
     }
 
     /// Makes room in the chain of a number for one more version.
@@ -221,6 +233,13 @@ fn note(recent: &mut [usize], item: &Item, number: usize) {
     if let Some(slot) = recent.get_mut(slot_of(item)) {
         *slot = number;
     }
+}
+
+/// Whether the chain of a number, if there is one, is an item's.
+fn has_item(list: &[(Item, Chain<ItemValue>)], number: usize, item: &Item) -> bool
+    ensures { result ≡ is_of list.now number item.now }
+{
+    number < list.len() && is_item(item, &list[number].0)
 }
 
 /// Whether two items are the same.

@@ -1,9 +1,8 @@
-use Rattle.std.proofs.Common.{◌∙◌, ◌<◌, length, sym, ap, arith}
-use Rattle.mv_shards.proofs.Numbers.{number_at, tied_to}
+use Rattle.std.proofs.Common.{◌∙◌, ap, sym}
+use Rattle.mv_shards.specs.KeptChains.{is_of}
+use Rattle.mv_shards.proofs.NotedNumbers.{of_numbered}
 use Rattle.mv_shards.proofs.chains.Chains.noted.Goals as goal
 
-pub returns-then-is_item : goal.returns-then-is_item
-returns-then-is_item c =
-    let here = tied_to c.args.item.now c.index.result.now.0 (sym c.if-is_item.ensures) in
-    let within : c.noted_in-number.result < length c.self.inside.list.items = omega (arith, c.if-number-len.true, c.len.ensures) in
-    rw (← c.self.view_is) (number_at c.self.inside.list.items c.args.item.now c.noted_in-number.result c.index.result.now c.self.invariant.once within (ap (λ p. p.0) (sym c.index.ensures) ∙ sym here))
+pub returns-then-has_item : goal.returns-then-has_item
+returns-then-has_item c =
+    rw (← c.self.view_is) (of_numbered c.self.inside.list.items c.noted_in-number.result c.args.item.now c.self.invariant.once (ap (λ m. is_of m c.noted_in-number.result c.args.item.now) (sym c.deref-2.ensures.value) ∙ sym c.has_item.ensures ∙ c.if-has_item.true))
