@@ -13,7 +13,7 @@ const LATE: Late = Late {
 // are added at 5 and at 4, and those that none at 4 or above can find are dropped.
 #[test]
 fn each_call_of_a_chain(rt: HostRuntime) -> Result<(), Fail> {
-    let mut chain = Chain::new(rt.alloc(), 10u64)?;
+    let mut chain = Chain::new(rt.alloc(), 10u64);
     assert!(rt; chain.oldest() == 0 && chain.count() == 1 && *chain.read_at(1) == 10);
     chain.mark(1);
     chain.mark(2);

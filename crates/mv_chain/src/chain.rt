@@ -4,16 +4,14 @@
 //!
 //! A call at the newest version takes constant time, as most do; another finds its index by bisection.
 
-ghost use Rattle.std.specs.Prelude.{◌≡◌, ℕ, ◌+◌, ◌-◌, ◌<◌, ◌≤◌, ◌≢◌, max, List, [], ◌∷◌, length, drop, set, insert, IfOk, OnOk, OnErr, IsOk, vec_len, vec_capacity};
+ghost use Rattle.std.specs.Prelude.{◌≡◌, ◌==◌, if◌then◌else◌, ◌+◌, ◌-◌, ◌<◌, ◌≤◌, ◌≢◌, max, [], ◌∷◌, ◌++◌, drop, length, OnOk, OnErr, IsOk, vec_len, vec_capacity};
 ghost use Rattle.std.specs.List.{AllByRecursion};
-ghost use Rattle.mv_chain.specs.Versions.{count_not_above, IsChain, oldest_timestamp, newest_at, mark_in, versions_read_at, lateness, versions_with, versions_from};
+ghost use Rattle.mv_chain.specs.Versions.{count_not_above, IsChain, IsRow, marked_at_index, oldest_timestamp, newest_at, mark_in, versions_read_at, lateness, versions_with, versions_from};
 ghost use Rattle.mv_chain.specs.Laws.{EveryReadFindsTheNewest, EveryReadMarksItsVersionAlone, EveryInstallIsFound, EveryPruneKeepsReads, EveryMarkIsOfItsVersion, EveryReadRaisesOneMark, EveryInstallKeepsMarks, EveryPruneKeepsMarks};
 
 use std::alloc::{AllocError, Global};
 use std::marker::Model;
-
-/// Room for the versions of an item that is written once, with the base's.
-const FIRST_ROOM: usize = 2;
+use std::mem;
 
 /// A version of an item.
 #[derive(Drop)]
@@ -34,139 +32,77 @@ pub struct Late {
     pub mark: u64,
 }
 
-/// The versions of one item, by rising timestamp: one at least, each with its read timestamp (its mark).
+/// The versions of one item, by rising timestamp: one at least, each with its read timestamp (its mark). The newest, which most
+/// calls ask for, lies in the chain itself, so that an item that is never written takes no memory of its own.
 #[derive(Drop)]
 pub struct Chain<V> {
-    versions: Vec<Version<V>>,
+    older: Vec<Version<V>>,
+    newest: Version<V>,
 }
 
 impl<V> Model for Chain<V> {
-    ghost use Rattle.std.specs.Prelude.{vec_len, vec_capacity, ◌-◌};
+    ghost use Rattle.std.specs.Prelude.{vec_len, vec_capacity, ◌-◌, ◌++◌, ◌∷◌, []};
     ghost use Rattle.mv_chain.specs.Versions.{Versions, IsChain};
 
     ghost Value = { Versions V };
 
-    ghost view = { λ c. record { list = c.versions.items; room = vec_capacity c.versions - vec_len c.versions } };
+    ghost view = { λ c. record { list = c.older.items ++ c.newest ∷ []; room = vec_capacity c.older - vec_len c.older } };
 
-    ghost invariant = { λ c. IsChain c.versions.items };
+    ghost invariant = { λ c. IsChain (c.older.items ++ c.newest ∷ []) };
 }
 
-// How many versions are not above a timestamp.
+// How many versions are not above a timestamp, by bisection.
 fn count_to<V>(versions: &[Version<V>], timestamp: u64) -> usize
-    requires { IsChain versions.now }
-    ensures count { result ≡ count_not_above timestamp versions.now }
-    ensures within { result ≤ length versions.now }
-{
-    let len = versions.len();
-    if versions[len - 1].timestamp <= timestamp {
-        len
-    } else {
-        bisect(versions, timestamp)
-    }
-}
-
-// The same by bisection.
-fn bisect<V>(versions: &[Version<V>], timestamp: u64) -> usize
-    requires { IsChain versions.now }
+    requires { IsRow versions.now }
     ensures count { result ≡ count_not_above timestamp versions.now }
     ensures within { result ≤ length versions.now }
 {
     versions.partition_point(|version| version.timestamp <= timestamp)
 }
 
-// The index of the newest version not above a timestamp.
-fn newest_index<V>(versions: &[Version<V>], timestamp: u64) -> usize
-    requires chain { IsChain versions.now }
-    requires old_enough { oldest_timestamp versions.now ≤ timestamp }
-    ensures index { result ≡ count_not_above timestamp versions.now - 1 }
-    ensures within { result < length versions.now }
+// Raises a mark to a timestamp.
+fn raise(mark: &mut u64, timestamp: u64)
+    ensures { mark.new ≡ max mark.old timestamp }
 {
-    count_to(versions, timestamp) - 1
-}
-
-// The newest version not above a timestamp.
-fn newest<V>(versions: &[Version<V>], timestamp: u64) -> &Version<V>
-    requires chain { IsChain versions.now }
-    requires old_enough { oldest_timestamp versions.now ≤ timestamp }
-    ensures { (d : _) → result.now ≡ newest_at timestamp versions.now d }
-{
-    let index = newest_index(versions, timestamp);
-    &versions[index]
-}
-
-// The mark of the version with a timestamp, or 0.
-fn mark_at<V>(versions: &[Version<V>], timestamp: u64) -> u64
-    requires { IsChain versions.now }
-    ensures { result ≡ mark_in timestamp versions.now }
-{
-    let count = count_to(versions, timestamp);
-    if count == 0 {
-        return 0;
-    }
-    let version = &versions[count - 1];
-    if version.timestamp == timestamp {
-        version.mark
-    } else {
-        0
+    if *mark < timestamp {
+        *mark = timestamp;
     }
 }
 
-// Raises the mark of the newest version not above a timestamp.
-fn mark_newest<V>(versions: &mut Vec<Version<V>>, timestamp: u64)
-    requires chain { IsChain versions.old.items }
-    requires old_enough { oldest_timestamp versions.old.items ≤ timestamp }
-    ensures items { versions.new.items ≡ versions_read_at timestamp versions.old.items }
-    ensures chain { IsChain versions.new.items }
-    ensures room { vec_capacity versions.new
-        - vec_len versions.new ≡ vec_capacity versions.old - vec_len versions.old }
+// Raises the mark of the newest of these versions that is not above a timestamp.
+fn mark_older<V>(older: &mut Vec<Version<V>>, timestamp: u64)
+    requires row { IsRow older.old.items }
+    requires some { 0 < count_not_above timestamp older.old.items }
+    ensures items { older.new.items
+        ≡ marked_at_index (count_not_above timestamp older.old.items - 1) timestamp older.old.items }
+    ensures room { vec_capacity older.new
+        - vec_len older.new ≡ vec_capacity older.old - vec_len older.old }
 {
-    let index = newest_index(versions, timestamp);
-    let version = &mut versions[index];
-    if version.mark < timestamp {
-        version.mark = timestamp;
-    }
+    let index = count_to(older, timestamp) - 1;
+    raise(&mut older[index].mark, timestamp);
 }
 
-// Adds a version at its index.
-fn insert_version<V: Drop>(
-    versions: &mut Vec<Version<V>>,
-    timestamp: u64,
-    value: V,
+// Puts a version behind the newest.
+fn follow<V: Drop>(
+    older: &mut Vec<Version<V>>,
+    newest: &mut Version<V>,
+    version: Version<V>,
 ) -> Result<(), AllocError>
-    requires chain { IsChain versions.old.items }
-    requires old_enough { oldest_timestamp versions.old.items ≤ timestamp }
-    requires absent { AllByRecursion (λ version. version.timestamp ≢ timestamp) versions.old.items }
-    ensures ok { OnOk result
-        (versions.new.items ≡ versions_with timestamp value versions.old.items) }
-    ensures err { OnErr result (versions.new.items ≡ versions.old.items) }
-    ensures chain { IsChain versions.new.items }
-    ensures succeeds { 0 < vec_capacity versions.old - vec_len versions.old → IsOk result }
-    ensures room { 0 < vec_capacity versions.old - vec_len versions.old → vec_capacity versions.new
-        - vec_len versions.new + 1 ≡ vec_capacity versions.old - vec_len versions.old }
+    ensures ok { OnOk result (older.new.items ++ newest.new ∷ []
+        ≡ (older.old.items ++ newest.old ∷ []) ++ version ∷ []) }
+    ensures err { OnErr result
+        (older.new.items ++ newest.new ∷ [] ≡ older.old.items ++ newest.old ∷ []) }
+    ensures succeeds { 0 < vec_capacity older.old - vec_len older.old → IsOk result }
+    ensures room { 0 < vec_capacity older.old - vec_len older.old → vec_capacity older.new
+        - vec_len older.new + 1 ≡ vec_capacity older.old - vec_len older.old }
 {
-    let index = count_to(versions, timestamp);
-    versions.insert(
-        index,
-        Version {
-            timestamp,
-            mark: 0,
-            value,
-        },
-    )?;
-    Ok(())
-}
-
-// Drops the versions below the newest one not above a timestamp.
-fn drop_older<V: Drop>(versions: &mut Vec<Version<V>>, timestamp: u64)
-    requires { IsChain versions.old.items }
-    ensures items { versions.new.items ≡ versions_from timestamp versions.old.items }
-    ensures chain { IsChain versions.new.items }
-    ensures room { vec_capacity versions.old
-        - vec_len versions.old ≤ vec_capacity versions.new - vec_len versions.new }
-{
-    let index = count_to(versions, timestamp);
-    if index > 1 {
-        drop_front(versions, index - 1);
+    let before = mem::replace(newest, version);
+    match older.insert(older.len(), before) {
+        Ok(()) => Ok(()),
+        Err(refused) => {
+            *newest = refused.value;
+            Err(AllocError)
+        }
     }
 }
 
@@ -181,21 +117,18 @@ fn drop_front<V: Drop>(versions: &mut Vec<Version<V>>, count: usize)
 }
 
 impl<V> Chain<V> {
-    /// The base's version alone.
-    pub fn new(alloc: Global, base: V) -> Result<Chain<V>, AllocError>
-    where
-        V: Drop,
-        ensures { IfOk result
-            (λ chain. chain.list ≡ record { timestamp = 0; mark = 0; value = base } ∷ []) }
+    /// The base's version alone. It takes no memory.
+    pub fn new(alloc: Global, base: V) -> Chain<V>
+        ensures { result.list ≡ record { timestamp = 0; mark = 0; value = base } ∷ [] }
     {
-        // Most items are written once or never, and all chains stay to the end of the block.
-        let mut versions = Vec::with_capacity(alloc, FIRST_ROOM)?;
-        versions.push(Version {
-            timestamp: 0,
-            mark: 0,
-            value: base,
-        })?;
-        Ok(Chain { versions })
+        Chain {
+            older: Vec::new(alloc),
+            newest: Version {
+                timestamp: 0,
+                mark: 0,
+                value: base,
+            },
+        }
     }
 
     /// The timestamp of the oldest version, below which nothing is asked for any more.
@@ -203,7 +136,10 @@ impl<V> Chain<V> {
         ensures oldest { result ≡ oldest_timestamp self.now.list }
         ensures chain { IsChain self.now.list }
     {
-        self.versions[0].timestamp
+        match self.older.first() {
+            Some(version) => version.timestamp,
+            None => self.newest.timestamp,
+        }
     }
 
     /// How many versions are held.
@@ -211,7 +147,19 @@ impl<V> Chain<V> {
         ensures count { result ≡ length self.now.list }
         ensures chain { IsChain self.now.list }
     {
-        self.versions.len()
+        self.older.len() + 1
+    }
+
+    /// The newest version not above a timestamp.
+    fn newest_to(&self, timestamp: u64) -> &Version<V>
+        requires { oldest_timestamp self.now.list ≤ timestamp }
+        ensures { (d : _) → result.now ≡ newest_at timestamp self.now.list d }
+    {
+        if self.newest.timestamp <= timestamp {
+            return &self.newest;
+        }
+        let count = count_to(&self.older, timestamp);
+        &self.older[count - 1]
     }
 
     /// The value of the newest version not above a timestamp.
@@ -219,7 +167,7 @@ impl<V> Chain<V> {
         requires { oldest_timestamp self.now.list ≤ timestamp }
         ensures { (d : _) → result.now ≡ (newest_at timestamp self.now.list d).value }
     {
-        &newest(&self.versions, timestamp).value
+        &self.newest_to(timestamp).value
     }
 
     /// The timestamp of the newest version not above a timestamp.
@@ -227,14 +175,21 @@ impl<V> Chain<V> {
         requires { oldest_timestamp self.now.list ≤ timestamp }
         ensures { (d : _) → result ≡ (newest_at timestamp self.now.list d).timestamp }
     {
-        newest(&self.versions, timestamp).timestamp
+        self.newest_to(timestamp).timestamp
     }
 
     /// The mark of the version with this timestamp; 0 also where none with it is held.
     pub fn mark_of(&self, timestamp: u64) -> u64
         ensures { result ≡ mark_in timestamp self.now.list }
     {
-        mark_at(&self.versions, timestamp)
+        if self.newest.timestamp <= timestamp {
+            return mark_at(&self.newest, timestamp);
+        }
+        let count = count_to(&self.older, timestamp);
+        if count == 0 {
+            return 0;
+        }
+        mark_at(&self.older[count - 1], timestamp)
     }
 
     /// Notes that the newest version not above a timestamp was read at it.
@@ -244,7 +199,11 @@ impl<V> Chain<V> {
         ensures chain { IsChain self.new.list }
         ensures room { self.new.room ≡ self.old.room }
     {
-        mark_newest(&mut self.versions, timestamp);
+        if self.newest.timestamp <= timestamp {
+            raise(&mut self.newest.mark, timestamp);
+        } else {
+            mark_older(&mut self.older, timestamp);
+        }
     }
 
     /// Whether a write at a timestamp is late.
@@ -252,7 +211,7 @@ impl<V> Chain<V> {
         requires { oldest_timestamp self.now.list ≤ timestamp }
         ensures { (d : _) → result ≡ lateness timestamp (newest_at timestamp self.now.list d) }
     {
-        let version = newest(&self.versions, timestamp);
+        let version = self.newest_to(timestamp);
         if timestamp < version.mark {
             Some(Late {
                 version: version.timestamp,
@@ -270,7 +229,12 @@ impl<V> Chain<V> {
         ensures ok { OnOk result (0 < self.new.room) }
         ensures succeeds { 0 < self.old.room → IsOk result }
     {
-        self.versions.reserve(1)
+        // Most items are written once or never.
+        if self.older.is_empty() {
+            self.older.reserve_exact(1)
+        } else {
+            self.older.reserve(1)
+        }
     }
 
     /// Adds a version, which nothing has read yet. It is refused only where there is no room for it; the value is
@@ -286,7 +250,18 @@ impl<V> Chain<V> {
         ensures succeeds { 0 < self.old.room → IsOk result }
         ensures room { 0 < self.old.room → self.new.room + 1 ≡ self.old.room }
     {
-        insert_version(&mut self.versions, timestamp, value)
+        let version = Version {
+            timestamp,
+            mark: 0,
+            value,
+        };
+        if self.newest.timestamp < timestamp {
+            follow(&mut self.older, &mut self.newest, version)
+        } else {
+            let index = count_to(&self.older, timestamp);
+            self.older.insert(index, version)?;
+            Ok(())
+        }
     }
 
     /// Drops the versions that no reader at this timestamp or above it can find.
@@ -297,7 +272,25 @@ impl<V> Chain<V> {
         ensures chain { IsChain self.new.list }
         ensures room { self.old.room ≤ self.new.room }
     {
-        drop_older(&mut self.versions, timestamp);
+        if self.newest.timestamp <= timestamp {
+            self.older.clear();
+            return;
+        }
+        let count = count_to(&self.older, timestamp);
+        if count > 1 {
+            drop_front(&mut self.older, count - 1);
+        }
+    }
+}
+
+/// The mark of a version, if it has this timestamp, and else 0.
+fn mark_at<V>(version: &Version<V>, timestamp: u64) -> u64
+    ensures { result ≡ (if version.now.timestamp == timestamp then version.now.mark else 0) }
+{
+    if version.timestamp == timestamp {
+        version.mark
+    } else {
+        0
     }
 }
 

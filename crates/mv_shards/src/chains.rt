@@ -141,18 +141,13 @@ impl Chains {
     }
 
     /// Makes a chain for an item that has none, of what it is in a ledger.
-    fn make(
-        &mut self,
-        alloc: Global,
-        base: &Ledger,
-        item: &Item,
-    ) -> Result<usize, AllocError>
+    fn make(&mut self, alloc: Global, base: &Ledger, item: &Item) -> Result<usize, AllocError>
         requires { number_in self.old item.now ≡ None }
         ensures grown { IsGrown (at base.now) self.old self.new }
         ensures roomier { OnOk result (IsRoomier self.old self.new) }
         ensures number { IfOk result (λ number. number_in self.new item.now ≡ Some number) }
     {
-        let chain = Chain::new(alloc, item_of(base, item)?)?;
+        let chain = Chain::new(alloc, item_of(base, item)?);
         make_slots(alloc, &mut self.recent)?;
         self.list.reserve(1)?;
         let number = self.list.len();

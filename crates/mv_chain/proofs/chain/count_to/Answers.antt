@@ -1,8 +1,10 @@
-use Rattle.std.proofs.Common.{◌-◌, length, arith}
-use Rattle.mv_chain.proofs.Indexes.{count_not_above-all, chain-length}
+use Rattle.std.proofs.Common.{leb, rules}
+use Rattle.std.proofs.lemmas.List.Sorted.{IsPartitionPoint-from_clause, IsPartitionedBy-leb}
+use Rattle.mv_chain.proofs.Indexes.{count_not_above-partition, row-non_decreasing}
 use Rattle.mv_chain.proofs.chain.count_to.Goals as goal
 
-pub returns-then-versions-len-clause-count : goal.returns-then-versions-len-clause-count
-returns-then-versions-len-clause-count g c =
-    count_not_above-all c.args.timestamp (length c.args.versions.now - 1) c.args.versions.now c.index-versions-len.result c.requires
-    (omega (arith, chain-length c.args.versions.now c.requires)) c.if-versions-len.true
+pub returns-clause-count : goal.returns-clause-count
+returns-clause-count g c =
+    let partitioned = IsPartitionedBy-leb (λ version. version.timestamp) _ c.args.timestamp (row-non_decreasing c.args.versions.now c.requires) in
+    count_not_above-partition c.args.timestamp c.partition_point.result c.args.versions.now c.partition_point.ensures.bound
+    (IsPartitionPoint-from_clause (λ version. leb version.timestamp c.args.timestamp) _ _ c.partition_point.ensures.partitioned partitioned (λ a r q k. search rules))

@@ -15,10 +15,10 @@ none c = none_numbered c.self.inside.list.items c.args.item.now (ap (λ m. numbe
 count : (c : After-self-1) → c.len-number.result ≡ length c.self.inside.list.items
 count c = omega (arith, c.len-number.ensures, c.reserve.ensures.len)
 
-pushed : (c : After-self-1) → c.push_reserved.new.self.items ≡ c.self.inside.list.items ++ (c.args.item.now, c.in_ok-chain.chain) ∷ []
+pushed : (c : After-self-1) → c.push_reserved.new.self.items ≡ c.self.inside.list.items ++ (c.args.item.now, c.new-chain.result) ∷ []
 pushed c =
-    c.push_reserved.ensures.items ∙ ap (λ m. m ++ (c.copied.result, c.in_ok-chain.chain) ∷ []) c.reserve.ensures.items
-    ∙ ap (λ (y : Item). c.self.inside.list.items ++ (y, c.in_ok-chain.chain) ∷ []) c.copied.ensures
+    c.push_reserved.ensures.items ∙ ap (λ m. m ++ (c.copied.result, c.new-chain.result) ∷ []) c.reserve.ensures.items
+    ∙ ap (λ (y : Item). c.self.inside.list.items ++ (y, c.new-chain.result) ∷ []) c.copied.ensures
 
 noted : (c : After-self-1) → c.add.new.self ≡ with_number c.self.inside.numbers c.args.item.now (length c.self.inside.list.items)
 noted c = c.in_ok-add.ensures.ok ∙ ap (with_number c.self.inside.numbers c.args.item.now) (count c)
@@ -26,16 +26,16 @@ noted c = c.in_ok-add.ensures.ok ∙ ap (with_number c.self.inside.numbers c.arg
 pub invariant_of-self-2 : goal.invariant_of-self-2
 invariant_of-self-2 c =
     subst (AreNumbered c.add.new.self) (sym (pushed c))
-    (subst (λ ns. AreNumbered ns (c.self.inside.list.items ++ (c.args.item.now, c.in_ok-chain.chain) ∷ [])) (sym (noted c))
-    (numbered_more c.self.inside.numbers c.self.inside.list.items c.args.item.now c.in_ok-chain.chain (none c) c.self.invariant))
+    (subst (λ ns. AreNumbered ns (c.self.inside.list.items ++ (c.args.item.now, c.new-chain.result) ∷ [])) (sym (noted c))
+    (numbered_more c.self.inside.numbers c.self.inside.list.items c.args.item.now c.new-chain.result (none c) c.self.invariant))
 
 pub returns-clause-grown : goal.returns-clause-grown
 returns-clause-grown c =
     rw (← c.self.view_is)
-    (made_grown (at c.args.base.now) c.self.inside.list.items _ c.args.item.now c.in_ok-chain.chain (invariant_of-self-2 c).once (none c) (c.in_ok-chain.ensures ∙ ap (λ v. record { timestamp = 0; mark = 0; value = v } ∷ []) c.in_ok-item_of.ensures) (pushed c))
+    (made_grown (at c.args.base.now) c.self.inside.list.items _ c.args.item.now c.new-chain.result (invariant_of-self-2 c).once (none c) (c.new-chain.ensures ∙ ap (λ v. record { timestamp = 0; mark = 0; value = v } ∷ []) c.in_ok-item_of.ensures) (pushed c))
 
 pub returns-clause-roomier : goal.returns-clause-roomier
-returns-clause-roomier c = rw (← c.self.view_is) (made_roomier c.self.inside.list.items _ c.args.item.now c.in_ok-chain.chain (none c) (pushed c))
+returns-clause-roomier c = rw (← c.self.view_is) (made_roomier c.self.inside.list.items _ c.args.item.now c.new-chain.result (none c) (pushed c))
 
 pub returns-clause-number : goal.returns-clause-number
-returns-clause-number c = made_number c.self.inside.list.items _ c.args.item.now c.in_ok-chain.chain (none c) (pushed c) ∙ ap Some (sym (count c))
+returns-clause-number c = made_number c.self.inside.list.items _ c.args.item.now c.new-chain.result (none c) (pushed c) ∙ ap Some (sym (count c))
