@@ -168,7 +168,7 @@ pub fn digit_line_bytes(alloc: Global, bytes: &[u8]) -> Result<Vec<u8>, AllocErr
 }
 
 /// Adds the digits of bytes.
-fn add_digits(line: &mut Vec<u8>, bytes: &[u8]) -> Result<(), AllocError>
+pub(crate) fn add_digits(line: &mut Vec<u8>, bytes: &[u8]) -> Result<(), AllocError>
     ensures { OnOk result (line.new.items ≡ line.old.items ++ encode_lower bytes.now) }
 {
     let mut rest = bytes;

@@ -22,4 +22,6 @@ pub use digits::{decode_digits, digit_line, digit_line_bytes};
 pub use input::{INPUT_LIMIT, read_input};
 pub use outcomes::outcome_text;
 pub use refusals::{Refusal, check_place, refusal_reply};
-pub use replies::{DONE, FAILED, REFUSED, Reply, USAGE, input_refusal, write_reply};
+pub use replies::{
+    DONE, FAILED, REFUSED, Reply, USAGE, input_refusal, write_digits_reply, write_reply,
+};

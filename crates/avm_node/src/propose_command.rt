@@ -4,19 +4,42 @@ ghost use Rattle.std.specs.Prelude.{◌≡◌, ◌++◌, IfOk, OnOk, string_byte
 ghost use Rattle.std.specs.List.{flat_map};
 ghost use Rattle.avm_ledger.specs.declared.header.Profile.TheVariants.{Three};
 ghost use Rattle.avm_node.specs.ProposeCommands.{IsPoolReply, IsProposeReply, left_line, pool_reply, proposal_reply};
-ghost use Rattle.avm_node.specs.ProposeShown.{input_shown};
+ghost use Rattle.avm_node.specs.ProposeShown.{input_shown, reply_shown as propose_shown};
 ghost use Rattle.avm_input.specs.Shown.{reply_shown};
 ghost use Rattle.avm_node.specs.WorkerSets.{AreWorkerSets};
 
 use crate::propose_input::{ProposeInput, propose_input};
+use avm_block::Block;
 use avm_commands::let_go;
-use avm_input::{DONE, REFUSED, Reply, digit_line_bytes, refusal_reply};
+use avm_input::{DONE, REFUSED, Reply, refusal_reply};
 use avm_ops::{Op, Ops};
 use avm_pool::{Draft, OpenGate, PoolFault, Proposal, SharedBase, ThreadSets, propose_on};
 use std::alloc::{AllocError, Global};
 use std::sync::Wait;
 use std::thread::Threads;
 use teal_value::Failure;
+
+/// What is answered: the digits of a block's bytes, none where there is no block, then a text, and an exit status. The digits are
+/// twice as long as the bytes, and are made as they are written.
+#[derive(Drop)]
+pub struct ProposeReply {
+    pub block: Vec<u8>,
+    pub text: Vec<u8>,
+    pub status: u8,
+}
+
+impl ProposeReply {
+    /// A reply without a block.
+    pub fn without_block(alloc: Global, reply: Reply) -> ProposeReply
+        ensures { propose_shown result ≡ reply_shown reply }
+    {
+        ProposeReply {
+            block: Vec::new(alloc),
+            text: reply.text,
+            status: reply.status,
+        }
+    }
+}
 
 /// What `propose` answers to its input, by a worker of each set.
 pub fn propose_reply<R: Threads + Wait + Sync, O: Op, const ENDS: bool>(
@@ -25,13 +48,16 @@ pub fn propose_reply<R: Threads + Wait + Sync, O: Op, const ENDS: bool>(
     input: Vec<u8>,
     sets: Vec<Ops<O>>,
     own: Ops<O>,
-) -> Result<Reply, AllocError>
+) -> Result<ProposeReply, AllocError>
     requires sets { AreWorkerSets O.opcode sets.items own }
-    ensures { IfOk result (λ reply. IsProposeReply input.items (reply_shown reply)) }
+    ensures { IfOk result (λ reply. IsProposeReply input.items (propose_shown reply)) }
 {
     match propose_input(rt, alloc, sets.len(), input) {
         Ok(read) => pool_answer::<R, O, ENDS>(rt, alloc, read, sets, own),
-        Err(failure) => refusal_reply(alloc, failure.into_fault()?),
+        Err(failure) => {
+            let reply = refusal_reply(alloc, failure.into_fault()?)?;
+            Ok(ProposeReply::without_block(alloc, reply))
+        }
     }
 }
 
@@ -42,10 +68,10 @@ fn pool_answer<R: Threads + Wait + Sync, O: Op, const ENDS: bool>(
     read: ProposeInput,
     sets: Vec<Ops<O>>,
     own: Ops<O>,
-) -> Result<Reply, AllocError>
+) -> Result<ProposeReply, AllocError>
     requires profile { read.header.profile ≡ Three }
     requires sets { AreWorkerSets O.opcode sets.items own }
-    ensures { IfOk result (λ reply. IsPoolReply (input_shown read) (reply_shown reply)) }
+    ensures { IfOk result (λ reply. IsPoolReply (input_shown read) (propose_shown reply)) }
 {
     let ProposeInput {
         base,
@@ -62,25 +88,35 @@ fn pool_answer<R: Threads + Wait + Sync, O: Op, const ENDS: bool>(
     let sets = ThreadSets { workers: sets, own };
     match propose_on::<_, _, _, ENDS>(rt, alloc, draft, sets, &OpenGate) {
         Ok(proposal) => {
-            let reply = proposal_reply(alloc, &proposal);
-            let_go::<Proposal, ENDS>(proposal);
             let_go::<SharedBase, ENDS>(base);
-            reply
+            proposal_reply::<ENDS>(alloc, proposal)
         }
-        Err(Failure::Fault(fault)) => pool_reply(alloc, fault),
+        Err(Failure::Fault(fault)) => {
+            let reply = pool_reply(alloc, fault)?;
+            Ok(ProposeReply::without_block(alloc, reply))
+        }
         Err(Failure::Memory) => Err(AllocError),
     }
 }
 
-/// The text of a block, and of the calls that it leaves.
-fn proposal_reply(alloc: Global, proposal: &Proposal) -> Result<Reply, AllocError>
-    ensures { IfOk result (λ reply. reply_shown reply ≡ proposal_reply proposal.now) }
+/// The bytes of a block, and a text of the calls that it leaves.
+fn proposal_reply<const ENDS: bool>(
+    alloc: Global,
+    proposal: Proposal,
+) -> Result<ProposeReply, AllocError>
+    ensures { IfOk result (λ reply. propose_shown reply ≡ proposal_reply proposal) }
 {
-    let mut text = digit_line_bytes(alloc, proposal.bytes.as_slice())?;
-    let mut left = String::new(alloc);
-    add_left(alloc, &mut left, proposal.left.as_slice())?;
-    text.extend_from_slice(left.as_bytes())?;
-    Ok(Reply { text, status: DONE })
+    let Proposal {
+        block, bytes, left, ..
+    } = proposal;
+    let_go::<Block, ENDS>(block);
+    let mut text = String::from_str(alloc, "\n")?;
+    add_left(alloc, &mut text, left.as_slice())?;
+    Ok(ProposeReply {
+        block: bytes,
+        text: text.into_bytes(),
+        status: DONE,
+    })
 }
 
 /// Adds a line for each call that is left.

@@ -5,14 +5,14 @@ ghost use Rattle.avm_input.specs.Answers.{CommandAnswers, CommandFails, IsReply}
 ghost use Rattle.avm_input.specs.Replies.{failed, usage_reply};
 ghost use Rattle.avm_input.specs.CommandLine.{command_in};
 ghost use Rattle.avm_input.specs.declared.command_line.NodeCommand.TheVariants.{Propose};
-ghost use Rattle.avm_input.specs.Shown.{reply_shown};
+ghost use Rattle.avm_node.specs.ProposeShown.{reply_shown};
 ghost use Rattle.avm_node.specs.Answers.{IsNodeReply};
 ghost use Rattle.avm_node.specs.WorkerSets.{AreSets, AreWorkerSets};
 
-use crate::propose_command::propose_reply;
+use crate::propose_command::{ProposeReply, propose_reply};
 use avm_commands::answer_to;
 use avm_input::{
-    FAILED, INPUT_LIMIT, Reply, command_in, input_refusal, read_input, workers_of, write_reply,
+    FAILED, INPUT_LIMIT, command_in, input_refusal, read_input, workers_of, write_digits_reply,
 };
 use avm_ops::{Op, Ops};
 use avm_run::FullOps;
@@ -51,7 +51,13 @@ pub fn run<'a, T: Threads + Wait + Sync, R: Read, W: Write, O: Op, const ENDS: b
             Some(workers) => {
                 sets.truncate(usize::from(workers));
                 match proposed::<T, R, O, ENDS>(rt, alloc, workers, reader, sets, own) {
-                    Ok(reply) => write_reply(writer, reply.text.as_slice(), reply.status),
+                    Ok(reply) => write_digits_reply(
+                        alloc,
+                        writer,
+                        reply.block.as_slice(),
+                        reply.text.as_slice(),
+                        reply.status,
+                    ),
                     Err(_) => FAILED,
                 }
             }
@@ -75,14 +81,15 @@ fn proposed<T: Threads + Wait + Sync, R: Read, O: Op, const ENDS: bool>(
     reader: &mut R,
     sets: Vec<Ops<O>>,
     own: Ops<O>,
-) -> io::Result<Reply>
+) -> io::Result<ProposeReply>
     requires sets { AreWorkerSets O.opcode sets.items own }
     ensures { IfOk result (λ reply.
         IsReply (IsNodeReply (Propose workers)) (R.remaining reader.old) (reply_shown reply)) }
 {
     let input = read_input(alloc, reader)?;
     if input.len() > INPUT_LIMIT {
-        return Ok(input_refusal(alloc)?);
+        let reply = input_refusal(alloc)?;
+        return Ok(ProposeReply::without_block(alloc, reply));
     }
     Ok(propose_reply::<T, O, ENDS>(rt, alloc, input, sets, own)?)
 }

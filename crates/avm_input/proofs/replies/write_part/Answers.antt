@@ -1,5 +1,5 @@
 use Rattle.avm_input.proofs.Written.{more_written}
-use Rattle.avm_input.proofs.replies.write_text.Goals as goal
+use Rattle.avm_input.proofs.replies.write_part.Goals as goal
 
 pub writes-preserved : goal.writes-preserved
 writes-preserved g c =
