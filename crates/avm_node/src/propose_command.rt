@@ -1,20 +1,23 @@
 //! The command `propose`, whose input is lines of digits: a ledger, a header, and the calls of which a block is made.
 
-ghost use Rattle.std.specs.Prelude.{◌≡◌, ◌++◌, IfOk, OnOk, string_bytes};
+ghost use Rattle.std.specs.Prelude.{◌≡◌, ◌≢◌, ◌++◌, IfOk, OnOk, string_bytes};
 ghost use Rattle.std.specs.List.{flat_map};
 ghost use Rattle.avm_ledger.specs.declared.header.Profile.TheVariants.{Three};
 ghost use Rattle.avm_node.specs.ProposeCommands.{IsPoolReply, IsProposeReply, left_line, pool_reply, proposal_reply};
 ghost use Rattle.avm_node.specs.ProposeShown.{input_shown, reply_shown as propose_shown};
+ghost use Rattle.avm_input.specs.Answers.{IsBegun, IsWritten};
+ghost use Rattle.avm_input.specs.Replies.{failed};
 ghost use Rattle.avm_input.specs.Shown.{reply_shown};
 ghost use Rattle.avm_node.specs.WorkerSets.{AreWorkerSets};
 
 use crate::propose_input::{ProposeInput, propose_input};
 use avm_block::Block;
 use avm_commands::let_go;
-use avm_input::{DONE, REFUSED, Reply, refusal_reply};
+use avm_input::{DONE, REFUSED, Reply, refusal_reply, write_digits_reply};
 use avm_ops::{Op, Ops};
 use avm_pool::{Draft, OpenGate, PoolFault, Proposal, SharedBase, ThreadSets, propose_on};
 use std::alloc::{AllocError, Global};
+use std::io::Write;
 use std::sync::Wait;
 use std::thread::Threads;
 use teal_value::Failure;
@@ -38,6 +41,17 @@ impl ProposeReply {
             text: reply.text,
             status: reply.status,
         }
+    }
+
+    /// Writes it, and gives its status, or that of a failed write, before which a beginning of it may have been written.
+    pub fn write<W: Write>(&self, alloc: Global, writer: &mut W) -> u8
+        ensures written { result ≢ failed → IsWritten (propose_shown self.now)
+            (W.contents writer.old) (W.contents writer.new) result }
+        ensures begun { IsBegun (propose_shown self.now)
+            (W.contents writer.old) (W.contents writer.new) }
+    {
+        let (block, text) = (self.block.as_slice(), self.text.as_slice());
+        write_digits_reply(alloc, writer, block, text, self.status)
     }
 }
 
@@ -107,7 +121,10 @@ fn proposal_reply<const ENDS: bool>(
     ensures { IfOk result (λ reply. propose_shown reply ≡ proposal_reply proposal) }
 {
     let Proposal {
-        block, bytes, left, ..
+        block,
+        bytes,
+        left,
+        ..
     } = proposal;
     let_go::<Block, ENDS>(block);
     let mut text = String::from_str(alloc, "\n")?;

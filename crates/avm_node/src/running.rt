@@ -11,9 +11,7 @@ ghost use Rattle.avm_node.specs.WorkerSets.{AreSets, AreWorkerSets};
 
 use crate::propose_command::{ProposeReply, propose_reply};
 use avm_commands::answer_to;
-use avm_input::{
-    FAILED, INPUT_LIMIT, command_in, input_refusal, read_input, workers_of, write_digits_reply,
-};
+use avm_input::{FAILED, INPUT_LIMIT, command_in, input_refusal, read_input, workers_of};
 use avm_ops::{Op, Ops};
 use avm_run::FullOps;
 use std::alloc::Global;
@@ -51,13 +49,7 @@ pub fn run<'a, T: Threads + Wait + Sync, R: Read, W: Write, O: Op, const ENDS: b
             Some(workers) => {
                 sets.truncate(usize::from(workers));
                 match proposed::<T, R, O, ENDS>(rt, alloc, workers, reader, sets, own) {
-                    Ok(reply) => write_digits_reply(
-                        alloc,
-                        writer,
-                        reply.block.as_slice(),
-                        reply.text.as_slice(),
-                        reply.status,
-                    ),
+                    Ok(reply) => reply.write(alloc, writer),
                     Err(_) => FAILED,
                 }
             }

@@ -7,11 +7,11 @@ pub returns-in-Ok : goal.returns-in-Ok
 returns-in-Ok g c =
     let is_read = c.in_ok-base.ensures ∙ c.into_parts-ledger.ensures.ledger in
     let proposal = rw is_read at c.in-Ok.ensures.proposal in
-    IfOk-weaker c.proposal_reply-reply.result _ _
-    (λ reply is. inl (c.in-Ok.ensures.may.workers.calls_few, (c.in-Ok.proposal, proposal, is))) c.proposal_reply-reply.ensures
+    IfOk-weaker c.proposal_reply.result _ _
+    (λ reply is. inl (c.in-Ok.ensures.may.workers.calls_few, (c.in-Ok.proposal, proposal, is))) c.proposal_reply.ensures
 
 pub returns-in-Err-Fault : goal.returns-in-Err-Fault
 returns-in-Err-Fault g c =
     let refused = rw c.in-Err-Fault.field-0-is at c.in-Err-Fault.ensures.refused in
     let is_fault = pool_faults _ _ _ _ _ c.requires.sets c.requires.profile _ refused in
-    IfOk-weaker c.pool_reply.result _ _ (λ reply is. inr (c.in-Err-Fault.fault, is_fault, is)) c.pool_reply.ensures
+    inr (c.in-Err-Fault.fault, is_fault, c.without_block.ensures ∙ c.in_ok-reply-in-Err-Fault.ensures)

@@ -1,11 +1,11 @@
-use Rattle.std.proofs.Common.{arith}
+use Rattle.std.proofs.Common.{◌∙◌, arith}
 use Rattle.avm_node.proofs.running.proposed.Goals as goal
 
 pub returns-then-len-gt-INPUT_LIMIT : goal.returns-then-len-gt-INPUT_LIMIT
 returns-then-len-gt-INPUT_LIMIT g c = (
   c.in_ok-input.input.items,
   c.in_ok-input.ensures,
-  record { long = λ _. c.in_ok-input_refusal.ensures; other = λ short. absurd (omega (arith, short, c.len.ensures, c.if-len-gt-INPUT_LIMIT.true)) },
+  record { long = λ _. c.without_block.ensures ∙ c.in_ok-reply.ensures; other = λ short. absurd (omega (arith, short, c.len.ensures, c.if-len-gt-INPUT_LIMIT.true)) },
 )
 
 pub returns : goal.returns

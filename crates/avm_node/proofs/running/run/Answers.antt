@@ -1,8 +1,10 @@
-use Rattle.std.proofs.Common.{arith, subst, sym, Some}
+use Rattle.std.proofs.Common.{◌∙◌, arith, subst, sym, Some}
 use Rattle.std.specs.List.{AllByRecursion}
 use Rattle.avm_ops.specs.OpSets.{IsFull}
 use Rattle.avm_pool.specs.Refusals.{AreFull}
 use Rattle.avm_input.specs.CommandLine.{AreOneToEight}
+use Rattle.avm_node.specs.ProposeShown.{reply_shown}
+use Rattle.avm_node.proofs.NodeAnswers.{propose_answers}
 use Rattle.avm_node.proofs.FullSets.{fewer_are_full, last_is_own, own_is_full}
 use Rattle.avm_node.proofs.running.run.Goals as goal
 
@@ -24,3 +26,9 @@ from_full-requires-after_bounds g c κs within =
     let opcode = g.O.Op.opcode in
     own_is_full opcode c.pop.new.self.items c.in-Some.own
     (last_is_own opcode c.pop.new.self.items c.in-Some.own (subst (AllByRecursion (IsFull opcode)) c.in-Some.ensures.items c.requires.sets.full))
+
+pub returns-in-Ok-proposed-clause-answers : goal.returns-in-Ok-proposed-clause-answers
+returns-in-Ok-proposed-clause-answers g c =
+    rw (← c.in-Ok.ensures.command)
+    (propose_answers c.in-Ok.command c.in-Some-workers_of.workers (g.R.Read.remaining c.args.reader.now) (g.W.Write.contents c.args.writer.now) (g.W.Write.contents c.write.new.writer) (reply_shown c.in-Ok-proposed.reply) c.write.result
+    (sym c.workers_of.ensures ∙ c.in-Some-workers_of.is) c.in-Ok-proposed.ensures c.write.ensures.written)
