@@ -3,12 +3,12 @@
 ghost use Rattle.std.specs.Prelude.{◌≡◌};
 ghost use Rattle.avm_block.specs.FaultNames.{block_fault_name};
 
+use std::fmt;
 use teal_value::Failure;
 use thiserror::Error;
 
 /// What is wrong with the bytes of a block. A block is read field by field, and the first fault counts.
 #[derive(Clone, Copy, Debug, PartialEq, Eq, Error)]
-#[error("{name}", name = self.name())]
 pub enum BlockFault {
     /// The bytes don't begin with `AVMB`.
     Magic = 1,
@@ -24,6 +24,12 @@ pub enum BlockFault {
     Field,
     /// The last digest isn't that of the bytes before it.
     Digest,
+}
+
+impl fmt::Display for BlockFault {
+    fn fmt<W: fmt::Write>(&self, f: &mut fmt::Formatter<W>) -> fmt::Result {
+        f.write_str(self.name())
+    }
 }
 
 impl BlockFault {

@@ -3,13 +3,13 @@
 ghost use Rattle.std.specs.Prelude.{◌≡◌};
 ghost use Rattle.avm_call.specs.FaultNames.{call_fault_name};
 
+use std::fmt;
 use teal_check::CheckFault;
 use teal_value::Failure;
 use thiserror::Error;
 
 /// The first rule of calls that fields break, in this order.
 #[derive(Clone, Copy, Debug, PartialEq, Eq, Error)]
-#[error("{name}", name = self.name())]
 pub enum CallFault {
     /// More than 4 accounts.
     Accounts,
@@ -32,6 +32,12 @@ pub enum CallFault {
     ClearOnCreate,
     /// A program that breaks a rule of programs; the approval program is tested before the clear state program.
     Program(CheckFault),
+}
+
+impl fmt::Display for CallFault {
+    fn fmt<W: fmt::Write>(&self, f: &mut fmt::Formatter<W>) -> fmt::Result {
+        f.write_str(self.name())
+    }
 }
 
 impl CallFault {

@@ -3,12 +3,12 @@
 ghost use Rattle.std.specs.Prelude.{◌≡◌};
 ghost use Rattle.avm_pool.specs.FaultNames.{pool_fault_name};
 
+use std::fmt;
 use teal_value::Failure;
 use thiserror::Error;
 
 /// Why nothing is proposed, in the order of the tests. The last two depend on what the threads do.
 #[derive(Clone, Copy, Debug, PartialEq, Eq, Error)]
-#[error("{name}", name = self.name())]
 pub enum PoolFault {
     /// There are no workers' sets of objects, or more than 8, or there are more calls than a block has entries.
     Workers,
@@ -20,6 +20,12 @@ pub enum PoolFault {
     Spawn,
     /// The last timestamp was given.
     ClockEnd,
+}
+
+impl fmt::Display for PoolFault {
+    fn fmt<W: fmt::Write>(&self, f: &mut fmt::Formatter<W>) -> fmt::Result {
+        f.write_str(self.name())
+    }
 }
 
 impl PoolFault {

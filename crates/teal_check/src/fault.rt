@@ -3,13 +3,13 @@
 ghost use Rattle.std.specs.Prelude.{◌≡◌};
 ghost use Rattle.teal_check.specs.FaultNames.{check_fault_name};
 
+use std::fmt;
 use teal_code::CodeFault;
 use teal_value::Failure;
 use thiserror::Error;
 
 /// The first rule of programs that bytes break. A place is that of the instruction that breaks it.
 #[derive(Clone, Copy, Debug, PartialEq, Eq, Error)]
-#[error("{name}", name = self.name())]
 pub enum CheckFault {
     /// The version is neither 2 nor 3.
     Version,
@@ -29,6 +29,12 @@ pub enum CheckFault {
     Cost,
     /// The opcode has no such field.
     UnknownField { place: u16 },
+}
+
+impl fmt::Display for CheckFault {
+    fn fmt<W: fmt::Write>(&self, f: &mut fmt::Formatter<W>) -> fmt::Result {
+        f.write_str(self.name())
+    }
 }
 
 impl CheckFault {

@@ -3,12 +3,12 @@
 ghost use Rattle.std.specs.Prelude.{◌≡◌};
 ghost use Rattle.teal_source.specs.FaultNames.{asm_fault_name};
 
+use std::fmt;
 use teal_value::Failure;
 use thiserror::Error;
 
 /// What is wrong with a line of source text.
 #[derive(Clone, Copy, Debug, PartialEq, Eq, Error)]
-#[error("{name}", name = self.name())]
 pub enum AsmFaultKind {
     /// A string or its escapes.
     Text = 1,
@@ -36,6 +36,12 @@ pub enum AsmFaultKind {
     MixedBlock,
     /// The program has more than 1024 bytes.
     TooLong,
+}
+
+impl fmt::Display for AsmFaultKind {
+    fn fmt<W: fmt::Write>(&self, f: &mut fmt::Formatter<W>) -> fmt::Result {
+        f.write_str(self.name())
+    }
 }
 
 impl AsmFaultKind {

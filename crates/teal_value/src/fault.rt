@@ -4,13 +4,13 @@ ghost use Rattle.std.specs.Prelude.{◌≡◌};
 ghost use Rattle.teal_value.specs.FaultNames.{fault_name};
 ghost use Rattle.teal_value.specs.FaultNumbers.{fault_number, faults, numbered};
 
+use std::fmt;
 use thiserror::Error;
 
 /// The fault of an instruction or of a program's end, by its number in the bytes of outcomes.
 ///
 /// The rules that raise each are those of the opcode table (AVM specification, version 2 and 3 opcodes, application mode).
 #[derive(Clone, Copy, Debug, PartialEq, Eq, Error)]
-#[error("{name}", name = self.name())]
 pub enum Fault {
     /// `err` was executed.
     Err = 1,
@@ -60,6 +60,12 @@ pub enum Fault {
     FinalBytes,
     /// `assert` was given 0.
     Assert,
+}
+
+impl fmt::Display for Fault {
+    fn fmt<W: fmt::Write>(&self, f: &mut fmt::Formatter<W>) -> fmt::Result {
+        f.write_str(self.name())
+    }
 }
 
 impl Fault {
