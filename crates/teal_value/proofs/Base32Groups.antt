@@ -1,5 +1,5 @@
 -- Bytes come back from their numbers of five bits.
-use Rattle.std.proofs.Common.{◌≡◌, ℕ, ◌+◌, ◌*◌, ◌/◌, ◌%◌, ◌<◌, ◌≤◌, List, [], ◌∷◌, ◌++◌, length, take, drop, append_assoc, get_or, refl, ap, arith, rules, suc, All}
+use Rattle.std.proofs.Common.{◌≡◌, ℕ, ◌+◌, ◌*◌, ◌/◌, ◌%◌, ◌<◌, ◌≤◌, List, [], ◌∷◌, ◌++◌, length, drop, append_assoc, get_or, refl, ap, arith, rules, suc, All}
 use Rattle.std.specs.List.{AllByRecursion}
 use Rattle.std.proofs.lemmas.List.Elements.{All-from_recursion}
 use Rattle.teal_value.specs.Base32.{groups, bytes_of_digits, IsBytes}
@@ -41,25 +41,17 @@ bytes_of-groups (a ∷ b ∷ c ∷ []) h = rw (first a b (h 0) (h 1), second a b
 bytes_of-groups (a ∷ b ∷ c ∷ d ∷ []) h = rw (first a b (h 0) (h 1), second a b c (h 1) (h 2), third b c d (h 2) (h 3), fourth_last c d (h 3)) refl
 bytes_of-groups (a ∷ b ∷ c ∷ d ∷ e ∷ rest) h = rw (first a b (h 0) (h 1), second a b c (h 1) (h 2), third b c d (h 2) (h 3), fourth c d e (h 3) (h 4), fifth d e (h 4)) (ap (λ (r : List ℕ). a ∷ b ∷ c ∷ d ∷ e ∷ r) (bytes_of-groups rest (λ i. h (suc (suc (suc (suc (suc i))))))))
 
--- a whole group goes from the rest to the numbers that are written
-pub goes_on : (out now rest tail : List ℕ) (all : List ℕ) → 5 ≤ length rest → tail ≡ drop 5 rest
-    → now ≡ out ++ take 8 (groups (take 5 rest)) → out ++ groups rest ≡ all → now ++ groups tail ≡ all
+-- the groups of the five bytes in front go from the rest to the groups that are written
+pub goes_on : (out now five rest tail all : List ℕ) → 5 ≤ length rest → tail ≡ drop 5 rest
+    → five ≡ groups (get_or rest 0 0 ∷ get_or rest 1 0 ∷ get_or rest 2 0 ∷ get_or rest 3 0 ∷ get_or rest 4 0 ∷ [])
+    → now ≡ out ++ five → out ++ groups rest ≡ all → now ++ groups tail ≡ all
 unfolding groups
-goes_on out now [] tail all long t n so_far = absurd (omega arith)
-goes_on out now (a ∷ []) tail all long t n so_far = absurd (omega arith)
-goes_on out now (a ∷ b ∷ []) tail all long t n so_far = absurd (omega arith)
-goes_on out now (a ∷ b ∷ c ∷ []) tail all long t n so_far = absurd (omega arith)
-goes_on out now (a ∷ b ∷ c ∷ d ∷ []) tail all long t n so_far = absurd (omega arith)
-goes_on out now (a ∷ b ∷ c ∷ d ∷ e ∷ rest) tail all long t n so_far = rw (n, t, append_assoc) so_far
-
--- the five bytes in front, by their places
-pub front_of : (rest : List ℕ) → 5 ≤ length rest → get_or rest 0 0 ∷ get_or rest 1 0 ∷ get_or rest 2 0 ∷ get_or rest 3 0 ∷ get_or rest 4 0 ∷ [] ≡ take 5 rest
-front_of [] long = absurd (omega arith)
-front_of (a ∷ []) long = absurd (omega arith)
-front_of (a ∷ b ∷ []) long = absurd (omega arith)
-front_of (a ∷ b ∷ c ∷ []) long = absurd (omega arith)
-front_of (a ∷ b ∷ c ∷ d ∷ []) long = absurd (omega arith)
-front_of (a ∷ b ∷ c ∷ d ∷ e ∷ rest) long = refl
+goes_on out now five [] tail all long t f n so_far = absurd (omega arith)
+goes_on out now five (a ∷ []) tail all long t f n so_far = absurd (omega arith)
+goes_on out now five (a ∷ b ∷ []) tail all long t f n so_far = absurd (omega arith)
+goes_on out now five (a ∷ b ∷ c ∷ []) tail all long t f n so_far = absurd (omega arith)
+goes_on out now five (a ∷ b ∷ c ∷ d ∷ []) tail all long t f n so_far = absurd (omega arith)
+goes_on out now five (a ∷ b ∷ c ∷ d ∷ e ∷ rest) tail all long t f n so_far = rw (n, f, t, append_assoc) so_far
 
 -- every group of bytes is a number below 32
 pub groups_each : (bytes : List ℕ) → IsBytes bytes → AllByRecursion (λ v. v < 32) (groups bytes)

@@ -1,6 +1,6 @@
 //! Base32 with the alphabet A to Z and 2 to 7 (RFC 4648, section 6).
 
-ghost use Rattle.std.specs.Prelude.{◌≡◌, ◌<◌, ◌≤◌, ◌↔◌, ℕ, List, Ok, IfOk, All, length, map};
+ghost use Rattle.std.specs.Prelude.{◌≡◌, ◌<◌, ◌≤◌, ◌↔◌, ℕ, List, [], ◌∷◌, Ok, IfOk, All, length, map};
 ghost use Rattle.std.specs.String.{string_bytes};
 ghost use Rattle.teal_value.specs.Answer.{Gives};
 ghost use Rattle.teal_value.specs.Base32.{base32, symbol, groups, group_of, bytes_of_digits, symbol_count, is_symbol, is_tail, base32_decoded, IsBytes, IsBase32};
@@ -88,42 +88,34 @@ fn groups_of(alloc: Global, bytes: &[u8]) -> Result<Vec<u8>, AllocError>
     let mut out = Vec::new(alloc);
     let mut rest = bytes;
     while let [a, b, c, d, e, tail @ ..] = rest {
-        out.extend_from_slice(&[
-            a / 8,
-            a % 8 * 4 + b / 64,
-            b / 2 % 32,
-            b % 2 * 16 + c / 16,
-            c % 16 * 2 + d / 128,
-            d / 4 % 32,
-            d % 4 * 8 + e / 32,
-            e % 32,
-        ])?;
+        out.extend_from_slice(&groups_of_five(*a, *b, *c, *d, *e))?;
         rest = tail;
     }
     match rest {
-        [a] => out.extend_from_slice(&[a / 8, a % 8 * 4])?,
-        [a, b] => {
-            out.extend_from_slice(&[a / 8, a % 8 * 4 + b / 64, b / 2 % 32, b % 2 * 16])?;
-        }
-        [a, b, c] => out.extend_from_slice(&[
-            a / 8,
-            a % 8 * 4 + b / 64,
-            b / 2 % 32,
-            b % 2 * 16 + c / 16,
-            c % 16 * 2,
-        ])?,
-        [a, b, c, d] => out.extend_from_slice(&[
-            a / 8,
-            a % 8 * 4 + b / 64,
-            b / 2 % 32,
-            b % 2 * 16 + c / 16,
-            c % 16 * 2 + d / 128,
-            d / 4 % 32,
-            d % 4 * 8,
-        ])?,
+        [a] => out.extend_from_slice(&groups_of_five(*a, 0, 0, 0, 0)[..2])?,
+        [a, b] => out.extend_from_slice(&groups_of_five(*a, *b, 0, 0, 0)[..4])?,
+        [a, b, c] => out.extend_from_slice(&groups_of_five(*a, *b, *c, 0, 0)[..5])?,
+        [a, b, c, d] => out.extend_from_slice(&groups_of_five(*a, *b, *c, *d, 0)[..7])?,
         _ => (),
     }
     Ok(out)
+}
+
+/// The groups that five bytes make.
+#[tactic(auto, unfolding(crate::specs::Base32::groups))]
+fn groups_of_five(a: u8, b: u8, c: u8, d: u8, e: u8) -> [u8; 8]
+    ensures { result ≡ groups (a ∷ b ∷ c ∷ d ∷ e ∷ []) }
+{
+    [
+        a / 8,
+        a % 8 * 4 + b / 64,
+        b / 2 % 32,
+        b % 2 * 16 + c / 16,
+        c % 16 * 2 + d / 128,
+        d / 4 % 32,
+        d % 4 * 8 + e / 32,
+        e % 32,
+    ]
 }
 
 /// The characters of groups, as text.
@@ -170,32 +162,36 @@ fn bytes_of(alloc: Global, groups: &[u8]) -> Result<Vec<u8>, AllocError>
     let mut out = Vec::new(alloc);
     let mut rest = groups;
     while let [p, q, r, s, t, u, v, w, tail @ ..] = rest {
-        out.extend_from_slice(&[
-            p * 8 + q / 4,
-            q % 4 * 64 + r * 2 + s / 16,
-            s % 16 * 16 + t / 2,
-            t % 2 * 128 + u * 4 + v / 8,
-            v % 8 * 32 + w,
-        ])?;
+        out.extend_from_slice(&bytes_of_eight(*p, *q, *r, *s, *t, *u, *v, *w))?;
         rest = tail;
     }
     match rest {
-        [p, q] => out.extend_from_slice(&[p * 8 + q / 4])?,
-        [p, q, r, s] => out.extend_from_slice(&[p * 8 + q / 4, q % 4 * 64 + r * 2 + s / 16])?,
-        [p, q, r, s, t] => out.extend_from_slice(&[
-            p * 8 + q / 4,
-            q % 4 * 64 + r * 2 + s / 16,
-            s % 16 * 16 + t / 2,
-        ])?,
-        [p, q, r, s, t, u, v] => out.extend_from_slice(&[
-            p * 8 + q / 4,
-            q % 4 * 64 + r * 2 + s / 16,
-            s % 16 * 16 + t / 2,
-            t % 2 * 128 + u * 4 + v / 8,
-        ])?,
+        [p, q] => out.extend_from_slice(&bytes_of_eight(*p, *q, 0, 0, 0, 0, 0, 0)[..1])?,
+        [p, q, r, s] => out.extend_from_slice(&bytes_of_eight(*p, *q, *r, *s, 0, 0, 0, 0)[..2])?,
+        [p, q, r, s, t] => {
+            out.extend_from_slice(&bytes_of_eight(*p, *q, *r, *s, *t, 0, 0, 0)[..3])?;
+        }
+        [p, q, r, s, t, u, v] => {
+            out.extend_from_slice(&bytes_of_eight(*p, *q, *r, *s, *t, *u, *v, 0)[..4])?;
+        }
         _ => (),
     }
     Ok(out)
+}
+
+/// The bytes that eight groups fill.
+#[tactic(auto, unfolding(crate::specs::Base32::bytes_of_digits))]
+fn bytes_of_eight(p: u8, q: u8, r: u8, s: u8, t: u8, u: u8, v: u8, w: u8) -> [u8; 5]
+    requires { (p < 32) × (q < 32) × (r < 32) × (s < 32) × (t < 32) × (u < 32) × (v < 32) × (w < 32) }
+    ensures { result ≡ bytes_of_digits (p ∷ q ∷ r ∷ s ∷ t ∷ u ∷ v ∷ w ∷ []) }
+{
+    [
+        p * 8 + q / 4,
+        q % 4 * 64 + r * 2 + s / 16,
+        s % 16 * 16 + t / 2,
+        t % 2 * 128 + u * 4 + v / 8,
+        v % 8 * 32 + w,
+    ]
 }
 
 /// Whether a text with this many characters of the alphabet may end so: not at all, or with its padding.
