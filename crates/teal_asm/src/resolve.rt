@@ -93,18 +93,15 @@ fn add_instruction(
 {
     let Statement {
         line,
-        label: _,
+        label,
         command,
     } = statement;
-    match command {
-        Some(command) => {
-            let number = instructions.len();
-            let instruction = instruction_of(constants, number, line, command)?;
-            instructions.push(instruction)?;
-            Ok(())
-        }
-        None => Ok(()),
+    drop(label);
+    if let Some(command) = command {
+        let instruction = instruction_of(constants, instructions.len(), line, command)?;
+        instructions.push(instruction)?;
     }
+    Ok(())
 }
 
 fn instruction_of(
