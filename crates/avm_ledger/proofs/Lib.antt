@@ -13,3 +13,4 @@ pub mod LedgerRead
 pub mod ManyReading
 pub mod KeptOrder
 pub mod Collected
+pub mod Appended

@@ -92,21 +92,26 @@ limited_schema_at most bytes = schema_at Truncated bytes >>= λ s. tested (nat_l
 abbrev pub program_at : List ℕ → Front LedgerFault (List ℕ)
 program_at bytes = string_at Truncated bytes >>= λ p. tested (is_ok (checked p.0)) p
 
+-- the schemas and the global state of an application that has this account and these programs
+abbrev pub schemas_and_state_at : Address → List ℕ → List ℕ → List ℕ → Front LedgerFault StoredApplication
+schemas_and_state_at creator approval clear bytes = do
+  global ← limited_schema_at most_global_entries bytes
+  local ← limited_schema_at most_local_entries global.1
+  state ← state_at (room_of_schema global.0) local.1
+  Ok (
+    record {
+      row = record { creator = creator; approval = approval; clear = clear; global_schema = global.0; local_schema = local.0 };
+      state = state.0;
+    },
+    state.1,
+  )
+
 abbrev pub stored_application_at : List ℕ → Front LedgerFault StoredApplication
 stored_application_at bytes = do
   creator ← address_at Truncated bytes
   approval ← program_at creator.1
   clear ← program_at approval.1
-  global ← limited_schema_at most_global_entries clear.1
-  local ← limited_schema_at most_local_entries global.1
-  state ← state_at (room_of_schema global.0) local.1
-  Ok (
-    record {
-      row = record { creator = creator.0; approval = approval.0; clear = clear.0; global_schema = global.0; local_schema = local.0 };
-      state = state.0;
-    },
-    state.1,
-  )
+  schemas_and_state_at creator.0 approval.0 clear.0 clear.1
 
 -- an id above the one before and below the next id
 abbrev pub id_between : ℕ → ℕ → List ℕ → Front LedgerFault ℕ

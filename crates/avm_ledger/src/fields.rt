@@ -119,10 +119,10 @@ impl<'a> Fields<'a> {
     pub fn array<F: Copy>(self, truncated: F) -> Result<([u8; 32], Self), Failure<F>>
         ensures { Gives (λ x. x) result (bytes_at truncated 32 self.entry) }
     {
-        let (front, rest) = self.take(32, truncated)?;
-        let mut array = [0; 32];
-        array.copy_from_slice(front);
-        Ok((array, rest))
+        match self.bytes.split_first_chunk::<32>() {
+            Some((front, bytes)) => Ok((*front, Fields { bytes })),
+            None => Err(Failure::Fault(truncated)),
+        }
     }
 
     /// An account's address.

@@ -3,7 +3,7 @@
 ghost use Rattle.std.specs.Prelude.{◌≡◌, ◌+◌, None};
 ghost use Rattle.std.specs.Option.{option_copied};
 ghost use Rattle.teal_value.specs.Answer.{Gives};
-ghost use Rattle.avm_ledger.specs.LedgerReader.{account_at, applications_at, id_between, is_no_lower, ledger_at, limited_schema_at, local_id_at, local_room, local_states_at, next_id_at, program_at, rises_from_pair, stored_application_at, stored_in};
+ghost use Rattle.avm_ledger.specs.LedgerReader.{account_at, applications_at, id_between, is_no_lower, ledger_at, limited_schema_at, local_id_at, local_room, local_states_at, next_id_at, program_at, rises_from_pair, schemas_and_state_at, stored_application_at, stored_in};
 
 use crate::application::{Application, StoredApplication};
 use crate::fields::Fields;
@@ -111,7 +111,21 @@ fn application_of<'a>(
     let (creator, rest) = fields.address(LedgerFault::Truncated)?;
     let (approval, rest) = program_of(alloc, last.map(|last| &last.approval), rest)?;
     let (clear, rest) = program_of(alloc, last.map(|last| &last.clear), rest)?;
-    let (global_schema, rest) = schema_of(MAX_GLOBAL_ENTRIES, rest)?;
+    stored_of(alloc, creator, approval, clear, rest)
+}
+
+/// The application of this account and these programs, whose schemas and global state stand behind them.
+#[inline(always)]
+fn stored_of(
+    alloc: Global,
+    creator: Address,
+    approval: StoredProgram,
+    clear: StoredProgram,
+    fields: Fields<'_>,
+) -> Result<(StoredApplication, Fields<'_>), LedgerError>
+    ensures { Gives (λ x. x) result (schemas_and_state_at creator approval clear fields.entry) }
+{
+    let (global_schema, rest) = schema_of(MAX_GLOBAL_ENTRIES, fields)?;
     let (local_schema, rest) = schema_of(MAX_LOCAL_ENTRIES, rest)?;
     let (state, rest) = state_of(alloc, entries_within(global_schema), global_schema, rest)?;
     let row = Application {
