@@ -23,27 +23,27 @@ const SETS: usize = 9;
 
 fn main(rt: HostRuntime) -> ExitCode {
     let alloc = rt.alloc();
-    let own = filled_set!(alloc, ExitCode::from(FAILED));
     let Ok(words) = words_of(&rt) else {
         return ExitCode::from(FAILED);
     };
     let Ok(texts) = texts_of(&rt, &words) else {
         return ExitCode::from(FAILED);
     };
-    let own = match answered(&rt, texts.as_slice(), own) {
-        Ok(status) => return ExitCode::from(status),
-        Err(own) => own,
-    };
-    // The words are `propose`, which has a set for each worker.
     let mut sets = Vec::new(alloc);
-    for _ in 1..SETS {
-        let ops = filled_set!(alloc, ExitCode::from(FAILED));
-        if sets.push(ops).is_err() {
+    // One set serves every command but `propose`, for which the turns go on.
+    for number in 0..SETS {
+        let filled = filled_set!(alloc, ExitCode::from(FAILED));
+        let set = if number == 0 {
+            match answered(&rt, texts.as_slice(), filled) {
+                Ok(status) => return ExitCode::from(status),
+                Err(own) => own,
+            }
+        } else {
+            filled
+        };
+        if sets.push(set).is_err() {
             return ExitCode::from(FAILED);
         }
-    }
-    if sets.push(own).is_err() {
-        return ExitCode::from(FAILED);
     }
     ExitCode::from(proposed(&rt, &rt, texts.as_slice(), sets))
 }

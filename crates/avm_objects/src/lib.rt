@@ -24,7 +24,10 @@ macro_rules! filled_set {
             let Some(opcode) = $crate::Opcode::of(code as u8) else {
                 continue;
             };
-            let op: Box<dyn $crate::Op> = $crate::object_of!($alloc, opcode, $refused);
+            let made: Option<Box<dyn $crate::Op>> = $crate::object_of!($alloc, opcode);
+            let Some(op) = made else {
+                return $refused;
+            };
             if ops.push($crate::BoxedOp { op }).is_err() {
                 return $refused;
             }
@@ -33,26 +36,30 @@ macro_rules! filled_set {
     }};
 }
 
-/// The object of an opcode in a box, or the next turn of the loop where no family has one. The list of families stands here.
+/// The object of an opcode in a box, or `None` where memory is refused, or the next turn of the loop where no family has one. The
+/// list of families stands here.
 #[macro_export]
 macro_rules! object_of {
-    ($alloc:expr, $opcode:expr, $refused:expr) => {
+    ($alloc:expr, $opcode:expr) => {
         $crate::first_of!(
-            $alloc, $opcode, $refused, Binary, Bits, Comparison, Equality, Joined, OfBytes, Unary,
-            Wide, Block, Branch, Bytec, Intc, Literal, Scratch, Stack, Stops, GlobalOp, StateRead,
+            $alloc, $opcode, Binary, Bits, Comparison, Equality, Joined, OfBytes, Unary, Wide,
+            Block, Branch, Bytec, Intc, Literal, Scratch, Stack, Stops, GlobalOp, StateRead,
             StateWrite, Txn
         )
     };
 }
 
-/// The object of an opcode in a box, of the first of these families that has it.
+/// The object of an opcode in a box, of the first of these families that has it, as `object_of` gives it.
 #[macro_export]
 macro_rules! first_of {
-    ($alloc:expr, $opcode:expr, $refused:expr, $($family:ident),+) => {
+    ($alloc:expr, $opcode:expr, $($family:ident),+) => {
         $(if let Some(op) = $crate::$family::of($opcode) {
             match Box::new($alloc, op) {
-                Ok(op) => op,
-                Err(_) => return $refused,
+                Ok(op) => {
+                    let op: Box<dyn $crate::Op> = op;
+                    Some(op)
+                }
+                Err(_) => None,
             }
         } else)+ {
             continue;
