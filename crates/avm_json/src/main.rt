@@ -1,14 +1,12 @@
 //! The program `avm_json`: ledgers and blocks as JSON documents. Its words, standard input and standard output go to
-//! `commands`.
+//! `json_views::answer`.
 #![tactic(auto)]
-
-mod commands;
 
 use avm_input::FAILED;
 use avm_objects::filled_set;
 use avm_ops::{Op, Ops};
 use avm_run::FullOps;
-use commands::answer;
+use json_views::answer;
 use std::alloc::AllocError;
 use std::env;
 use std::io::{self, ErrorKind};

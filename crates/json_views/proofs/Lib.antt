@@ -10,3 +10,4 @@ pub mod ScratchRuns
 pub mod Weights
 pub mod StateRuns
 pub mod TraceTexts
+pub mod EntryNumbers

@@ -16,3 +16,4 @@ pub mod Traces
 pub mod TraceReplies
 pub mod ValueTokens
 pub mod StateRuns
+pub mod Commands

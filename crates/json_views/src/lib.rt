@@ -8,6 +8,9 @@
 //! answers (`specs/TraceReplies.antt`). What a trace is stands in `specs/Traces.antt`. Its states are those that the debugger
 //! shows (`avm_stepper`), from before the first instruction to the fault or the end. They are written one after another, and
 //! none is kept.
+//!
+//! The commands of the program `avm_json` stand here too (`commands`), and not in the program: a program is dear to prove, and its
+//! must-fail edits would prove it again.
 #![tactic(auto)]
 
 mod accounts;
@@ -16,6 +19,7 @@ mod block;
 pub mod by_account;
 mod call;
 mod changes;
+mod commands;
 mod disassembly;
 mod ledger;
 mod machine;
@@ -28,6 +32,7 @@ mod trace_states;
 mod weight;
 pub mod writing;
 
+pub use commands::{JsonCommand, answer};
 pub use refusal::TraceRefusal;
 pub use show::show_reply;
 pub use states::put_value;

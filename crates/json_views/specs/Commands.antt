@@ -6,8 +6,8 @@ use Rattle.avm_input.specs.Replies.{Reply, usage}
 use Rattle.json_documents.specs.Replies.{lines_reply}
 use Rattle.json_views.specs.Show.{show_reply}
 use Rattle.json_views.specs.TraceReplies.{IsTraceReply}
-use Rattle.avm_json.specs.declared.commands.JsonCommand.{JsonCommand}
-use Rattle.avm_json.specs.declared.commands.JsonCommand.TheVariants.{Lines, Show, Trace}
+use Rattle.json_views.specs.declared.commands.JsonCommand.{JsonCommand}
+use Rattle.json_views.specs.declared.commands.JsonCommand.TheVariants.{Lines, Show, Trace}
 
 abbrev pub command_named : List ℕ → Option JsonCommand
 command_named word = if bytes_eq word (codes "lines") then Some Lines else if bytes_eq word (codes "show") then Some Show else None

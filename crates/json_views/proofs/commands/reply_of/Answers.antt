@@ -1,5 +1,5 @@
 use Rattle.std.proofs.Common.{arith}
-use Rattle.avm_json.proofs.commands.reply_of.Goals as goal
+use Rattle.json_views.proofs.commands.reply_of.Goals as goal
 
 pub returns-then-len-gt-INPUT_LIMIT : goal.returns-then-len-gt-INPUT_LIMIT
 returns-then-len-gt-INPUT_LIMIT g c = (

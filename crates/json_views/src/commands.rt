@@ -1,17 +1,18 @@
-//! The commands of the program.
+//! The commands of the program `avm_json`.
 
 ghost use Rattle.std.specs.Prelude.{◌≡◌, IfOk, None, map};
 ghost use Rattle.avm_input.specs.Answers.{CommandAnswers, CommandFails, IsReply};
 ghost use Rattle.avm_input.specs.Replies.{failed};
 ghost use Rattle.avm_input.specs.Shown.{reply_shown};
 ghost use Rattle.avm_input.specs.CommandLine.{u64_of};
-ghost use Rattle.avm_json.specs.Commands.{IsJsonReply, command_in, command_named, trace_of, usage_reply};
+ghost use Rattle.json_views.specs.Commands.{IsJsonReply, command_in, command_named, trace_of, usage_reply};
 
+use crate::show::show_reply;
+use crate::trace_replies::trace_reply;
 use avm_input::{FAILED, INPUT_LIMIT, Reply, USAGE, input_refusal, read_input, write_reply};
 use avm_ops::Op;
 use avm_run::FullOps;
 use json_documents::lines_reply;
-use json_views::{show_reply, trace_reply};
 use std::alloc::{AllocError, Global};
 use std::io::{self, Read, Write};
 

@@ -1,6 +1,6 @@
 use Rattle.std.proofs.Common.{inr}
 use Rattle.avm_input.specs.Shown.{reply_shown}
-use Rattle.avm_json.proofs.commands.answer_to.Goals as goal
+use Rattle.json_views.proofs.commands.answer_to.Goals as goal
 
 pub returns-in-Ok-clause-answers : goal.returns-in-Ok-clause-answers
 returns-in-Ok-clause-answers g c =
