@@ -1,9 +1,13 @@
 //! Lists of events, run over a store and replayed.
 
+ghost use Rattle.std.specs.Prelude.{◌≡◌, IfOk, None};
+ghost use Rattle.std.specs.Arc.{arc_value};
+ghost use Rattle.mv_parts.specs.Opening.{open_fault};
+
 use crate::data::stand_once;
 use avm_block::Block;
 use avm_call::Call;
-use avm_ledger::Ledger;
+use avm_ledger::{Header, Ledger};
 use avm_ops::Op;
 use avm_replay::{Verdict, replay, state_at};
 use avm_run::FullOps;
@@ -70,26 +74,22 @@ pub struct Bench<'a, O: Op> {
 impl<'a, O: Op> Bench<'a, O> {
     /// The world that events lead to, with calls.
     pub fn world_after(&self, calls: &Arc<Vec<Call>>, events: &[Event]) -> Result<World, Fail> {
-        // That a store is opened says that there are few calls, each of the header's profile.
-        match Store::open(
-            self.alloc,
-            self.base.clone()?,
-            HEADER,
-            Arc::try_clone(calls)?,
-        ) {
-            Ok(_store) => {
-                let tools = Tools {
-                    alloc: self.alloc,
-                    ops: self.ops,
-                };
-                Ok(run_events(
-                    &tools,
-                    self.base.clone()?,
-                    HEADER,
-                    Arc::try_clone(calls)?,
-                    events,
-                )?)
-            }
+        let calls = self.store_calls(HEADER, calls)?;
+        let base = self.base.clone()?;
+        let tools = Tools {
+            alloc: self.alloc,
+            ops: self.ops,
+        };
+        Ok(run_events(&tools, base, HEADER, calls, events)?)
+    }
+
+    /// The calls, where a store opens for them, which says that they are few, each of the header's profile.
+    fn store_calls(&self, header: Header, calls: &Arc<Vec<Call>>) -> Result<Arc<Vec<Call>>, Fail>
+        ensures { IfOk result (λ calls. open_fault header (arc_value calls).items ≡ None) }
+    {
+        let own = Arc::try_clone(calls)?;
+        match Store::open(self.alloc, self.base.clone()?, header, own) {
+            Ok(_store) => Ok(Arc::try_clone(calls)?),
             Err(_) => Err("these calls make a store".into()),
         }
     }

@@ -7,6 +7,7 @@ use crate::data::{bytes_of, calls_of, ledger_of, programs, stand_once};
 use crate::script::Script;
 use crate::sets::full_ops;
 use avm_block::{Block, encode};
+use avm_call::Call;
 use avm_ledger::{Header, Ledger};
 use avm_ops::{Op, Ops};
 use avm_pool::{Draft, Gate, Proposal, ThreadSets, propose};
@@ -91,12 +92,38 @@ pub fn wrong<R: Threads + Wait + Sync, O: Op>(
     sets: ThreadSets<O>,
     other: Ops<O>,
 ) -> Result<Option<&'static str>, Fail> {
+    let other = full_ops(other)?;
+    wrong_by(rt, alloc, case, sets, &other)
+}
+
+fn wrong_by<R: Threads + Wait + Sync, O: Op>(
+    rt: &R,
+    alloc: Global,
+    case: &Case,
+    sets: ThreadSets<O>,
+    other: &FullOps<O>,
+) -> Result<Option<&'static str>, Fail> {
     let programs = programs(alloc)?;
     let base = ledger_of(alloc, &programs, case.base)?;
     let calls = calls_of(alloc, &programs, case.calls, case.times)?;
+    match made(rt, alloc, case, &base, calls, sets)? {
+        Ok(block) => difference(alloc, case, &programs, &base, &block, other),
+        Err(wrong) => Ok(Some(wrong)),
+    }
+}
+
+/// The block of a case's calls, or what went otherwise as it was made.
+fn made<R: Threads + Wait + Sync, O: Op>(
+    rt: &R,
+    alloc: Global,
+    case: &Case,
+    base: &Ledger,
+    calls: Vec<Call>,
+    sets: ThreadSets<O>,
+) -> Result<Result<Block, &'static str>, Fail> {
     let gate = Script::new(alloc, case.holds, calls.len())?;
     let draft = Draft {
-        base: &base,
+        base,
         header: Header {
             profile: case.profile,
             ..HEADER
@@ -105,19 +132,31 @@ pub fn wrong<R: Threads + Wait + Sync, O: Op>(
     };
     let block = proposed(rt, alloc, draft, sets, &gate)?;
     if !gate.is_passed() {
-        return Ok(Some("someone waited in vain, or a call was not committed once"));
+        Ok(Err("someone waited in vain, or a call was not committed once"))
+    } else if case.first && !gate.is_first() {
+        Ok(Err("a call was made again"))
+    } else {
+        Ok(Ok(block))
     }
-    if case.first && !gate.is_first() {
-        return Ok(Some("a call was made again"));
-    }
-    if !has_timestamps(&block, case.timestamps) {
+}
+
+/// What differs from the case in a block over its ledger, if something does.
+fn difference<O: Op>(
+    alloc: Global,
+    case: &Case,
+    programs: &Programs,
+    base: &Ledger,
+    block: &Block,
+    ops: &FullOps<O>,
+) -> Result<Option<&'static str>, Fail> {
+    if !has_timestamps(block, case.timestamps) {
         return Ok(Some("the timestamps"));
     }
-    if !has_bytes(alloc, &block, case.block)? {
+    if !has_bytes(alloc, block, case.block)? {
         return Ok(Some("the block's bytes"));
     }
-    let after = replayed(alloc, &base, &block, &full_ops(other)?)?;
-    if !is_one_of(alloc, &programs, after.as_slice(), &case.after)? {
+    let after = replayed(alloc, base, block, ops)?;
+    if !is_one_of(alloc, programs, after.as_slice(), &case.after)? {
         return Ok(Some("the ledger after"));
     }
     Ok(None)

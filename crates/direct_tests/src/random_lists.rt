@@ -7,6 +7,7 @@ use crate::random::Random;
 use crate::sets::{filled_ops, full_ops};
 use avm_call::Call;
 use avm_ops::{Op, Ops};
+use avm_run::FullOps;
 use mv_core::{Event, Worker};
 use std::alloc::{AllocError, Global};
 use std::sync::Arc;
@@ -120,15 +121,35 @@ fn run_list<O: Op>(
 
 /// So many lists, each of its number as seed.
 fn run_lists<O: Op>(alloc: Global, ops: Ops<O>, lists: u64, tally: &mut Tally) -> Result<(), Fail> {
+    let ops = full_ops(ops)?;
+    run_by(alloc, &ops, lists, tally)
+}
+
+fn run_by<O: Op>(
+    alloc: Global,
+    ops: &FullOps<O>,
+    lists: u64,
+    tally: &mut Tally,
+) -> Result<(), Fail> {
     let programs = programs(alloc)?;
+    let base = ledger_of(alloc, &programs, BASE)?;
     let all = calls_of(alloc, &programs, &ROWS, 1)?;
     let bench = Bench {
         alloc,
-        ops: &full_ops(ops)?,
-        base: &ledger_of(alloc, &programs, BASE)?,
+        ops,
+        base: &base,
     };
+    run_each(&bench, &all, lists, tally)
+}
+
+fn run_each<O: Op>(
+    bench: &Bench<O>,
+    all: &[Call],
+    lists: u64,
+    tally: &mut Tally,
+) -> Result<(), Fail> {
     for seed in 0..lists {
-        run_list(&bench, &all, seed, tally)?;
+        run_list(bench, all, seed, tally)?;
     }
     Ok(())
 }

@@ -61,6 +61,19 @@ struct Said {
     row: Row,
     bench: Bench,
     blocks: Blocks,
+    /// The rows of stores, if any has come.
+    of_stores: Option<Vec<String>>,
+}
+
+impl Said {
+    fn new(alloc: Global) -> Said {
+        Said {
+            row: Row::new(alloc),
+            bench: Bench::new(alloc),
+            blocks: Blocks::new(alloc),
+            of_stores: None,
+        }
+    }
 }
 
 fn main(rt: HostRuntime) -> Result<(), Fail> {
@@ -77,28 +90,37 @@ fn with_full<O: Op>(rt: &HostRuntime, ops: Ops<O>) -> Result<(), Fail> {
 }
 
 fn all_rows<O: Op>(rt: &HostRuntime, ops: &FullOps<O>) -> Result<(), Fail> {
-    let alloc = rt.alloc();
-    let mut said = Said {
-        row: Row::new(alloc),
-        bench: Bench::new(alloc),
-        blocks: Blocks::new(alloc),
-    };
-    let mut of_stores = Vec::new(alloc);
-    let mut is_of_stores = false;
-    for line in rt.lines(alloc) {
-        let line = line?;
-        if is_of_stores {
-            of_stores.push(line)?;
-        } else if line.as_str() == "stores" {
-            is_of_stores = true;
-        } else {
-            carry_out(rt, ops, &mut said, line.as_str())?;
-        }
+    let mut said = Said::new(rt.alloc());
+    carry_out_lines(rt, ops, &mut said)?;
+    match said.of_stores.take() {
+        Some(lines) => carry_out_all(rt, ops, lines),
+        None => Ok(()),
     }
-    if is_of_stores {
-        carry_out_all(rt, ops, of_stores)?;
+}
+
+/// Carries out each row but those of stores, which wait for the end of the lines.
+fn carry_out_lines<O: Op>(rt: &HostRuntime, ops: &FullOps<O>, said: &mut Said) -> Result<(), Fail> {
+    for line in rt.lines(rt.alloc()) {
+        carry_out_line(rt, ops, said, line?)?;
     }
     Ok(())
+}
+
+fn carry_out_line<O: Op>(
+    rt: &HostRuntime,
+    ops: &FullOps<O>,
+    said: &mut Said,
+    line: String,
+) -> Result<(), Fail> {
+    if let Some(lines) = &mut said.of_stores {
+        lines.push(line)?;
+        return Ok(());
+    }
+    if line.as_str() == "stores" {
+        said.of_stores = Some(Vec::new(rt.alloc()));
+        return Ok(());
+    }
+    carry_out(rt, ops, said, line.as_str())
 }
 
 /// Carries out a row, and prints it with its answer where it has one.

@@ -26,10 +26,20 @@ pub fn carry_out_all<O: Op>(
     let rows = rows(alloc, lines)?;
     let mut stores = Stores::new(alloc)?;
     let mut journals = Journals::new(alloc);
+    carry_out_rows(rt, ops, &mut stores, &mut journals, rows.as_slice())
+}
+
+fn carry_out_rows<O: Op>(
+    rt: &HostRuntime,
+    ops: &FullOps<O>,
+    stores: &mut Stores,
+    journals: &mut Journals,
+    rows: &[Row],
+) -> Result<(), Fail> {
     println!(rt; "stores")?;
-    for row in rows.as_slice() {
+    for row in rows {
         println!(rt; "{}", row.line)?;
-        carry_out(rt, ops, &mut stores, &mut journals, row)?;
+        carry_out(rt, ops, stores, journals, row)?;
     }
     Ok(())
 }

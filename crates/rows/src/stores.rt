@@ -1,5 +1,9 @@
 //! Events of a store, and looks at it.
 
+ghost use Rattle.std.specs.Prelude.{◌≡◌, IfOk, None};
+ghost use Rattle.std.specs.Arc.{arc_value};
+ghost use Rattle.mv_parts.specs.Opening.{open_fault};
+
 use crate::item_texts::{digits_of, entries_text, item_text, late_text, value_text};
 use crate::script::Step;
 use crate::sealed::{block_text, replay_text};
@@ -399,10 +403,18 @@ fn world_after<O: Op>(
     stored: &Stored,
     events: &[Event],
 ) -> Result<World, AllocError> {
-    let Stored { base, calls } = stored.copied()?;
-    // That a store is opened says that there are few calls, each of the header's profile.
-    match Store::open(alloc, base.clone()?, HEADER, Arc::try_clone(&calls)?) {
-        Ok(_store) => run_events(&Tools { alloc, ops }, base, HEADER, calls, events),
+    let calls = store_calls(alloc, HEADER, stored)?;
+    let base = stored.base.clone()?;
+    run_events(&Tools { alloc, ops }, base, HEADER, calls, events)
+}
+
+/// The calls, where a store opens for them, which says that they are few, each of the header's profile.
+fn store_calls(alloc: Global, header: Header, stored: &Stored) -> Result<Arc<Vec<Call>>, AllocError>
+    ensures { IfOk result (λ calls. open_fault header (arc_value calls).items ≡ None) }
+{
+    let own = Arc::try_clone(&stored.calls)?;
+    match Store::open(alloc, stored.base.clone()?, header, own) {
+        Ok(_store) => Arc::try_clone(&stored.calls),
         Err(_) => Err(AllocError),
     }
 }
