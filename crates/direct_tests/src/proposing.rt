@@ -7,7 +7,6 @@ use crate::data::{bytes_of, calls_of, ledger_of, programs, stand_once};
 use crate::script::Script;
 use crate::sets::full_ops;
 use avm_block::{Block, encode};
-use avm_call::Call;
 use avm_ledger::{Header, Ledger};
 use avm_ops::{Op, Ops};
 use avm_pool::{Draft, Gate, Proposal, ThreadSets, propose};
@@ -105,8 +104,15 @@ fn wrong_by<R: Threads + Wait + Sync, O: Op>(
 ) -> Result<Option<&'static str>, Fail> {
     let programs = programs(alloc)?;
     let base = ledger_of(alloc, &programs, case.base)?;
-    let calls = calls_of(alloc, &programs, case.calls, case.times)?;
-    match made(rt, alloc, case, &base, calls, sets)? {
+    let draft = Draft {
+        base: &base,
+        header: Header {
+            profile: case.profile,
+            ..HEADER
+        },
+        calls: calls_of(alloc, &programs, case.calls, case.times)?,
+    };
+    match made(rt, alloc, case, draft, sets)? {
         Ok(block) => difference(alloc, case, &programs, &base, &block, other),
         Err(wrong) => Ok(Some(wrong)),
     }
@@ -117,19 +123,10 @@ fn made<R: Threads + Wait + Sync, O: Op>(
     rt: &R,
     alloc: Global,
     case: &Case,
-    base: &Ledger,
-    calls: Vec<Call>,
+    draft: Draft<Ledger>,
     sets: ThreadSets<O>,
 ) -> Result<Result<Block, &'static str>, Fail> {
-    let gate = Script::new(alloc, case.holds, calls.len())?;
-    let draft = Draft {
-        base,
-        header: Header {
-            profile: case.profile,
-            ..HEADER
-        },
-        calls,
-    };
+    let gate = Script::new(alloc, case.holds, draft.calls.len())?;
     let block = proposed(rt, alloc, draft, sets, &gate)?;
     if !gate.is_passed() {
         Ok(Err("someone waited in vain, or a call was not committed once"))
