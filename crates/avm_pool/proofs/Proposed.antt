@@ -5,12 +5,15 @@ use Rattle.std.proofs.lemmas.List.Sums.{sum_by-cons}
 use Rattle.std.proofs.lemmas.Bool.{eqb-true}
 use Rattle.sha2.specs.Sha256.{sha256}
 use Rattle.avm_ledger.specs.declared.header.Header.{Header}
+use Rattle.avm_ledger.specs.Ledgers.{Ledger}
 use Rattle.avm_block.specs.declared.entry.Entry.{Entry}
 use Rattle.avm_block.specs.Blocks.{Block}
 use Rattle.avm_block.specs.BlockSpelling.{block_bytes, front_bytes}
 use Rattle.mv_parts.specs.Journals.{Journal}
 use Rattle.mv_parts.specs.Sealing.{IsSealed}
+use Rattle.avm_pool.specs.declared.finishing.Parts.{Parts}
 use Rattle.avm_pool.specs.declared.proposal.Proposal.{Proposal}
+use Rattle.avm_pool.specs.Finishing.{AreParts}
 use Rattle.avm_pool.specs.Proposals.{AreNumbersTo, IsProposal, left_to, times}
 use Rattle.avm_pool.proofs.Remaining.{all_numbers, rising}
 
@@ -39,6 +42,10 @@ sealed_is_proposal j p s left =
       all = subst P (sym left) (all_numbers xs n s.once (λ m some. within_counted n m xs s.within some));
       rising = subst Q (sym left) (rising xs n);
     }
+
+-- parts over a journal's own ledger and header, whatever they are called
+pub parts_of_own : (j : Journal) (base : Ledger) (header : Header) (p : Parts) → j.base ≡ base → j.header ≡ header → AreParts j base header p → AreParts j j.base j.header p
+parts_of_own j base header p own_base own_header parts = subst (λ (b : Ledger). AreParts j b j.header p) (sym own_base) (subst (λ (h : Header). AreParts j base h p) (sym own_header) parts)
 
 -- the bytes that a front comes to are those of the block of its parts
 pub spelled_as_made : (b : Block) (base : List ℕ) (header : Header) (entries : List Entry) (after front bytes : List ℕ) → b ≡ record { base = base; header = header; entries = entries; after = after }

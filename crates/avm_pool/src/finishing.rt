@@ -48,22 +48,34 @@ pub(crate) fn proposal_of<R: Threads + Sync, const ENDS: bool>(
     if !is_own {
         return Ok(None);
     }
+    let proposal = proposal_with(alloc, &journal, parts?)?;
+    to_free::<Journal, ENDS>(journal);
+    Ok(Some(proposal))
+}
+
+/// The proposal that a journal's parts make.
+fn proposal_with(alloc: Global, journal: &Journal, parts: Parts) -> Result<Proposal, AllocError>
+    requires { AreParts journal.now journal.now.base journal.now.header parts }
+    ensures { IfOk result
+        (IsProposal journal.now.base journal.now.header journal.now.calls) }
+{
     let Parts {
         entries,
         front,
         after,
-    } = parts?;
-    let Sealed { block, numbers } = journal.block_with(alloc, entries, after)?;
+    } = parts;
     let bytes = front.finish(&after)?;
+    let Sealed { block, numbers } = journal.block_with(alloc, entries, after)?;
+    // How many calls there are at most, as the journal keeps it.
+    journal.holds();
     let count = journal.calls().len() as u32;
-    to_free::<Journal, ENDS>(journal);
     let left = left_of(alloc, &numbers, count)?;
-    Ok(Some(Proposal {
+    Ok(Proposal {
         block,
         bytes,
         numbers,
         left,
-    }))
+    })
 }
 
 /// Whether a journal is of this draft, and the parts of its block.

@@ -87,17 +87,23 @@ fn commit(journal: &mut Journal, held: &mut Held, attempt: Attempt, finished: Fi
     }
     match journal.commit(held, attempt, finished) {
         Ok(_timestamp) => Worked::Done,
-        Err(refused) => {
-            let RefusedCommit {
-                error,
-                attempt,
-                finished: _finished,
-            } = refused;
-            match error {
-                Failure::Memory => Worked::Memory(attempt),
-                Failure::Fault(_fault) => Worked::Again(attempt),
-            }
-        }
+        Err(refused) => not_committed(refused),
+    }
+}
+
+/// What comes of a commit that was refused.
+fn not_committed(refused: RefusedCommit) -> Worked
+    ensures { (finished : _) (journal : _)
+        → Works (Commit refused.attempt finished) journal journal result }
+{
+    let RefusedCommit {
+        error,
+        attempt,
+        finished: _finished,
+    } = refused;
+    match error {
+        Failure::Memory => Worked::Memory(attempt),
+        Failure::Fault(_fault) => Worked::Again(attempt),
     }
 }
 

@@ -1,6 +1,6 @@
 //! The pool.
 
-ghost use Rattle.std.specs.Prelude.{◌≡◌, ◌≤◌, true, [], IfErr, IfOk, None, OnOk, length};
+ghost use Rattle.std.specs.Prelude.{◌≡◌, ◌≤◌, true, [], IfErr, IfOk, IfSome, None, OnOk, length};
 ghost use Rattle.std.specs.Arc.{arc_value};
 ghost use Rattle.mv_parts.specs.Opening.{open_fault};
 ghost use Rattle.mv_parts.specs.Sealing.{IsJournalOf};
@@ -18,7 +18,7 @@ use crate::rest::run_rest;
 use crate::running::Shared;
 use crate::workers::run_sets;
 use avm_ledger::Ledger;
-use avm_ops::Op;
+use avm_ops::{Op, Ops};
 use avm_run::FullOps;
 use mv_parts::{Journal, SharedBase, open_on};
 use mv_shards::{Held, SHARD_COUNT};
@@ -130,13 +130,34 @@ fn proposed<G: Gate, R: Threads + Wait + Sync, O: Op, const ENDS: bool>(
         header,
         calls,
     } = draft;
-    let Crew { workers, own } = crew;
     let calls = Arc::new(alloc, calls)?;
     let draft = SharedDraft {
         base,
         header,
         calls,
     };
+    let Crew { workers, own } = crew;
+    match by_workers::<G, R, O, ENDS>(rt, alloc, &draft, workers, &own, gate)? {
+        Some(proposal) => Ok(proposal),
+        None => proposed_anew::<G, R, O, ENDS>(rt, alloc, &draft, &own, gate),
+    }
+}
+
+/// What workers make of the calls, and one thread of those that they leave; none where the journal is not the one that was
+/// opened, or calls are live in it.
+fn by_workers<G: Gate, R: Threads + Wait + Sync, O: Op, const ENDS: bool>(
+    rt: &R,
+    alloc: Global,
+    draft: &SharedDraft,
+    workers: Vec<Ops<O>>,
+    own: &FullOps<O>,
+    gate: &G,
+) -> Result<Option<Proposal>, PoolError>
+    requires opens { open_fault draft.now.header (arc_value draft.now.calls).items ≡ None }
+    ensures proposal { IfOk result (λ made. IfSome made
+        (IsProposal draft.now.base.now draft.now.header (arc_value draft.now.calls).items)) }
+    ensures want { IfErr result IsWant }
+{
     let (journal, shards) = draft.open(alloc)?;
     let journal = Mutex::new(journal);
     let shared = Shared {
@@ -148,15 +169,13 @@ fn proposed<G: Gate, R: Threads + Wait + Sync, O: Op, const ENDS: bool>(
     };
     run_sets(rt, &journal, &shared, workers)?;
     let mut journal = journal.into_inner();
-    if journal.is_over() {
-        if !run_rest(rt, &shared, &mut journal, &own) {
-            return Err(Failure::Fault(PoolFault::ClockEnd));
-        }
-        if let Some(proposal) = proposal_of::<R, ENDS>(rt, alloc, journal, shards, &draft)? {
-            return Ok(proposal);
-        }
+    if !journal.is_over() {
+        return Ok(None);
     }
-    proposed_anew::<G, R, O, ENDS>(rt, alloc, &draft, &own, gate)
+    if !run_rest(rt, &shared, &mut journal, own) {
+        return Err(Failure::Fault(PoolFault::ClockEnd));
+    }
+    Ok(proposal_of::<R, ENDS>(rt, alloc, journal, shards, draft)?)
 }
 
 /// What one thread makes of all calls. It is for a journal that is not the one that was opened, which nothing rules out that

@@ -1,6 +1,8 @@
 //! What one thread does once the workers have ended.
 
 ghost use Rattle.std.specs.Prelude.{◌≡◌, []};
+ghost use Rattle.avm_pool.specs.Holding.{Works};
+ghost use Rattle.avm_pool.specs.declared.holding.Work.TheVariants.{Commit};
 ghost use Rattle.avm_pool.specs.Resting.{IsAlone, IsStill};
 
 use crate::gate::{Gate, GateEvent};
@@ -93,6 +95,23 @@ fn commit<G: Gate, R: Wait>(
 {
     let number = attempt.number();
     shared.gate.pause(number, 0, GateEvent::BeforeCommit);
+    match worked(rt, shared, journal, attempt, finished) {
+        Worked::Done => shared.gate.pause(number, 0, GateEvent::Committed),
+        Worked::Again(attempt) => abandon(journal, attempt),
+        Worked::Memory(attempt) => abandon(journal, attempt),
+    }
+}
+
+/// What comes of a commit.
+fn worked<G: Gate, R: Wait>(
+    rt: &R,
+    shared: &Shared<G>,
+    journal: &mut Journal,
+    attempt: Attempt,
+    finished: Finished,
+) -> Worked
+    ensures { Works (Commit attempt finished) journal.old journal.new result }
+{
     let wanted = shards_of(&attempt, &finished);
     let locks = Wanted {
         rt,
@@ -100,11 +119,7 @@ fn commit<G: Gate, R: Wait>(
         wanted: &wanted,
     };
     let mut work = Work::commit(shared.alloc, attempt, finished);
-    match work_with(&locks, journal, &mut Held::new(shared.alloc), &mut work) {
-        Worked::Done => shared.gate.pause(number, 0, GateEvent::Committed),
-        Worked::Again(attempt) => abandon(journal, attempt),
-        Worked::Memory(attempt) => abandon(journal, attempt),
-    }
+    work_with(&locks, journal, &mut Held::new(shared.alloc), &mut work)
 }
 
 /// Ends the one attempt that is live.

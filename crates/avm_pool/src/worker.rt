@@ -78,25 +78,7 @@ impl<'a, O: Op> Worker<'a, O> {
         };
         take_room(shared.alloc, shared.calls.len(), CALL_ROOM);
         let mut held = Held::new(shared.alloc);
-        let mut commits = 0u32;
-        let mut next_prune = FIRST_PRUNE;
-        for _ in rt.forever() {
-            let Some(number) = numbers.draw(rt, &mut pass) else {
-                return ThreadEnd::Over;
-            };
-            match site.run_call(&mut executor, &mut held, number) {
-                AttemptEnd::Committed => {
-                    commits = commits.saturating_add(1);
-                    if commits == next_prune {
-                        next_prune = next_prune.saturating_mul(2);
-                        site.prune(&mut held);
-                    }
-                }
-                AttemptEnd::Left | AttemptEnd::Again => {}
-                AttemptEnd::ClockEnd => return ThreadEnd::ClockEnd,
-            }
-        }
-        unreachable!()
+        site.run_numbers(&mut executor, &mut held, numbers, &mut pass)
     }
 }
 
@@ -109,6 +91,37 @@ struct Site<'a, 'b, 'c, G, R> {
 }
 
 impl<'a, 'b, 'c, G: Gate, R: Wait> Site<'a, 'b, 'c, G, R> {
+    /// Draws numbers until there is none, and runs their calls.
+    fn run_numbers<O: Op>(
+        &self,
+        executor: &mut Executor<O>,
+        held: &mut Held,
+        numbers: &Numbers,
+        pass: &mut NumberPass,
+    ) -> ThreadEnd
+        requires { IsWith numbers.now pass.old }
+    {
+        let mut commits = 0u32;
+        let mut next_prune = FIRST_PRUNE;
+        for _ in self.rt.forever() {
+            let Some(number) = numbers.draw(self.rt, pass) else {
+                return ThreadEnd::Over;
+            };
+            match self.run_call(executor, held, number) {
+                AttemptEnd::Committed => {
+                    commits = commits.saturating_add(1);
+                    if commits == next_prune {
+                        next_prune = next_prune.saturating_mul(2);
+                        self.prune(held);
+                    }
+                }
+                AttemptEnd::Left | AttemptEnd::Again => {}
+                AttemptEnd::ClockEnd => return ThreadEnd::ClockEnd,
+            }
+        }
+        unreachable!()
+    }
+
     /// Runs a call, in as many attempts as it takes: it does not end with `Again`.
     fn run_call<O: Op>(
         &self,
@@ -159,16 +172,8 @@ impl<'a, 'b, 'c, G: Gate, R: Wait> Site<'a, 'b, 'c, G, R> {
     /// Commits an attempt whose call has ended, or abandons it.
     fn commit(&self, held: &mut Held, trial: Trial<G, R>, finished: Finished) -> AttemptEnd {
         trial.tell(GateEvent::BeforeCommit);
-        let Trial {
-            shared: _shared,
-            rt: _rt,
-            attempt,
-            tries,
-        } = trial;
-        let number = attempt.number();
-        let wanted = shards_of(&attempt, &finished);
-        let mut work = Work::commit(self.shared.alloc, attempt, finished);
-        match self.under_locks(held, &wanted, &mut work) {
+        let (number, tries) = (trial.attempt.number(), trial.tries);
+        match self.worked(held, trial.attempt, finished) {
             Worked::Done => {
                 self.shared.gate.pause(number, tries, GateEvent::Committed);
                 AttemptEnd::Committed
@@ -176,6 +181,13 @@ impl<'a, 'b, 'c, G: Gate, R: Wait> Site<'a, 'b, 'c, G, R> {
             Worked::Again(attempt) => self.abandon(attempt, AttemptEnd::Again),
             Worked::Memory(attempt) => self.abandon(attempt, AttemptEnd::Left),
         }
+    }
+
+    /// What comes of a commit.
+    fn worked(&self, held: &mut Held, attempt: Attempt, finished: Finished) -> Worked {
+        let wanted = shards_of(&attempt, &finished);
+        let mut work = Work::commit(self.shared.alloc, attempt, finished);
+        self.under_locks(held, &wanted, &mut work)
     }
 
     /// Takes the journal's lock, and then those of the shards that are wanted.
