@@ -14,7 +14,7 @@ use avm_items::{Item, ItemMap, ItemValue};
 use avm_ledger::Header;
 use avm_ops::Op;
 use avm_run::{Advance, CallRun, Finished, FullOps};
-use mv_parts::{CommitFault, Journal, Sealed, open_parts};
+use mv_parts::{CommitFault, Journal, RefusedCommit, Sealed, open_parts};
 use mv_shards::{Attempt, Held, Shard};
 use sample_calls::calls::HEADER;
 use sample_calls::words::{call_number, item, number, word};
@@ -506,11 +506,17 @@ fn commit(alloc: Global, parts: &mut Parts, tried: &mut Tried) -> Result<Said, A
     match parts.journal.commit(&mut parts.held, attempt, finished) {
         Ok(timestamp) => Ok(Said::Commits(timestamp)),
         Err(refused) => {
-            tried.attempt = Some(refused.attempt);
-            tried.finished = Some(refused.finished);
-            commit_refusal(alloc, &refused.error.into_fault()?)
+            let fault = handed_back(tried, refused)?;
+            commit_refusal(alloc, &fault)
         }
     }
+}
+
+/// Keeps what a refused commit hands back, and gives what it was refused for.
+fn handed_back(tried: &mut Tried, refused: RefusedCommit) -> Result<CommitFault, AllocError> {
+    tried.attempt = Some(refused.attempt);
+    tried.finished = Some(refused.finished);
+    refused.error.into_fault()
 }
 
 fn commit_refusal(alloc: Global, fault: &CommitFault) -> Result<Said, AllocError> {

@@ -12,6 +12,7 @@
 //! `sample_calls` has the words of calls and the pieces of bytes.
 
 use avm_block::{BlockFault, decode, encode};
+use avm_call::Call;
 use avm_call_codec::{CallCodec, CallDataFault};
 use avm_items::CallData;
 use avm_ledger::{Header, Ledger, LedgerFault, Profile};
@@ -142,15 +143,19 @@ fn ledger_read(alloc: Global, bench: &mut Bench, words: &[&str]) -> Result<Strin
 
 /// A call's bytes read and written.
 fn call_data_again(alloc: Global, bench: &Bench, words: &[&str]) -> Result<String, Fail> {
-    match CallData::read(alloc, joined(alloc, &bench.programs, words)?.as_slice()) {
-        Ok(call) => {
-            let mut bytes = Vec::new(alloc);
-            call.encode_into(&mut bytes)?;
-            Ok(hex::encode(alloc, bytes.as_slice())?)
-        }
+    let bytes = joined(alloc, &bench.programs, words)?;
+    match CallData::read(alloc, bytes.as_slice()) {
+        Ok(call) => call_digits(alloc, &call),
         Err(Failure::Fault(fault)) => Ok(format!(in alloc; "{fault:?}")?),
         Err(Failure::Memory) => Err("memory is refused".into()),
     }
+}
+
+/// The bytes of a call.
+fn call_digits(alloc: Global, call: &CallData) -> Result<String, Fail> {
+    let mut bytes = Vec::new(alloc);
+    call.encode_into(&mut bytes)?;
+    Ok(hex::encode(alloc, bytes.as_slice())?)
 }
 
 /// A block's bytes read and written.
@@ -173,17 +178,23 @@ fn called<O: Op>(
     match call_or_fault(alloc, &bench.programs, words)? {
         Ok(call) => {
             let header = bench.header(profile.unwrap_or(call.needs()));
-            let context = RunContext {
-                alloc,
-                ops,
-                header: &header,
-            };
-            let mut spare = None;
-            let outcome = call_on(&context, &mut bench.ledger, &call, &mut spare)?;
-            Ok(format!(in alloc; "{outcome:?} {:?}", header.profile)?)
+            outcome_text(alloc, ops, &mut bench.ledger, &header, &call)
         }
         Err(fault) => Ok(format!(in alloc; "{fault:?}")?),
     }
+}
+
+/// How a call ends, which is made on a ledger under a header.
+fn outcome_text<O: Op>(
+    alloc: Global,
+    ops: &FullOps<O>,
+    ledger: &mut Ledger,
+    header: &Header,
+    call: &Call,
+) -> Result<String, Fail> {
+    let context = RunContext { alloc, ops, header };
+    let outcome = call_on(&context, ledger, call, &mut None)?;
+    Ok(format!(in alloc; "{outcome:?} {:?}", header.profile)?)
 }
 
 /// How many proper beginnings of bytes of a kind are truncated.
