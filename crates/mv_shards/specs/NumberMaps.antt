@@ -1,6 +1,6 @@
 -- Numbers of items. An item's number is found by a mix of the item, a word, or, where another item has taken the mix, by the
 -- item itself.
-use Rattle.std.specs.Prelude.{ℕ, ◌+◌, ◌*◌, ◌%◌, ◌^◌, List, [], ◌∷◌, Option, None, Some}
+use Rattle.std.specs.Prelude.{ℕ, ◌+◌, ◌*◌, ◌%◌, ◌^◌, List, [], ◌∷◌, drop, take, Option, None, Some}
 use Rattle.std.specs.Map.{lookup}
 use Rattle.std.specs.BTreeMap.{insert_entry, is_at}
 use Rattle.std.specs.Ordering.{nat_cmp}
@@ -23,7 +23,7 @@ mix_of NextApp = 0
 mix_of (App id) = mixed_with id 1
 mix_of (Counts id) = mixed_with id 2
 mix_of (Key id key) = mixed_bytes (mixed_with id 3) key
-mix_of (Local who id) = mixed_bytes (mixed_with id 4) who.0
+mix_of (Local who id) = mixed_bytes (mixed_with id 4) (take 8 (drop 24 who.0))
 
 -- ---- the numbers that are noted
 

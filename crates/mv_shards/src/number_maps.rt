@@ -83,7 +83,8 @@ fn mix_of(item: &Item) -> u64
         Item::App(id) => with(*id, 1),
         Item::Counts(id) => with(*id, 2),
         Item::Key(id, key) => with_all(with(*id, 3), key.as_slice()),
-        Item::Local(who, id) => with_all(with(*id, 4), &who.0),
+        // The last bytes of an account tell it from others nearly as well as all of them.
+        Item::Local(who, id) => with_all(with(*id, 4), &who.0[24..]),
     }
 }
 
