@@ -192,7 +192,8 @@ impl Held {
     }
 
     /// Marks what a commit at a timestamp has read, and adds a version of each item that it writes, here and in other shards.
-    /// All room is made first: where memory is refused, nothing has changed in either.
+    /// All room is made first: where memory is refused, nothing has changed in either. Where the chains stand is listed by the
+    /// others: they are a thread's own, and these lists then stay with its processor.
     pub fn write_both(
         &mut self,
         others: &mut Held,
@@ -208,7 +209,7 @@ impl Held {
         ensures unchanged { OnErr result ((self.new ≡ self.old) × (others.new ≡ others.old)) }
     {
         write_parts(
-            &mut self.rooms,
+            &mut others.rooms,
             &mut self.parts,
             &mut others.parts,
             reads,
