@@ -509,10 +509,12 @@ impl Cpu {
     }
 
     /// Puts a copy of bytes in the place of the value on top: in the memory of that, if it is a byte string that has enough.
+    /// Where memory is refused that value stays.
     pub fn set_bytes(&mut self, alloc: Global, bytes: &[u8]) -> Result<(), AllocError>
         requires { 0 < length self.old.stack }
-        ensures { IfOk result
+        ensures set { IfOk result
             (λ _. self.new ≡ with_stack self.old (Bytes bytes.now ∷ drop 1 self.old.stack)) }
+        ensures unchanged { IfErr result (λ _. self.new ≡ self.old) }
     {
         let _depth = self.depth();
         let place = self.depth - 1;

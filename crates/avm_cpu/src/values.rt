@@ -1,7 +1,7 @@
 //! Lists of values that are full at all times: what stands in one is written over in place, so that the first values of a
 //! list, so many, grow and shrink by a count alone.
 
-ghost use Rattle.std.specs.Prelude.{◌≡◌, ◌-◌, ◌<◌, ◌≤◌, ◌∷◌, length, drop, replicate, reverse, slice_get, slice_set, take, IfOk, Some};
+ghost use Rattle.std.specs.Prelude.{◌≡◌, ◌-◌, ◌<◌, ◌≤◌, ◌∷◌, length, drop, replicate, reverse, slice_get, slice_set, take, IfErr, IfOk, MatchResult, Some};
 ghost use Rattle.std.specs.Option.{option_copied};
 ghost use Rattle.teal_value.specs.declared.value.Value.TheVariants.{Bytes, Uint};
 ghost use Rattle.avm_cpu.specs.Operands.{two_values};
@@ -68,7 +68,8 @@ fn write_uint_over_bytes(there: &mut Value, number: u64)
     *there = Value::Uint(number);
 }
 
-/// Writes a copy of bytes to a place: in the memory of the value there, if it is a byte string that has enough.
+/// Writes a copy of bytes to a place: in the memory of the value there, if it is a byte string that has enough. Where memory is
+/// refused the value there stays.
 #[inline]
 pub(crate) fn write_bytes<const N: usize>(
     values: &mut ArrayVec<Value, N>,
@@ -79,6 +80,7 @@ pub(crate) fn write_bytes<const N: usize>(
     requires { place < length values.old.items }
     ensures written { IfOk result
         (λ _. values.new.items ≡ slice_set values.old.items place (Bytes bytes.now)) }
+    ensures unchanged { IfErr result (λ _. values.new.items ≡ values.old.items) }
     ensures len { length values.new.items ≡ length values.old.items }
 {
     write_bytes_over(&mut values.as_mut_slice()[place], alloc, bytes)
@@ -86,7 +88,7 @@ pub(crate) fn write_bytes<const N: usize>(
 
 #[inline]
 fn write_bytes_over(there: &mut Value, alloc: Global, bytes: &[u8]) -> Result<(), AllocError>
-    ensures { IfOk result (λ _. there.new ≡ Bytes bytes.now) }
+    ensures { MatchResult result (λ _. there.new ≡ Bytes bytes.now) (λ _. there.new ≡ there.old) }
 {
     match there {
         Value::Bytes(before) => before.rewrite(alloc, bytes),

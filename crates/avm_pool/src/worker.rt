@@ -91,7 +91,7 @@ struct Site<'a, 'b, 'c, G, R> {
 }
 
 impl<'a, 'b, 'c, G: Gate, R: Wait> Site<'a, 'b, 'c, G, R> {
-    /// Draws numbers until there is none, and runs their calls.
+    /// Runs the calls of the numbers that are drawn, and prunes after some commits.
     fn run_numbers<O: Op>(
         &self,
         executor: &mut Executor<O>,

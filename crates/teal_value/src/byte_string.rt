@@ -1,6 +1,6 @@
 //! Lists that contracts see as lists, without the memory that holds them.
 
-ghost use Rattle.std.specs.Prelude.{◌≡◌, ◌<◌, ◌↔◌, [], IsTrue, length, IfNone, IfOk, IfSome};
+ghost use Rattle.std.specs.Prelude.{◌≡◌, ◌<◌, ◌↔◌, [], IsTrue, length, IfNone, IfOk, IfSome, MatchResult};
 
 use crate::list_memory::write_over;
 use arrayvec::ArrayVec;
@@ -84,10 +84,10 @@ impl ByteString {
         }
     }
 
-    /// Becomes other bytes, in the memory of these where they fit.
+    /// Becomes other bytes, in the memory of these where they fit. Where memory is refused these stay.
     #[inline(always)]
     pub fn rewrite(&mut self, alloc: Global, bytes: &[u8]) -> Result<(), AllocError>
-        ensures { IfOk result (λ _. self.new ≡ bytes.now) }
+        ensures { MatchResult result (λ _. self.new ≡ bytes.now) (λ _. self.new ≡ self.old) }
     {
         match &mut self.bytes {
             Bytes::Here(_) => {

@@ -4,8 +4,8 @@ use Rattle.avm_cpu.specs.Machine.{Machine}
 use Rattle.avm_cpu.proofs.Tops.{many, written_top}
 use Rattle.avm_cpu.proofs.cpu.Cpu.set_bytes.Goals as goal
 
-pub returns : goal.returns
-returns c =
+pub returns-clause-set : goal.returns-clause-set
+returns-clause-set c =
     let xs = c.self.inside.stack.value.items in
     let n = c.self.inside.depth in
     let fits : n ≤ length xs = omega arith in
