@@ -22,6 +22,10 @@ format_bytes profile.Three = 2 ∷ 3 ∷ []
 abbrev pub block_entry_bytes : Entry → List ℕ
 block_entry_bytes e = u64_bytes e.timestamp ++ call_bytes e.call ++ outcome_bytes e.outcome
 
+-- what stands before the entries of a block that has so many, over a ledger with this digest
+abbrev pub front_start : List ℕ → Header → ℕ → List ℕ
+front_start base header count = magic ++ format_bytes header.profile ++ base ++ header_bytes header ++ u32_bytes count
+
 -- all up to the digest of the ledger after, of a block of these entries over a ledger with this digest
 abbrev pub front_bytes : List ℕ → Header → List Entry → List ℕ
 front_bytes base header entries = magic ++ format_bytes header.profile ++ base ++ header_bytes header ++ counted_bytes u32_bytes block_entry_bytes entries

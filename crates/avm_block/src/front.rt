@@ -2,9 +2,9 @@
 //! makes a block can do so while that digest is made.
 
 ghost use Rattle.std.specs.Prelude.{◌≡◌, ◌++◌, IfOk, OnOk};
+ghost use Rattle.std.specs.List.{flat_map};
 ghost use Rattle.sha2.specs.Sha256.{sha256};
-ghost use Rattle.avm_ledger.specs.Spellings.{counted_bytes, u32_bytes};
-ghost use Rattle.avm_block.specs.BlockSpelling.{block_entry_bytes, front_bytes};
+ghost use Rattle.avm_block.specs.BlockSpelling.{block_entry_bytes, front_bytes, front_start};
 
 use crate::entry::Entry;
 use crate::header_codec::{put_format, put_header};
@@ -47,10 +47,37 @@ impl Front {
     ) -> Result<Front, AllocError>
         ensures { IfOk result (λ front. front ≡ front_bytes base.now header.now entries.now) }
     {
+        Front::begin(alloc, base, header, entries.len())?.with(entries)
+    }
+
+    /// What stands before the entries of a block that has so many, over a ledger with the digest `base`.
+    pub fn begin(
+        alloc: Global,
+        base: &[u8; 32],
+        header: &Header,
+        count: usize,
+    ) -> Result<Front, AllocError>
+        ensures { IfOk result (λ front. front ≡ front_start base.now header.now count) }
+    {
         let mut bytes = Vec::new(alloc);
-        put_front(&mut bytes, base, header, entries)?;
+        put_start(&mut bytes, base, header, count)?;
         let mut hasher = Sha256::new();
         hasher.update(bytes.as_slice());
+        Ok(Front { bytes, hasher })
+    }
+
+    /// The front with these entries behind those that it has. So whoever makes a block can write and hash its first entries
+    /// before the last are known.
+    pub fn with(self, entries: &[Entry]) -> Result<Front, AllocError>
+        ensures { IfOk result (λ front. front ≡ self ++ flat_map block_entry_bytes entries.now) }
+    {
+        let Front {
+            mut bytes,
+            mut hasher,
+        } = self;
+        let before = bytes.len();
+        put_entries(&mut bytes, entries)?;
+        hasher.update(&bytes[before..]);
         Ok(Front { bytes, hasher })
     }
 
@@ -71,29 +98,28 @@ impl Front {
     }
 }
 
-/// Appends a block's front. Where memory runs out a part may have been appended.
-fn put_front(
+/// Appends what stands before so many entries. Where memory runs out a part may have been appended.
+fn put_start(
     bytes: &mut Vec<u8>,
     base: &[u8; 32],
     header: &Header,
-    entries: &[Entry],
+    count: usize,
 ) -> Result<(), AllocError>
     ensures { OnOk result
-        (bytes.new.items ≡ bytes.old.items ++ front_bytes base.now header.now entries.now) }
+        (bytes.new.items ≡ bytes.old.items ++ front_start base.now header.now count) }
 {
     bytes.extend_from_slice(&MAGIC)?;
     put_format(bytes, header.profile)?;
     bytes.extend_from_slice(base)?;
     put_header(bytes, header)?;
-    put_entries(bytes, entries)?;
+    put_long_count(bytes, count)?;
     Ok(())
 }
 
 fn put_entries(bytes: &mut Vec<u8>, entries: &[Entry]) -> Result<(), AllocError>
-    ensures { OnOk result (bytes.new.items
-        ≡ bytes.old.items ++ counted_bytes u32_bytes block_entry_bytes entries.now) }
+    ensures { OnOk result
+        (bytes.new.items ≡ bytes.old.items ++ flat_map block_entry_bytes entries.now) }
 {
-    put_long_count(bytes, entries.len())?;
     for entry in entries {
         put_entry(bytes, entry)?;
     }
