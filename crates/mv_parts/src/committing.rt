@@ -68,7 +68,7 @@ pub(crate) fn insert_entry(entries: &mut Vec<Entry>, entry: Entry)
 }
 
 /// How many entries are not above a timestamp.
-fn index_of(entries: &[Entry], timestamp: u64) -> usize
+pub(crate) fn index_of(entries: &[Entry], timestamp: u64) -> usize
     requires { IsRising 0 entries.now }
     ensures { result ≡ entries_not_above timestamp entries.now }
 {

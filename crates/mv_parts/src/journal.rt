@@ -8,7 +8,7 @@ ghost use Rattle.mv_parts.specs.CallNumbers.{call_of};
 ghost use Rattle.mv_parts.specs.SerialCalls.{AreOfCalls, AreSerialCalls};
 ghost use Rattle.mv_shards.specs.Helds.{ArePruned};
 ghost use Rattle.teal_value.specs.declared.failure.Failure.TheVariants.{Memory};
-ghost use Rattle.mv_parts.specs.Commits.{AreCovered, IsCommitRefusal, IsCommitted, IsTestRefusal, IsWriteRefusal, MayCommit, MayWrite};
+ghost use Rattle.mv_parts.specs.Commits.{entries_not_above, AreCovered, IsCommitRefusal, IsCommitted, IsTestRefusal, IsWriteRefusal, MayCommit, MayWrite};
 ghost use Rattle.mv_parts.specs.Journals.{AreLiveCalls, IsBeginRefusal, IsIndexedStore, IsLive, begin_fault};
 ghost use Rattle.mv_parts.specs.Opening.{open_fault};
 
@@ -17,7 +17,7 @@ use crate::begin_fault::{BeginError, BeginFault};
 use crate::call_state::CallState;
 use crate::commit_fault::{CommitFault, RefusedCommit};
 use crate::commit_tests::{is_own_call, late, moved};
-use crate::committing::{entry_of, insert_entry, write_all};
+use crate::committing::{entry_of, index_of, insert_entry, write_all};
 use crate::entry::Entry;
 use crate::live::LiveCalls;
 use crate::serial_calls::every_consistent_world_of_calls_is_serial;
@@ -151,6 +151,17 @@ impl Journal {
             Some((first, _number)) => self.low.max(bound.min(first)),
             None => self.low.max(bound),
         }
+    }
+
+    /// How many of the entries, from the first, stay as they are: those not above the low mark that a prune would make now. What
+    /// commits after stands above them.
+    pub fn settled(&self) -> usize
+        ensures count { result ≡ entries_not_above
+            (low_after_prune self.now.world self.now.world.clock) self.now.world.entries }
+        ensures few { result ≤ length self.now.world.entries }
+    {
+        self.holds();
+        index_of(&self.entries, self.low_after(self.clock))
     }
 
     /// A call that has ended joins the committed ones, at its attempt's timestamp, and is written to the shards that are held.
