@@ -1,3 +1,4 @@
+pub mod Beginnings
 pub mod Remaining
 pub mod Marks
 pub mod Proposed

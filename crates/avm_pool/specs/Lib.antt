@@ -1,3 +1,4 @@
+pub mod Ahead
 pub mod Finishing
 pub mod Holding
 pub mod Proposals

@@ -10,6 +10,7 @@ ghost use Rattle.mv_parts.specs.Sealing.{IsJournalOf};
 ghost use Rattle.avm_pool.specs.Finishing.{AreBegun, AreParts};
 ghost use Rattle.avm_pool.specs.Proposals.{IsProposal};
 
+use crate::ahead::{Ahead, front_of};
 use crate::draft::SharedDraft;
 use crate::holding::ShardLock;
 use crate::left::left_of;
@@ -21,6 +22,15 @@ use std::alloc::{AllocError, Global};
 use std::mem;
 use std::thread::{Threads, join};
 
+/// What a run of workers leaves beside its journal.
+#[derive(Drop)]
+pub(crate) struct Remains {
+    /// None where the process ends with the proposal.
+    pub shards: Option<Vec<ShardLock>>,
+    /// The front of the block so far.
+    pub ahead: Option<Ahead>,
+}
+
 /// What the bytes of a block are made of.
 #[derive(Drop)]
 pub(crate) struct Parts {
@@ -30,12 +40,12 @@ pub(crate) struct Parts {
     after: [u8; 32],
 }
 
-/// The proposal of a journal, if it is of this draft. The shards are not needed any more.
+/// The proposal of a journal, if it is of this draft.
 pub(crate) fn proposal_of<R: Threads + Sync, const ENDS: bool>(
     rt: &R,
     alloc: Global,
     journal: Journal,
-    shards: Vec<ShardLock>,
+    remains: Remains,
     draft: &SharedDraft,
 ) -> Result<Option<Proposal>, AllocError>
     ensures proposal { IfOk result (λ made. IfSome made
@@ -43,8 +53,7 @@ pub(crate) fn proposal_of<R: Threads + Sync, const ENDS: bool>(
     ensures none { IfOk result (λ made. IfNone made (IsJournalOf journal
         draft.now.base.now draft.now.header (arc_value draft.now.calls).items → ⊥)) }
 {
-    let shards = to_free::<Vec<ShardLock>, ENDS>(shards);
-    let (is_own, parts) = test_and_parts(rt, alloc, &journal, shards, draft);
+    let (is_own, parts) = test_and_parts(rt, alloc, &journal, remains, draft);
     if !is_own {
         return Ok(None);
     }
@@ -83,13 +92,14 @@ fn test_and_parts<R: Threads + Sync>(
     rt: &R,
     alloc: Global,
     journal: &Journal,
-    shards: Option<Vec<ShardLock>>,
+    remains: Remains,
     draft: &SharedDraft,
 ) -> (bool, Result<Parts, AllocError>)
     ensures own { IsTrue result.0 ↔ IsJournalOf journal.now draft.now.base.now draft.now.header
         (arc_value draft.now.calls).items }
     ensures parts { IfOk result.1 (AreParts journal.now draft.now.base.now draft.now.header) }
 {
+    let Remains { shards, ahead } = remains;
     let (base, header, calls) = (draft.base, &draft.header, draft.calls.as_slice());
     join(
         rt,
@@ -100,10 +110,10 @@ fn test_and_parts<R: Threads + Sync>(
             free_shards(shards);
             journal.is_of(base.ledger(), header, calls)
         },
-        || -> Result<Parts, AllocError>
+        move || -> Result<Parts, AllocError>
             ensures { IfOk result
                 (AreParts journal.entry.now base.entry.now header.entry.now) }
-        { parts_of(rt, alloc, journal, base, header) },
+        { parts_of(rt, alloc, journal, ahead, base, header) },
     )
 }
 
@@ -112,6 +122,7 @@ fn parts_of<R: Threads + Sync>(
     rt: &R,
     alloc: Global,
     journal: &Journal,
+    ahead: Option<Ahead>,
     base: &SharedBase,
     header: &Header,
 ) -> Result<Parts, AllocError>
@@ -123,10 +134,10 @@ fn parts_of<R: Threads + Sync>(
             ensures { IfOk result
                 (IsDigestAfter journal.entry.now.base journal.entry.now.world.entries) }
         { journal.digest_after(alloc) },
-        || -> Result<(Vec<Entry>, Front), AllocError>
+        move || -> Result<(Vec<Entry>, Front), AllocError>
             ensures { IfOk result (λ begun. AreBegun journal.entry.now
                 base.entry.now header.entry.now (begun.0.items, begun.1)) }
-        { begun_of(alloc, journal, base, header) },
+        { begun_of(alloc, journal, ahead, base, header) },
     );
     let (entries, front) = begun?;
     let after = after?;
@@ -141,6 +152,7 @@ fn parts_of<R: Threads + Sync>(
 fn begun_of(
     alloc: Global,
     journal: &Journal,
+    ahead: Option<Ahead>,
     base: &SharedBase,
     header: &Header,
 ) -> Result<(Vec<Entry>, Front), AllocError>
@@ -148,12 +160,12 @@ fn begun_of(
         (λ begun. AreBegun journal.now base.now header.now (begun.0.items, begun.1)) }
 {
     let entries = journal.block_entries(alloc)?;
-    let front = Front::of(alloc, base.digest(), header, entries.as_slice())?;
+    let front = front_of(alloc, ahead, base.digest(), header, entries.as_slice())?;
     Ok((entries, front))
 }
 
 /// What is to be freed: nothing, where the process ends, which takes all memory back.
-fn to_free<T: Drop, const ENDS: bool>(value: T) -> Option<T> {
+pub(crate) fn to_free<T: Drop, const ENDS: bool>(value: T) -> Option<T> {
     if ENDS {
         mem::forget(value);
         None

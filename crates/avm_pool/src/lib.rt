@@ -6,6 +6,7 @@
 //! specs/Proposals.antt says so without a word about them.
 #![tactic(auto)]
 
+mod ahead;
 mod call_numbers;
 mod draft;
 mod ends;

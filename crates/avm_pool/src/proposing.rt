@@ -7,8 +7,9 @@ ghost use Rattle.mv_parts.specs.Sealing.{IsJournalOf};
 ghost use Rattle.avm_pool.specs.Proposals.{IsProposal};
 ghost use Rattle.avm_pool.specs.Refusals.{IsRefusal, IsWant, MayPropose};
 
+use crate::ahead::Ahead;
 use crate::draft::{Crew, Draft, SharedDraft, ThreadSets};
-use crate::finishing::proposal_of;
+use crate::finishing::{Remains, proposal_of, to_free};
 use crate::gate::Gate;
 use crate::holding::ShardLock;
 use crate::pool_fault::{PoolError, PoolFault};
@@ -160,11 +161,13 @@ fn by_workers<G: Gate, R: Threads + Wait + Sync, O: Op, const ENDS: bool>(
 {
     let (journal, shards) = draft.open(alloc)?;
     let journal = Mutex::new(journal);
+    let ahead = Mutex::new(draft.ahead(alloc, workers.len())?);
     let shared = Shared {
         alloc,
         shards: shards.as_slice(),
         calls: draft.calls.as_slice(),
         header: &draft.header,
+        ahead: &ahead,
         gate,
     };
     run_sets(rt, &journal, &shared, workers)?;
@@ -175,7 +178,11 @@ fn by_workers<G: Gate, R: Threads + Wait + Sync, O: Op, const ENDS: bool>(
     if !run_rest(rt, &shared, &mut journal, own) {
         return Err(Failure::Fault(PoolFault::ClockEnd));
     }
-    Ok(proposal_of::<R, ENDS>(rt, alloc, journal, shards, draft)?)
+    let remains = Remains {
+        shards: to_free::<Vec<ShardLock>, ENDS>(shards),
+        ahead: ahead.into_inner(),
+    };
+    Ok(proposal_of::<R, ENDS>(rt, alloc, journal, remains, draft)?)
 }
 
 /// What one thread makes of all calls. It is for a journal that is not the one that was opened, which nothing rules out that
@@ -198,19 +205,33 @@ fn proposed_anew<G: Gate, R: Threads + Wait + Sync, O: Op, const ENDS: bool>(
         shards: shards.as_slice(),
         calls: draft.calls.as_slice(),
         header: &draft.header,
+        ahead: &Mutex::new(None),
         gate,
     };
     let mut journal = journal;
     if !run_rest(rt, &shared, &mut journal, own) {
         return Err(Failure::Fault(PoolFault::ClockEnd));
     }
-    match proposal_of::<R, ENDS>(rt, alloc, journal, shards, draft)? {
+    let remains = Remains {
+        shards: to_free::<Vec<ShardLock>, ENDS>(shards),
+        ahead: None,
+    };
+    match proposal_of::<R, ENDS>(rt, alloc, journal, remains, draft)? {
         Some(proposal) => Ok(proposal),
         None => unreachable!(),
     }
 }
 
 impl<'a> SharedDraft<'a> {
+    /// What stands before all calls of the draft in a block, if there are several workers, who go ahead with it.
+    fn ahead(&self, alloc: Global, workers: usize) -> Result<Option<Ahead>, AllocError> {
+        if workers < 2 {
+            return Ok(None);
+        }
+        let ahead = Ahead::begin(alloc, self.base.digest(), &self.header, self.calls.len())?;
+        Ok(Some(ahead))
+    }
+
     /// A journal of which no call has begun, and its shards behind locks of their own.
     fn open(&self, alloc: Global) -> Result<(Journal, Vec<ShardLock>), AllocError>
         requires opens { open_fault self.now.header (arc_value self.now.calls).items ≡ None }

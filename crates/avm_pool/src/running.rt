@@ -3,18 +3,20 @@
 ghost use Rattle.std.specs.Prelude.{◌≡◌, ℕ};
 ghost use Rattle.avm_pool.specs.Running.{IsSameAttempt};
 
+use crate::ahead::{Ahead, Kept};
 use crate::ends::AttemptEnd;
 use crate::gate::{Gate, GateEvent};
 use crate::holding::ShardLock;
 use crate::waiting::lock_soon;
+use avm_block::Entry;
 use avm_call::Call;
 use avm_items::{Item, ItemValue};
 use avm_ledger::Header;
 use avm_ops::Op;
 use avm_run::{Finished, FullOps, Reader, RunContext, Spare, run_reading};
 use mv_shards::{Attempt, shard_of};
-use std::alloc::Global;
-use std::sync::Wait;
+use std::alloc::{AllocError, Global};
+use std::sync::{Mutex, Wait};
 use teal_value::Failure;
 
 /// What a thread executes calls with: its objects, and the box that the last run left.
@@ -24,7 +26,7 @@ pub(crate) struct Executor<'a, O: Op> {
     pub spare: Option<Spare>,
 }
 
-/// What all attempts share.
+/// What all workers share.
 #[derive(Drop)]
 pub(crate) struct Shared<'a, G> {
     pub alloc: Global,
@@ -32,6 +34,8 @@ pub(crate) struct Shared<'a, G> {
     pub shards: &'a [ShardLock],
     pub calls: &'a [Call],
     pub header: &'a Header,
+    /// The front of the block so far; none where nobody makes it ahead, or memory was refused to whoever did.
+    pub ahead: &'a Mutex<Option<Ahead>>,
     pub gate: &'a G,
 }
 
@@ -51,6 +55,22 @@ impl<'a, G: Gate> Shared<'a, G> {
             return None;
         }
         self.calls.get(number as usize - 1)
+    }
+
+    /// The entries of a block that committed calls are, as far as there are calls of their numbers.
+    pub fn entries_of(&self, kept: &[Kept]) -> Result<Vec<Entry>, AllocError> {
+        let mut entries = Vec::with_capacity(self.alloc, kept.len())?;
+        for (timestamp, number, outcome) in kept {
+            let Some(call) = self.call(*number) else {
+                break;
+            };
+            entries.push(Entry {
+                timestamp: *timestamp,
+                call: call.clone()?,
+                outcome: *outcome,
+            })?;
+        }
+        Ok(entries)
     }
 }
 

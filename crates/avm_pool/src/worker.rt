@@ -3,6 +3,7 @@
 ghost use Rattle.std.specs.Prelude.{◌≡◌};
 ghost use Rattle.avm_pool.specs.NumberPasses.{IsWith, view};
 
+use crate::ahead::{Ahead, Kept};
 use crate::call_numbers::{NumberPass, Numbers};
 use crate::ends::{AttemptEnd, ThreadEnd};
 use crate::gate::{Gate, GateEvent};
@@ -14,8 +15,12 @@ use avm_ops::{Op, Ops};
 use avm_run::{Finished, FullOps};
 use mv_parts::{BeginFault, Journal};
 use mv_shards::{Attempt, Held, SHARD_COUNT, shard_of};
+use std::alloc::AllocError;
 use std::sync::{Mutex, Wait};
 use teal_value::Failure;
+
+/// After how many commits a worker adds to the front of the block.
+const COMMITS_AHEAD: u32 = 64;
 
 /// How many commits a worker makes before its first prune. Before each further one it makes twice as many as before the last,
 /// since a prune visits each item that the block has touched: so all prunes together visit as many as its commits touch.
@@ -110,6 +115,9 @@ impl<'a, 'b, 'c, G: Gate, R: Wait> Site<'a, 'b, 'c, G, R> {
             match self.run_call(executor, held, number) {
                 AttemptEnd::Committed => {
                     commits = commits.saturating_add(1);
+                    if commits % COMMITS_AHEAD == 0 {
+                        self.go_ahead();
+                    }
                     if commits == next_prune {
                         next_prune = next_prune.saturating_mul(2);
                         self.prune(held);
@@ -205,6 +213,35 @@ impl<'a, 'b, 'c, G: Gate, R: Wait> Site<'a, 'b, 'c, G, R> {
     fn abandon(&self, attempt: Attempt, end: AttemptEnd) -> AttemptEnd {
         let _abandoned = lock_soon(self.rt, self.journal).abandon(attempt);
         end
+    }
+
+    /// Adds the entries that stay as they are to the front of the block, unless another worker does so at this moment.
+    fn go_ahead(&self) {
+        let Some(mut guard) = self.shared.ahead.try_lock() else {
+            return;
+        };
+        let slot = &mut *guard;
+        if let Some(ahead) = slot.take() {
+            *slot = self.further(ahead).ok();
+        }
+    }
+
+    /// With the entries that stay as they are by now.
+    fn further(&self, ahead: Ahead) -> Result<Ahead, AllocError> {
+        let kept = self.settled_from(ahead.len())?;
+        ahead.with(self.shared.entries_of(kept.as_slice())?)
+    }
+
+    /// The entries that stay as they are, from an index on.
+    fn settled_from(&self, from: usize) -> Result<Vec<Kept>, AllocError> {
+        let mut kept = Vec::with_capacity(self.shared.alloc, 4 * COMMITS_AHEAD as usize)?;
+        let journal = lock_soon(self.rt, self.journal);
+        let entries = journal.entries();
+        for index in from..journal.settled() {
+            let entry = &entries[index];
+            kept.push((entry.timestamp(), entry.number(), entry.outcome()))?;
+        }
+        Ok(kept)
     }
 
     /// Drops the versions that no attempt can ask for any more.

@@ -113,7 +113,10 @@ fn wrong_by<R: Threads + Wait + Sync, O: Op>(
         calls: calls_of(alloc, &programs, case.calls, case.times)?,
     };
     match made(rt, alloc, case, draft, sets)? {
-        Ok(block) => difference(alloc, case, &programs, &base, &block, other),
+        Ok(block) => {
+            let after = replayed(alloc, &base, &block, other)?;
+            difference(alloc, case, &programs, &block, after.as_slice())
+        }
         Err(wrong) => Ok(Some(wrong)),
     }
 }
@@ -137,14 +140,13 @@ fn made<R: Threads + Wait + Sync, O: Op>(
     }
 }
 
-/// What differs from the case in a block over its ledger, if something does.
-fn difference<O: Op>(
+/// What differs from the case in a block and the ledger after it, if something does.
+fn difference(
     alloc: Global,
     case: &Case,
     programs: &Programs,
-    base: &Ledger,
     block: &Block,
-    ops: &FullOps<O>,
+    after: &[u8],
 ) -> Result<Option<&'static str>, Fail> {
     if !has_timestamps(block, case.timestamps) {
         return Ok(Some("the timestamps"));
@@ -152,8 +154,7 @@ fn difference<O: Op>(
     if !has_bytes(alloc, block, case.block)? {
         return Ok(Some("the block's bytes"));
     }
-    let after = replayed(alloc, base, block, ops)?;
-    if !is_one_of(alloc, programs, after.as_slice(), &case.after)? {
+    if !is_one_of(alloc, programs, after, &case.after)? {
         return Ok(Some("the ledger after"));
     }
     Ok(None)
