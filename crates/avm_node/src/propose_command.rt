@@ -92,8 +92,6 @@ fn pool_answer<R: Threads + Wait + Sync, O: Op, const ENDS: bool>(
         header,
         calls,
     } = read;
-    let (ledger, digest) = base.into_parts();
-    let base = SharedBase::with_digest(alloc, ledger, digest)?;
     let draft = Draft {
         base: &base,
         header,

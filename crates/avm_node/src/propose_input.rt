@@ -3,7 +3,9 @@
 ghost use Rattle.std.specs.Prelude.{◌≡◌, IfOk};
 ghost use Rattle.teal_value.specs.Answer.{Gives};
 ghost use Rattle.avm_ledger.specs.declared.header.Profile.TheVariants.{Three};
+ghost use Rattle.sha2.specs.Sha256.{sha256};
 ghost use Rattle.avm_ledger.specs.LedgerReader.{ledger_at};
+ghost use Rattle.avm_ledger.specs.Spellings.{ledger_bytes};
 ghost use Rattle.avm_input.specs.BlockLines.{on_ledger};
 ghost use Rattle.avm_input.specs.DigitLines.{digit_lines};
 ghost use Rattle.avm_input.specs.Lines.{lines_shown};
@@ -14,19 +16,26 @@ use crate::call_lines::calls_of;
 use avm_block::header_codec::header_of as header_in;
 use avm_call::Call;
 use avm_input::{DigitLines, NumberedLine, Refusal, line_bytes, needed_bytes};
-use avm_ledger::{Fields, Header, Profile};
-use avm_replay::Base;
+use avm_ledger::{Fields, Header, Ledger, Profile};
+use avm_pool::SharedBase;
+use sha2::{Digest, Sha256};
 use std::alloc::Global;
 use std::thread::{Threads, join};
 use teal_value::Failure;
 
+/// From how many bytes on a ledger has its digest made by a thread of its own: to make one for fewer costs more than it saves.
+const MUCH: usize = 16_384;
+
 /// What calls are to be made of, on which ledger and by which header.
 #[derive(Drop)]
 pub struct ProposeInput {
-    pub base: Base,
+    pub base: SharedBase,
     pub header: Header,
     pub calls: Vec<Call>,
 }
+
+/// A ledger with its digest, or why the bytes are none.
+type BaseRead = Result<SharedBase, Failure<Refusal>>;
 
 /// A header and calls, or the first refusal of a line.
 type HeaderAndCalls = Result<(Header, Vec<Call>), Failure<Refusal>>;
@@ -69,7 +78,7 @@ fn side_by_side<R: Threads + Sync>(
     workers: usize,
     bytes: &[u8],
     lines: &[NumberedLine<'_>],
-) -> (Result<Base, Failure<Refusal>>, HeaderAndCalls)
+) -> (BaseRead, HeaderAndCalls)
     ensures base { Gives (λ base. base) result.0 (on_ledger (ledger_at bytes.now)) }
     ensures behind { Gives (λ read. (read.0, read.1.items)) result.1
         (header_and_calls (lines_shown lines.now)) }
@@ -77,9 +86,9 @@ fn side_by_side<R: Threads + Sync>(
 {
     join(
         rt,
-        || -> Result<Base, Failure<Refusal>>
+        || -> BaseRead
             ensures { Gives (λ base. base) result (on_ledger (ledger_at bytes.entry.now)) }
-        { base_of(alloc, bytes) },
+        { base_by_two(rt, alloc, bytes) },
         || -> HeaderAndCalls
             ensures { Gives (λ read. (read.0, read.1.items)) result
                 (header_and_calls (lines_shown lines.entry.now))
@@ -88,11 +97,41 @@ fn side_by_side<R: Threads + Sync>(
     )
 }
 
-/// The ledger that the bytes are, with its digest.
-fn base_of(alloc: Global, bytes: &[u8]) -> Result<Base, Failure<Refusal>>
+/// The ledger that the bytes are, with its digest, which another thread makes where they are many.
+fn base_by_two<R: Threads + Sync>(rt: &R, alloc: Global, bytes: &[u8]) -> BaseRead
     ensures { Gives (λ base. base) result (on_ledger (ledger_at bytes.now)) }
 {
-    Base::read(alloc, bytes).map_err(|failure| failure.map(Refusal::Ledger))
+    if bytes.len() < MUCH {
+        return base_of(alloc, bytes);
+    }
+    let (digest, ledger) = join(
+        rt,
+        || -> [u8; 32]
+            ensures { result ≡ sha256 bytes.entry.now }
+        { Sha256::digest(bytes) },
+        || -> Result<Ledger, Failure<Refusal>>
+            ensures { Gives (λ l. l) result (on_ledger (ledger_at bytes.entry.now))
+                × IfOk result (λ l. ledger_bytes l ≡ bytes.entry.now) }
+        { ledger_of(alloc, bytes) },
+    );
+    Ok(SharedBase::with_digest(alloc, ledger?, digest)?)
+}
+
+/// The ledger that the bytes are, with its digest.
+fn base_of(alloc: Global, bytes: &[u8]) -> BaseRead
+    ensures { Gives (λ base. base) result (on_ledger (ledger_at bytes.now)) }
+{
+    let ledger = ledger_of(alloc, bytes)?;
+    let digest = Sha256::digest(bytes);
+    Ok(SharedBase::with_digest(alloc, ledger, digest)?)
+}
+
+/// The ledger that the bytes are. They are its one spelling, so their digest is the ledger's.
+fn ledger_of(alloc: Global, bytes: &[u8]) -> Result<Ledger, Failure<Refusal>>
+    ensures exact { Gives (λ l. l) result (on_ledger (ledger_at bytes.now)) }
+    ensures spelled { IfOk result (λ l. ledger_bytes l ≡ bytes.now) }
+{
+    Ledger::read(alloc, bytes).map_err(|failure| failure.map(Refusal::Ledger))
 }
 
 /// The header on the first of these lines, and the calls on the others.
