@@ -51,7 +51,7 @@ impl Ahead {
             base: *base,
             header: *header,
             count,
-            entries: Vec::new(alloc),
+            entries: Vec::with_capacity(alloc, count)?,
             front,
         })
     }
