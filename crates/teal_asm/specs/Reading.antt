@@ -14,6 +14,7 @@ use Rattle.teal_source.specs.declared.fault.AsmFault.{AsmFault}
 use Rattle.teal_source.specs.declared.fault.AsmFaultKind.TheVariants as kind
 use Rattle.teal_source.specs.Statements.{fault_at, on_text, pragma_of, statements, words_of_lines}
 use Rattle.teal_asm.specs.Meaning.{Meaning, meaning_of_lines, meaning_with}
+use Rattle.teal_asm.specs.Thinned.{Thins}
 
 -- the statements of the lines that are left, behind those before them
 abbrev pub unread_statements : Version → List Statement → Unread → Result (List Statement) AsmFault
@@ -56,3 +57,8 @@ all_tokens left = on_text left >>= λ ls. Ok tt
 abbrev pub IsLater : Failure AsmFault → Failure AsmFault → Result (List LineTokens) TextFault → Type 0
 IsLater failure.Memory result left = result ≡ failure.Memory
 IsLater (failure.Fault f) result left = Fails {A = List LineTokens} result (on_text left >>= λ ls. Err f)
+
+-- what is kept of the statements that are meant, or the answer where they have a fault, and the lines behind them are left
+abbrev pub AddsOrStops : {X : Type 0} → Result X (Failure AsmFault) → List Statement → Result (List Statement) AsmFault → Result (List LineTokens) TextFault → Type 0
+AddsOrStops (Ok x) kept meant left = (all : List Statement) × (meant ≡ Ok all) × Thins kept all
+AddsOrStops (Err e) kept meant left = (fault : Failure AsmFault) × Fails fault meant × IsLater fault e left

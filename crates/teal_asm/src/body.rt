@@ -41,7 +41,7 @@ pub(crate) struct Body {
 }
 
 impl Body {
-    ghost use Rattle.teal_asm.specs.Bodies.{IsBody};
+    ghost use Rattle.teal_asm.specs.Bodies.{IsBody, Notes};
 
     pub fn new(alloc: Global) -> Body
         ensures body { IsBody result }
@@ -71,11 +71,25 @@ impl Body {
             (appended self.old.statements.items (behind self.old.statements.items statement)) }
         ensures kept { OnOk result (IsBody self.new) }
     {
+        if self.note(alloc, &statement)? {
+            self.statements.push(statement)?;
+        }
+        Ok(())
+    }
+
+    /// Notes what a statement brings, and tells whether it is to stand behind the others.
+    fn note(&mut self, alloc: Global, statement: &Statement) -> Result<bool, LineError>
+        requires body { IsBody self.old }
+        requires fresh { ForSome statement.now.label
+            (λ name. list_any (has_label name) self.old.statements.items ≡ false) }
+        ensures notes { Notes result self.new self.old.statements.items statement.now }
+        ensures stays { self.new.statements ≡ self.old.statements }
+    {
         let uints = self.uints.len();
         let strings = self.strings.len();
         let uint_block = self.has_uint_block;
         let byte_block = self.has_byte_block;
-        let needless = self.is_needless(&statement);
+        let needless = self.is_needless(statement);
         let leads_back = self.leads_back_with(&statement.command);
         gather(
             alloc,
@@ -97,14 +111,13 @@ impl Body {
             && self.has_uint_block == uint_block
             && self.has_byte_block == byte_block
         {
-            return Ok(());
+            return Ok(false);
         }
         note_label(alloc, &statement.label, self.commands, &mut self.labels)?;
         note_target(alloc, &statement.command, self.commands, &mut self.targets)?;
         self.leads_back = leads_back;
         self.commands += commands_in(&statement.command);
-        self.statements.push(statement)?;
-        Ok(())
+        Ok(true)
     }
 
     /// Whether a statement has the label.

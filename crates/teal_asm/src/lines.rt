@@ -7,7 +7,7 @@ ghost use Rattle.teal_text.specs.Lines.{view};
 ghost use Rattle.teal_source.specs.Statements.{failure_on_line, pragma_in, pragma_of, statements, word_at, words_of_line, words_on};
 ghost use Rattle.teal_asm.specs.Bodies.{IsBody};
 ghost use Rattle.teal_asm.specs.LineWords.{line_words};
-ghost use Rattle.teal_asm.specs.Reading.{FindsFirst, IsLater, IsNext, all_tokens, line_total, unread_statements};
+ghost use Rattle.teal_asm.specs.Reading.{AddsOrStops, FindsFirst, IsLater, IsNext, all_tokens, line_total, unread_statements};
 ghost use Rattle.teal_asm.specs.Thinned.{GivesThinned, LeavesThinned};
 ghost use Rattle.teal_source.specs.Shown.{words};
 
@@ -34,12 +34,31 @@ pub(crate) fn body_of(
     let mut body = Body::new(alloc);
     let mut spare = spare;
     while let Some(line) = next_line(lines, spare)? {
-        match add_tokens(alloc, version, lines.text(), &line, &mut body) {
-            Ok(()) => spare = line.tokens,
-            Err(error) => return Err(later_fault(lines, line.tokens, error)),
-        }
+        spare = add_statements(alloc, version, lines, line, &mut body)?;
     }
     Ok(body)
+}
+
+/// Adds the statements of a line, and gives the memory of its tokens for the next line's.
+fn add_statements(
+    alloc: Global,
+    version: Version,
+    lines: &mut Lines<'_>,
+    line: Line,
+    body: &mut Body,
+) -> Result<Vec<Token>, AsmError>
+    requires tokens { All (LiesWithin 0 (length lines.old.text)) line.tokens.items }
+    requires body { IsBody body.old }
+    ensures adds { AddsOrStops result body.new.statements.items
+        (statements version body.old.statements.items (words_of_line lines.old.text (view line)))
+        lines.old.lines }
+    ensures kept { OnOk result (IsBody body.new) }
+    ensures stays { OnOk result (lines.new ≡ lines.old) }
+{
+    match add_tokens(alloc, version, lines.text(), &line, body) {
+        Ok(()) => Ok(line.tokens),
+        Err(error) => Err(later_fault(lines, line.tokens, error)),
+    }
 }
 
 /// The first line with a token, if there is one.

@@ -28,25 +28,23 @@ pub(crate) fn instructions_of(alloc: Global, body: Body) -> Result<Vec<Instructi
     requires { IsBody body }
     ensures { Gives (λ v. all_meant v.items) result (all_instructions body.statements.items) }
 {
-    let Body {
-        statements,
-        uints,
-        strings,
-        labels,
-        targets: _,
-        leads_back: _,
-        commands: _,
-        has_uint_block: _,
-        has_byte_block: _,
-    } = body;
-    let blocks = blocks_of(alloc, &uints, &strings)?;
+    let blocks = blocks_of(alloc, &body.uints, &body.strings)?;
+    instructions_behind(blocks, body)
+}
+
+// The instructions of a body, behind the blocks of its gathered constants.
+fn instructions_behind(blocks: Vec<Instruction>, body: Body) -> Result<Vec<Instruction>, AsmError>
+    requires body { IsBody body }
+    requires blocks { all_meant blocks.items ≡ gathered_blocks body.statements.items }
+    ensures { Gives (λ v. all_meant v.items) result (all_instructions body.statements.items) }
+{
     let constants = Constants {
-        uints,
-        strings,
-        labels,
+        uints: body.uints,
+        strings: body.strings,
+        labels: body.labels,
         blocks: blocks.len(),
     };
-    resolved(&constants, blocks, statements)
+    resolved(&constants, blocks, body.statements)
 }
 
 /// What an instruction is looked up in.
