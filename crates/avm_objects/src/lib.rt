@@ -1,18 +1,31 @@
 //! The objects of all opcodes: every family, and the macro that fills a set with an object of every opcode.
 #![tactic(auto)]
 
+ghost use Rattle.std.specs.Prelude.{◌≡◌, IfSome, Some};
+
 pub use avm_arith::{Binary, Bits, Comparison, Equality, Joined, OfBytes, Unary, Wide};
 pub use avm_flow_ops::{Block, Branch, Bytec, Intc, Literal, Scratch, Stack, Stops};
 pub use avm_ops::{BoxedOp, Op, OpSet, Ops};
 pub use avm_state_ops::{GlobalOp, StateRead, StateWrite, Txn};
+use std::alloc::Global;
 pub use teal_table::Opcode;
 
+/// An object in a box, or `None` where there is none or memory is refused.
+pub fn boxed<O: Drop>(alloc: Global, op: Option<O>) -> Option<Box<O>>
+    ensures { IfSome result (λ boxed. op ≡ Some boxed.value) }
+{
+    match op {
+        Some(op) => Box::new(alloc, op).ok(),
+        None => None,
+    }
+}
+
 /// A set with an object of every opcode: `filled_set!(alloc, refused)`, where the function that calls it ends with `refused`
-/// if memory is. Each family is an object by itself, and not in a type of all of them, which would be told apart once more at
-/// each instruction.
+/// if memory for the set is. Each family is an object by itself, and not in a type of all of them, which would be told apart
+/// once more at each instruction.
 ///
 /// It is no function, since boxes of objects are made only where they stay. Whether the set is full is asked of
-/// [`Ops::missing`].
+/// [`Ops::missing`]: it lacks each object whose box was refused memory.
 #[macro_export]
 macro_rules! filled_set {
     ($alloc:expr, $refused:expr) => {{
@@ -24,10 +37,7 @@ macro_rules! filled_set {
             let Some(opcode) = $crate::Opcode::of(code as u8) else {
                 continue;
             };
-            let made: Option<Box<dyn $crate::Op>> = $crate::object_of!($alloc, opcode);
-            let Some(op) = made else {
-                return $refused;
-            };
+            let op: Box<dyn $crate::Op> = $crate::object_of!($alloc, opcode);
             if ops.push($crate::BoxedOp { op }).is_err() {
                 return $refused;
             }
@@ -36,8 +46,8 @@ macro_rules! filled_set {
     }};
 }
 
-/// The object of an opcode in a box, or `None` where memory is refused, or the next turn of the loop where no family has one. The
-/// list of families stands here.
+/// The object of an opcode in a box, or the next turn of the loop where no family has one or memory is refused. The list of
+/// families stands here.
 #[macro_export]
 macro_rules! object_of {
     ($alloc:expr, $opcode:expr) => {
@@ -53,14 +63,8 @@ macro_rules! object_of {
 #[macro_export]
 macro_rules! first_of {
     ($alloc:expr, $opcode:expr, $($family:ident),+) => {
-        $(if let Some(op) = $crate::$family::of($opcode) {
-            match Box::new($alloc, op) {
-                Ok(op) => {
-                    let op: Box<dyn $crate::Op> = op;
-                    Some(op)
-                }
-                Err(_) => None,
-            }
+        $(if let Some(op) = $crate::boxed($alloc, $crate::$family::of($opcode)) {
+            op
         } else)+ {
             continue;
         }

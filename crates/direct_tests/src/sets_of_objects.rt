@@ -66,10 +66,7 @@ fn a_set_names_the_least_code_that_it_lacks(rt: HostRuntime) -> Result<(), Fail>
             if !is_wanted(&ops, is_last, code as u8) {
                 continue;
             }
-            let made: Option<Box<dyn Op>> = object_of!(alloc, opcode);
-            let Some(op) = made else {
-                return Err("memory is refused".into());
-            };
+            let op: Box<dyn Op> = object_of!(alloc, opcode);
             add(&mut ops, op)?;
         }
         assert!(rt; size(&ops) == count && ops.missing() == missing, "{name}");
