@@ -1,5 +1,5 @@
 -- The workers of a command, of which there are one to eight.
-use Rattle.std.proofs.Common.{◌≡◌, refl, ℕ, ◌<◌, ◌&&◌, Bool, true, false, cond, nat_lt, codes, List, [], ◌∷◌, Option, Some, None, option_and_then, option_map, arith}
+use Rattle.std.proofs.Common.{◌≡◌, refl, ℕ, ◌&&◌, Bool, true, false, cond, nat_lt, codes, List, [], ◌∷◌, Option, Some, None, option_and_then, option_map, arith}
 use Rattle.std.specs.Str.{bytes_eq}
 use Rattle.clap.specs.Words.{App, Kinds, Row, Text, fault_of, subcommand_of}
 use Rattle.avm_input.specs.CommandLine.{AreOneToEight, command_among, command_found, command_named, number_in, unless_faulty, worker_count, workers_of}
