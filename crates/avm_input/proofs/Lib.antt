@@ -1,4 +1,5 @@
 pub mod CommandNames
+pub mod WorkerCounts
 pub mod NumberTexts
 pub mod DigitNumbers
 pub mod ReadPairs

@@ -1,6 +1,7 @@
 -- What a loop over writes has written of a text: a beginning of it, and the rest is still to be written.
-use Rattle.std.proofs.Common.{◌≡◌, ◌∙◌, ◌-◌, ap, sym, refl, subst, ℕ, List, [], ◌++◌, Option, append_assoc, length, take, drop, take-append-drop}
-use Rattle.std.proofs.lemmas.List.{take_rest}
+use Rattle.std.proofs.Common.{◌≡◌, ◌∙◌, ◌-◌, ap, sym, refl, subst, true, ℕ, List, [], ◌++◌, Option, append_assoc, eqb, length, take, drop, take-append-drop}
+use Rattle.std.proofs.lemmas.List.{append-nil, nil_from_length, take_rest}
+use Rattle.std.proofs.lemmas.Bool.{eqb-true}
 use Rattle.std.proofs.KnownBytes.{Appends-kept, Appends-nil, Appends-trans}
 use Rattle.std.specs.Io.KnownBytes.{Appends, Keeps}
 use Rattle.hex.specs.Hex.{encode_lower, encode_with}
@@ -49,6 +50,20 @@ piece_begun held now after bytes rest front back parts (written, left, both, pie
       ∙ sym (append_assoc (encode_lower done) written (left ++ encode_lower back)),
   Appends-trans held now after (encode_lower done) written was piece,
 )
+
+-- nothing is a beginning
+pub none_begun : (held : Option (List ℕ)) (text : List ℕ) → HasBeginning text held held
+none_begun held text = ([], text, refl, Appends-nil held)
+
+-- at the end all of them are
+pub all_written : (held now : Option (List ℕ)) (bytes rest : List ℕ) → eqb (length rest) 0 ≡ true → IsWrittenTo held now bytes rest → Appends held now (encode_lower bytes)
+all_written held now bytes rest e (done, before, was) =
+    let none : rest ≡ [] = nil_from_length rest (eqb-true (length rest) 0 e) in
+    subst (λ (l : List ℕ). Appends held now (encode_lower l)) (sym (before ∙ ap (λ (l : List ℕ). done ++ l) none ∙ append-nil done)) was
+
+-- and what is written is a beginning
+pub whole_begun : (held now : Option (List ℕ)) (bytes rest : List ℕ) → IsWrittenTo held now bytes rest → HasBeginning (encode_lower bytes) held now
+whole_begun held now bytes rest (done, before, was) = (encode_lower done, encode_lower rest, ap encode_lower before ∙ digits_joined done rest, was)
 
 -- ---- a text behind digits
 

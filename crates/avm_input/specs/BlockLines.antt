@@ -31,6 +31,10 @@ first_ledger lines = needed_bytes lines >>= λ first. on_ledger (ledger_of_bytes
 abbrev pub first_block : List DigitLine → Result (Block × List DigitLine) Refusal
 first_block lines = needed_bytes lines >>= λ first. on_block (block_at is_accepted first.0) >>= λ b. Ok (b, first.1)
 
+-- the block of a line's bytes, where no line is behind it
+abbrev pub last_block : List ℕ → List DigitLine → Result Block Refusal
+last_block bytes behind = on_block (block_at is_accepted bytes) >>= λ b. with_no_line behind b
+
 -- the ledger and the block of the only two lines
 abbrev pub ledger_and_block : List DigitLine → Result (Ledger × Block) Refusal
 ledger_and_block lines = first_ledger lines >>= λ l. first_block l.1 >>= λ b. with_no_line b.1 (l.0, b.0)

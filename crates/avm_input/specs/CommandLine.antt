@@ -1,6 +1,6 @@
 -- Which words are a command.
 use Rattle.std.specs.Prelude.{ℕ, ◌^◌, ◌<◌, ◌≤◌, ◌&&◌, Bool, nat_lt, length, ◌∷◌, [], List, Option, Some, None, IfSome, true, codes, if◌then◌else◌, option_and_then, option_map}
-use Rattle.std.specs.List.{list_all}
+use Rattle.std.specs.List.{fold, list_all}
 use Rattle.std.specs.Char.{digit_value}
 use Rattle.std.specs.Str.{bytes_eq}
 use Rattle.std.specs.Str.Parse.{digits_value, without_leading_plus}
@@ -18,16 +18,20 @@ number_rule name = record (new_rule name) { long = Some name; action = Some Set;
 abbrev pub bare_line : App
 bare_line = let avm = new_app (codes "avm") in record avm { top = record avm.top { no_binary_name = true } }
 
+-- the command of this name, whose options are numbers with these names
+abbrev pub numbered : Text → List Text → App
+numbered name options = fold (λ command option. with_rule command (number_rule option)) (new_app name) options
+
 -- the commands and their options
 abbrev pub command_line : App
 command_line =
-    let with_asm = with_subcommand bare_line (new_app (codes "asm")).top in
-    let with_dis = with_subcommand with_asm (new_app (codes "dis")).top in
-    let with_check = with_subcommand with_dis (new_app (codes "check")).top in
-    let with_replay = with_subcommand with_check (new_app (codes "replay")).top in
-    let with_debug = with_subcommand with_replay (with_rule (with_rule (new_app (codes "debug")) (number_rule (codes "entry"))) (number_rule (codes "steps"))).top in
-    let with_state = with_subcommand with_debug (with_rule (new_app (codes "state")) (number_rule (codes "at"))).top in
-    with_subcommand with_state (with_rule (new_app (codes "propose")) (number_rule (codes "workers"))).top
+    let with_asm = with_subcommand bare_line (numbered (codes "asm") []).top in
+    let with_dis = with_subcommand with_asm (numbered (codes "dis") []).top in
+    let with_check = with_subcommand with_dis (numbered (codes "check") []).top in
+    let with_replay = with_subcommand with_check (numbered (codes "replay") []).top in
+    let with_debug = with_subcommand with_replay (numbered (codes "debug") (codes "entry" ∷ codes "steps" ∷ [])).top in
+    let with_state = with_subcommand with_debug (numbered (codes "state") (codes "at" ∷ [])).top in
+    with_subcommand with_state (numbered (codes "propose") (codes "workers" ∷ [])).top
 
 abbrev pub is_digit : ℕ → Bool
 is_digit c = nat_lt (digit_value c) 10
@@ -46,6 +50,15 @@ number_in name options = option_and_then u64_of (one_of name options)
 abbrev pub worker_count : ℕ → Option ℕ
 worker_count n = if nat_lt 0 n && nat_lt n 9 then Some n else None
 
+abbrev pub debug_command : List Row → Option NodeCommand
+debug_command options = option_and_then (λ entry. option_map (Debug entry) (number_in (codes "steps") options)) (number_in (codes "entry") options)
+
+abbrev pub state_command : List Row → Option NodeCommand
+state_command options = option_map State (number_in (codes "at") options)
+
+abbrev pub propose_command : List Row → Option NodeCommand
+propose_command options = option_map Propose (option_and_then worker_count (number_in (codes "workers") options))
+
 -- the command of a name, with its options
 abbrev pub command_named : Text → List Row → Option NodeCommand
 command_named name options =
@@ -53,10 +66,14 @@ command_named name options =
     else if bytes_eq name (codes "dis") then Some Dis
     else if bytes_eq name (codes "check") then Some Check
     else if bytes_eq name (codes "replay") then Some Replay
-    else if bytes_eq name (codes "debug") then option_and_then (λ entry. option_map (Debug entry) (number_in (codes "steps") options)) (number_in (codes "entry") options)
-    else if bytes_eq name (codes "state") then option_map State (number_in (codes "at") options)
-    else if bytes_eq name (codes "propose") then option_map Propose (option_and_then worker_count (number_in (codes "workers") options))
+    else if bytes_eq name (codes "debug") then debug_command options
+    else if bytes_eq name (codes "state") then state_command options
+    else if bytes_eq name (codes "propose") then propose_command options
     else None
+
+-- the command of a name and options that were found, if any were
+abbrev pub command_found : Option (Text × List Row) → Option NodeCommand
+command_found rows = option_and_then (λ (found : Text × List Row). command_named found.0 found.1) rows
 
 -- nothing, where there is a fault
 abbrev pub unless_faulty : {A : Type 0} → Kinds → Option A → Option A
@@ -65,8 +82,7 @@ unless_faulty (kind ∷ kinds) value = None
 
 -- the command that words are to clap where these are the commands, of which a request for help is none
 unfoldable pub command_among : App → List Text → Option NodeCommand
-command_among commands words = unless_faulty (fault_of commands words)
-    (option_and_then (λ (found : Text × List Row). command_named found.0 found.1) (subcommand_of commands words))
+command_among commands words = unless_faulty (fault_of commands words) (command_found (subcommand_of commands words))
 
 -- the command that the words after the program's name are
 abbrev pub command_in : List Text → Option NodeCommand

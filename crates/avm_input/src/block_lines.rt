@@ -1,12 +1,12 @@
 //! A ledger and a block on lines of digits.
 
-ghost use Rattle.std.specs.Prelude.{◌≡◌, IfOk};
+ghost use Rattle.std.specs.Prelude.{◌≡◌, IfOk, List};
 ghost use Rattle.teal_value.specs.Answer.{Gives};
 ghost use Rattle.avm_ledger.specs.LedgerRules.{KeepsRules};
 ghost use Rattle.avm_block.specs.AcceptedCalls.{is_accepted};
 ghost use Rattle.avm_block.specs.BlockReader.{block_at};
-ghost use Rattle.avm_input.specs.BlockLines.{first_ledger, ledger_and_block, needed_bytes, on_block};
-ghost use Rattle.avm_input.specs.DigitLines.{digit_lines};
+ghost use Rattle.avm_input.specs.BlockLines.{first_ledger, last_block, ledger_and_block, needed_bytes, on_block};
+ghost use Rattle.avm_input.specs.DigitLines.{DigitLine, digit_lines, with_no_line};
 
 use crate::digit_lines::DigitLines;
 use crate::refusals::Refusal;
@@ -17,7 +17,6 @@ use teal_value::Failure;
 
 /// The ledger and the block of the only two lines. The input is given back once its digits are bytes, so that what the bytes
 /// of the block become has the input's room.
-#[tactic(auto, using(crate::proofs::LinesBehind::refused_alike))]
 pub fn ledger_and_block(alloc: Global, input: Vec<u8>) -> Result<(Base, Block), Failure<Refusal>>
     ensures { Gives (λ both. both) result (ledger_and_block (digit_lines input.items)) }
 {
@@ -26,9 +25,25 @@ pub fn ledger_and_block(alloc: Global, input: Vec<u8>) -> Result<(Base, Block), 
     let bytes = needed_bytes(alloc, &mut lines)?;
     let ended = lines.end();
     drop(input);
+    match last_block(alloc, bytes, ended) {
+        Ok(block) => Ok((base, block)),
+        Err(failure) => Err(failure),
+    }
+}
+
+/// The block that the bytes of a line are, unless what is behind that line is refused.
+#[tactic(auto, using(crate::proofs::LinesBehind::refused_alike))]
+fn last_block(
+    alloc: Global,
+    bytes: Vec<u8>,
+    ended: Result<(), Failure<Refusal>>,
+) -> Result<Block, Failure<Refusal>>
+    ensures { (behind : List DigitLine) → Gives (λ x. x) ended (with_no_line behind tt)
+        → Gives (λ block. block) result (last_block bytes.items behind) }
+{
     let block = block_of(alloc, bytes.as_slice())?;
     ended?;
-    Ok((base, block))
+    Ok(block)
 }
 
 /// The ledger of the next line.

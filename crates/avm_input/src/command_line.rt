@@ -1,9 +1,9 @@
 //! The words of the command line.
 
-ghost use Rattle.std.specs.Prelude.{◌≡◌, ◌↔◌, ◌∷◌, [], Some, None, IfOk, IsTrue, codes, false, map, option_and_then};
-ghost use Rattle.clap.specs.Words.{app_of, found_of, kind_of, new_app, rows_of, rule_of, with_rule};
+ghost use Rattle.std.specs.Prelude.{◌≡◌, ◌≢◌, ◌∷◌, [], Some, None, IfOk, codes, false, map};
+ghost use Rattle.clap.specs.Words.{app_of, found_of, kind_of, rows_of, rule_of, subcommand_rows_of, with_subcommand};
 ghost use Rattle.clap.specs.declared.builder.command.Command.TheViews.{out-Command};
-ghost use Rattle.avm_input.specs.CommandLine.{AreOneToEight, bare_line, command_in, command_line, command_named, number_in, number_rule, worker_count, workers_of};
+ghost use Rattle.avm_input.specs.CommandLine.{AreOneToEight, bare_line, command_found, command_in, command_line, command_named, debug_command, number_in, number_rule, numbered, propose_command, state_command, worker_count, workers_of};
 ghost use Rattle.avm_input.specs.declared.command_line.NodeCommand.TheVariants.{Asm, Check, Debug, Dis, Propose, Replay, State};
 
 use clap::error::ErrorKind;
@@ -44,12 +44,27 @@ pub fn command_in<'a>(
     ensures workers { IfOk result (λ command. AreOneToEight (workers_of command)) }
 {
     match command_line(alloc)?.try_get_matches_from(words) {
-        Ok(matches) => match matches.subcommand() {
-            Some((name, options)) => Ok(command_named(name, options)),
-            None => Ok(None),
-        },
-        Err(error) if is_out_of_memory(&error) => Err(AllocError),
-        Err(_) => Ok(None),
+        Ok(matches) => Ok(command_of(&matches)),
+        Err(error) => no_command(&error),
+    }
+}
+
+/// The command that was found in words, if there is one.
+fn command_of(matches: &ArgMatches<'_>) -> Option<NodeCommand>
+    ensures { result ≡ command_found (subcommand_rows_of matches.now) }
+{
+    let (name, options) = matches.subcommand()?;
+    command_named(name, options)
+}
+
+/// What refused words are: no command, unless it was memory that was refused.
+fn no_command(error: &Error) -> Result<Option<NodeCommand>, AllocError>
+    ensures { IfOk result
+        (λ command. (command ≡ None) × (kind_of error.now ≢ ErrorKind.OutOfMemory)) }
+{
+    match error.kind() {
+        ErrorKind::OutOfMemory => Err(AllocError),
+        _ => Ok(None),
     }
 }
 
@@ -63,30 +78,42 @@ pub fn workers_of(command: Option<NodeCommand>) -> Option<u8>
     }
 }
 
-fn is_out_of_memory(error: &Error) -> bool
-    ensures { IsTrue result ↔ (kind_of error.now ≡ ErrorKind.OutOfMemory) }
-{
-    matches!(error.kind(), ErrorKind::OutOfMemory)
-}
-
 /// The command of a name, with its options, if there is one.
 fn command_named(name: &str, options: &ArgMatches<'_>) -> Option<NodeCommand>
-    ensures command { result ≡ command_named name.now (rows_of (found_of options.now)) }
-    ensures workers { AreOneToEight (workers_of result) }
+    ensures { result ≡ command_named name.now (rows_of (found_of options.now)) }
 {
     match name {
         "asm" => Some(NodeCommand::Asm),
         "dis" => Some(NodeCommand::Dis),
         "check" => Some(NodeCommand::Check),
         "replay" => Some(NodeCommand::Replay),
-        "debug" => Some(NodeCommand::Debug {
-            entry: number_in("entry", options)?,
-            steps: number_in("steps", options)?,
-        }),
-        "state" => Some(NodeCommand::State(number_in("at", options)?)),
-        "propose" => Some(NodeCommand::Propose(worker_count(number_in("workers", options)?)?)),
+        "debug" => debug_command(options),
+        "state" => state_command(options),
+        "propose" => propose_command(options),
         _ => None,
     }
+}
+
+fn debug_command(options: &ArgMatches<'_>) -> Option<NodeCommand>
+    ensures { result ≡ debug_command (rows_of (found_of options.now)) }
+{
+    Some(NodeCommand::Debug {
+        entry: number_in("entry", options)?,
+        steps: number_in("steps", options)?,
+    })
+}
+
+fn state_command(options: &ArgMatches<'_>) -> Option<NodeCommand>
+    ensures { result ≡ state_command (rows_of (found_of options.now)) }
+{
+    Some(NodeCommand::State(number_in("at", options)?))
+}
+
+fn propose_command(options: &ArgMatches<'_>) -> Option<NodeCommand>
+    ensures { result ≡ propose_command (rows_of (found_of options.now)) }
+{
+    let workers = number_in("workers", options)?;
+    Some(NodeCommand::Propose(worker_count(workers)?))
 }
 
 /// The number that the option of this name has.
@@ -98,8 +125,7 @@ fn number_in(name: &str, options: &ArgMatches<'_>) -> Option<u64>
 
 /// How many workers a number asks for: one to eight.
 fn worker_count(number: u64) -> Option<u8>
-    ensures count { result ≡ worker_count number }
-    ensures range { AreOneToEight result }
+    ensures { result ≡ worker_count number }
 {
     if 0 < number && number < 9 {
         Some(number as u8)
@@ -112,20 +138,13 @@ fn worker_count(number: u64) -> Option<u8>
 fn command_line<'a>(alloc: Global) -> Result<Command<'a>, AllocError>
     ensures { IfOk result (λ command. app_of command ≡ command_line) }
 {
-    let asm = Command::new(alloc, "asm");
-    let with_asm = bare_line(alloc).subcommand(asm)?;
-    let dis = Command::new(alloc, "dis");
-    let with_dis = with_asm.subcommand(dis)?;
-    let check = Command::new(alloc, "check");
-    let with_check = with_dis.subcommand(check)?;
-    let replay = Command::new(alloc, "replay");
-    let with_replay = with_check.subcommand(replay)?;
-    let debug = debug_line(alloc)?;
-    let with_debug = with_replay.subcommand(debug)?;
-    let state = state_line(alloc)?;
-    let with_state = with_debug.subcommand(state)?;
-    let propose = propose_line(alloc)?;
-    with_state.subcommand(propose)
+    let asm = with_command(alloc, bare_line(alloc), "asm", &[])?;
+    let dis = with_command(alloc, asm, "dis", &[])?;
+    let check = with_command(alloc, dis, "check", &[])?;
+    let replay = with_command(alloc, check, "replay", &[])?;
+    let debug = with_command(alloc, replay, "debug", &["entry", "steps"])?;
+    let state = with_command(alloc, debug, "state", &["at"])?;
+    with_command(alloc, state, "propose", &["workers"])
 }
 
 /// The program without its commands.
@@ -136,35 +155,35 @@ fn bare_line<'a>(alloc: Global) -> Command<'a>
     Command::new(alloc, "avm").no_binary_name(true)
 }
 
-/// The command `state` and its option.
-fn state_line<'a>(alloc: Global) -> Result<Command<'a>, AllocError>
-    ensures app { IfOk result (λ command.
-        app_of command ≡ with_rule (new_app (codes "state")) (number_rule (codes "at"))) }
-    ensures local { IfOk result (λ command. (out-Command command).has_globals ≡ false) }
+/// The commands with one more, whose options are numbers with these names.
+fn with_command<'a>(
+    alloc: Global,
+    commands: Command<'a>,
+    name: &'a str,
+    options: &[&'a str],
+) -> Result<Command<'a>, AllocError>
+    ensures { IfOk result (λ line. app_of line ≡ with_subcommand (app_of commands.entry)
+        (numbered name.now (map (λ option. option.now) options.now)).top) }
 {
-    let at = number_option(alloc, "at");
-    Command::new(alloc, "state").arg(at)
+    let command = numbered(alloc, name, options)?;
+    commands.subcommand(command)
 }
 
-/// The command `propose` and its option.
-fn propose_line<'a>(alloc: Global) -> Result<Command<'a>, AllocError>
+/// The command of this name, whose options are numbers with these names.
+fn numbered<'a>(
+    alloc: Global,
+    name: &'a str,
+    options: &[&'a str],
+) -> Result<Command<'a>, AllocError>
     ensures app { IfOk result (λ command.
-        app_of command ≡ with_rule (new_app (codes "propose")) (number_rule (codes "workers"))) }
+        app_of command ≡ numbered name.now (map (λ option. option.now) options.now)) }
     ensures local { IfOk result (λ command. (out-Command command).has_globals ≡ false) }
 {
-    let workers = number_option(alloc, "workers");
-    Command::new(alloc, "propose").arg(workers)
-}
-
-/// The command `debug` and its options.
-fn debug_line<'a>(alloc: Global) -> Result<Command<'a>, AllocError>
-    ensures app { IfOk result (λ command. app_of command ≡ with_rule (with_rule
-        (new_app (codes "debug")) (number_rule (codes "entry"))) (number_rule (codes "steps"))) }
-    ensures local { IfOk result (λ command. (out-Command command).has_globals ≡ false) }
-{
-    let entry = number_option(alloc, "entry");
-    let steps = number_option(alloc, "steps");
-    Command::new(alloc, "debug").arg(entry)?.arg(steps)
+    let mut command = Command::new(alloc, name);
+    for option in options {
+        command = command.arg(number_option(alloc, option))?;
+    }
+    Ok(command)
 }
 
 /// An option with a number below 2^64.

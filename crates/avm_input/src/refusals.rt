@@ -1,7 +1,7 @@
 //! Why an input of lines of digits is refused, and what is answered to it.
 
-ghost use Rattle.std.specs.Prelude.{◌≡◌, IfOk, string_bytes};
-ghost use Rattle.avm_input.specs.Refusals.{block_text, call_text, check_place, check_text, ledger_text, opening_text, refusal_reply, state_text};
+ghost use Rattle.std.specs.Prelude.{◌≡◌, ◌++◌, IfOk, codes, string_bytes};
+ghost use Rattle.avm_input.specs.Refusals.{call_text, check_place, check_text, refusal_reply, refusal_text};
 ghost use Rattle.avm_input.specs.Shown.{reply_shown};
 
 use crate::call_line::CallLineFault;
@@ -42,22 +42,36 @@ pub enum Refusal {
 pub fn refusal_reply(alloc: Global, refusal: Refusal) -> Result<Reply, AllocError>
     ensures { IfOk result (λ reply. reply_shown reply ≡ refusal_reply refusal) }
 {
-    let text = match refusal {
-        Refusal::Hex(line) => format!(in alloc; "refused hex {line}\n")?,
-        Refusal::Lines => String::from_str(alloc, "refused lines\n")?,
-        Refusal::Check(fault) => check_text(alloc, fault)?,
-        Refusal::Ledger(fault) => ledger_text(alloc, fault)?,
-        Refusal::Block(fault) => block_text(alloc, fault)?,
-        Refusal::State(fault) => state_text(alloc, fault)?,
-        Refusal::Header => String::from_str(alloc, "refused header\n")?,
-        Refusal::Call(number, fault) => call_text(alloc, number, fault)?,
-        Refusal::Opening(fault) => opening_text(alloc, fault)?,
-        Refusal::Ended => String::from_str(alloc, "refused debug Ended\n")?,
-    };
+    let text = refusal_text(alloc, refusal)?;
     Ok(Reply {
         text: text.into_bytes(),
         status: REFUSED,
     })
+}
+
+fn refusal_text(alloc: Global, refusal: Refusal) -> Result<String, AllocError>
+    ensures { IfOk result (λ text. string_bytes text ≡ refusal_text refusal) }
+{
+    match refusal {
+        Refusal::Hex(line) => format!(in alloc; "refused hex {line}\n"),
+        Refusal::Lines => String::from_str(alloc, "refused lines\n"),
+        Refusal::Check(fault) => check_text(alloc, fault),
+        Refusal::Ledger(fault) => named_text(alloc, "ledger", fault.name()),
+        Refusal::Block(fault) => named_text(alloc, "block", fault.name()),
+        Refusal::State(fault) => named_text(alloc, "state", fault.name()),
+        Refusal::Header => String::from_str(alloc, "refused header\n"),
+        Refusal::Call(number, fault) => call_text(alloc, number, fault),
+        Refusal::Opening(fault) => named_text(alloc, "debug", fault.name()),
+        Refusal::Ended => named_text(alloc, "debug", "Ended"),
+    }
+}
+
+/// The refusal of a part of the input, by the name of its fault.
+fn named_text(alloc: Global, part: &str, fault: &str) -> Result<String, AllocError>
+    ensures { IfOk result (λ text. string_bytes text
+        ≡ codes "refused " ++ (part.now ++ (codes " " ++ (fault.now ++ codes "\n")))) }
+{
+    format!(in alloc; "refused {part} {fault}\n")
 }
 
 fn check_text(alloc: Global, fault: CheckFault) -> Result<String, AllocError>
@@ -75,34 +89,6 @@ fn call_text(alloc: Global, number: usize, fault: CallLineFault) -> Result<Strin
 {
     let name = fault.name();
     format!(in alloc; "refused call {number} {name}\n")
-}
-
-fn ledger_text(alloc: Global, fault: LedgerFault) -> Result<String, AllocError>
-    ensures { IfOk result (λ text. string_bytes text ≡ ledger_text fault) }
-{
-    let name = fault.name();
-    format!(in alloc; "refused ledger {name}\n")
-}
-
-fn block_text(alloc: Global, fault: BlockFault) -> Result<String, AllocError>
-    ensures { IfOk result (λ text. string_bytes text ≡ block_text fault) }
-{
-    let name = fault.name();
-    format!(in alloc; "refused block {name}\n")
-}
-
-fn state_text(alloc: Global, fault: StateFault) -> Result<String, AllocError>
-    ensures { IfOk result (λ text. string_bytes text ≡ state_text fault) }
-{
-    let name = fault.name();
-    format!(in alloc; "refused state {name}\n")
-}
-
-fn opening_text(alloc: Global, fault: OpenFault) -> Result<String, AllocError>
-    ensures { IfOk result (λ text. string_bytes text ≡ opening_text fault) }
-{
-    let name = fault.name();
-    format!(in alloc; "refused debug {name}\n")
 }
 
 /// The place of the instruction that breaks the rule, where the rule is one of instructions.

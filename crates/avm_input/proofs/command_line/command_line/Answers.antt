@@ -1,14 +1,16 @@
+use Rattle.std.proofs.Common.{[], ◌∷◌, codes}
 use Rattle.std.proofs.lemmas.Result.{IfOk-weaker}
-use Rattle.avm_input.proofs.CommandNames.{with_shape}
+use Rattle.avm_input.specs.CommandLine.{numbered}
+use Rattle.avm_input.proofs.CommandNames.{with_more}
 use Rattle.avm_input.proofs.command_line.command_line.Goals as goal
 
 pub returns : goal.returns
 returns c =
-    let asm = with_shape _ _ _ _ _ c.in_ok-with_asm.ensures c.new-asm.ensures.local c.bare_line.ensures.app c.new-asm.ensures.app in
-    let dis = with_shape _ _ _ _ _ c.in_ok-with_dis.ensures c.new-dis.ensures.local asm c.new-dis.ensures.app in
-    let check = with_shape _ _ _ _ _ c.in_ok-with_check.ensures c.new-check.ensures.local dis c.new-check.ensures.app in
-    let replay = with_shape _ _ _ _ _ c.in_ok-with_replay.ensures c.new-replay.ensures.local check c.new-replay.ensures.app in
-    let debug = with_shape _ _ _ _ _ c.in_ok-with_debug.ensures c.in_ok-debug.ensures.local replay c.in_ok-debug.ensures.app in
-    let state = with_shape _ _ _ _ _ c.in_ok-with_state.ensures c.in_ok-state.ensures.local debug c.in_ok-state.ensures.app in
-    IfOk-weaker c.subcommand-7.result _ _
-    (λ line adds. with_shape _ _ line _ _ adds c.in_ok-propose.ensures.local state c.in_ok-propose.ensures.app) c.subcommand-7.ensures
+    let asm = with_more _ _ _ (numbered (codes "asm") []).top c.in_ok-asm.ensures c.bare_line.ensures.app in
+    let dis = with_more _ _ _ (numbered (codes "dis") []).top c.in_ok-dis.ensures asm in
+    let check = with_more _ _ _ (numbered (codes "check") []).top c.in_ok-check.ensures dis in
+    let replay = with_more _ _ _ (numbered (codes "replay") []).top c.in_ok-replay.ensures check in
+    let debug = with_more _ _ _ (numbered (codes "debug") (codes "entry" ∷ codes "steps" ∷ [])).top c.in_ok-debug.ensures replay in
+    let state = with_more _ _ _ (numbered (codes "state") (codes "at" ∷ [])).top c.in_ok-state.ensures debug in
+    IfOk-weaker c.with_command-7.result _ _
+    (λ line line_is. with_more _ _ _ (numbered (codes "propose") (codes "workers" ∷ [])).top line_is state) c.with_command-7.ensures
