@@ -24,3 +24,7 @@ front_begun b base header entries more h rest =
     ∙ ap (λ xs. start ++ xs) (sym (flat_map-append block_entry_bytes b.entries more) ∙ ap spelled whole)
     ∙ ap (λ xs. xs ++ spelled entries) same
     ∙ append_assoc four (u32_bytes (length entries)) (spelled entries)
+
+-- entries are the same whose timestamps, outcomes and calls are
+pub entry_is : (e f : Entry) → e.timestamp ≡ f.timestamp → e.outcome ≡ f.outcome → e.call ≡ f.call → e ≡ f
+entry_is e f timestamp outcome call = ap (λ t. record e { timestamp = t }) timestamp ∙ ap (λ o. record { timestamp = f.timestamp; call = e.call; outcome = o }) outcome ∙ ap (λ c. record { timestamp = f.timestamp; call = c; outcome = f.outcome }) call

@@ -130,7 +130,8 @@ fn are_same(entries: &[Entry], others: &[Entry]) -> bool
 fn is_same(entry: &Entry, other: &Entry) -> bool
     ensures { IsTrue result → entry.now ≡ other.now }
 {
-    entry.timestamp == other.timestamp
-        && entry.outcome == other.outcome
-        && entry.call.fields().is_same(other.call.fields())
+    if entry.timestamp != other.timestamp || entry.outcome != other.outcome {
+        return false;
+    }
+    entry.call.fields().is_same(other.call.fields())
 }

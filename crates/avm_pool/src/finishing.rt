@@ -53,12 +53,29 @@ pub(crate) fn proposal_of<R: Threads + Sync, const ENDS: bool>(
     ensures none { IfOk result (λ made. IfNone made (IsJournalOf journal
         draft.now.base.now draft.now.header (arc_value draft.now.calls).items → ⊥)) }
 {
-    let (is_own, parts) = test_and_parts(rt, alloc, &journal, remains, draft);
+    let made = made_of(rt, alloc, &journal, remains, draft);
+    to_free::<Journal, ENDS>(journal);
+    made
+}
+
+/// The proposal of a journal that stays, if it is of this draft.
+fn made_of<R: Threads + Sync>(
+    rt: &R,
+    alloc: Global,
+    journal: &Journal,
+    remains: Remains,
+    draft: &SharedDraft,
+) -> Result<Option<Proposal>, AllocError>
+    ensures proposal { IfOk result (λ made. IfSome made
+        (IsProposal draft.now.base.now draft.now.header (arc_value draft.now.calls).items)) }
+    ensures none { IfOk result (λ made. IfNone made (IsJournalOf journal.now
+        draft.now.base.now draft.now.header (arc_value draft.now.calls).items → ⊥)) }
+{
+    let (is_own, parts) = test_and_parts(rt, alloc, journal, remains, draft);
     if !is_own {
         return Ok(None);
     }
-    let proposal = proposal_with(alloc, &journal, parts?)?;
-    to_free::<Journal, ENDS>(journal);
+    let proposal = proposal_with(alloc, journal, parts?)?;
     Ok(Some(proposal))
 }
 

@@ -238,16 +238,21 @@ impl<'a> SharedDraft<'a> {
         ensures { IfOk result (λ opened. IsJournalOf opened.0 self.now.base.now self.now.header
             (arc_value self.now.calls).items) }
     {
-        match open_on(
-            alloc,
-            self.base.try_clone()?,
-            self.header,
-            Arc::try_clone(&self.calls)?,
-        ) {
-            Ok((journal, held)) => {
-                let shards = locked(alloc, held)?;
-                Ok((journal, shards))
-            }
+        let (journal, held) = self.open_held(alloc)?;
+        let shards = locked(alloc, held)?;
+        Ok((journal, shards))
+    }
+
+    /// The same, with its shards held together.
+    fn open_held(&self, alloc: Global) -> Result<(Journal, Held), AllocError>
+        requires opens { open_fault self.now.header (arc_value self.now.calls).items ≡ None }
+        ensures { IfOk result (λ opened. IsJournalOf opened.0 self.now.base.now self.now.header
+            (arc_value self.now.calls).items) }
+    {
+        let base = self.base.try_clone()?;
+        let calls = Arc::try_clone(&self.calls)?;
+        match open_on(alloc, base, self.header, calls) {
+            Ok(opened) => Ok(opened),
             Err(Failure::Memory) => Err(AllocError),
             Err(Failure::Fault(_fault)) => unreachable!(),
         }
