@@ -5,6 +5,7 @@ use avm_ledger::Header;
 use avm_ops::{Op, Ops};
 use avm_run::FullOps;
 use mv_parts::SharedBase;
+use std::alloc::Global;
 use std::sync::Arc;
 
 /// Calls that are proposed, over a ledger: an [`avm_ledger::Ledger`], or one that is shared.
@@ -19,6 +20,7 @@ pub struct Draft<'a, B> {
 /// A draft that journals are opened on, which share its calls.
 #[derive(Drop)]
 pub(crate) struct SharedDraft<'a> {
+    pub alloc: Global,
     pub base: &'a SharedBase,
     pub header: Header,
     pub calls: Arc<Vec<Call>>,

@@ -43,17 +43,16 @@ pub(crate) struct Parts {
 /// The proposal of a journal, if it is of this draft.
 pub(crate) fn proposal_of<R: Threads + Sync, const ENDS: bool>(
     rt: &R,
-    alloc: Global,
+    draft: &SharedDraft,
     journal: Journal,
     remains: Remains,
-    draft: &SharedDraft,
 ) -> Result<Option<Proposal>, AllocError>
     ensures proposal { IfOk result (λ made. IfSome made
         (IsProposal draft.now.base.now draft.now.header (arc_value draft.now.calls).items)) }
     ensures none { IfOk result (λ made. IfNone made (IsJournalOf journal
         draft.now.base.now draft.now.header (arc_value draft.now.calls).items → ⊥)) }
 {
-    let made = made_of(rt, alloc, &journal, remains, draft);
+    let made = made_of(rt, draft, &journal, remains);
     to_free::<Journal, ENDS>(journal);
     made
 }
@@ -61,21 +60,20 @@ pub(crate) fn proposal_of<R: Threads + Sync, const ENDS: bool>(
 /// The proposal of a journal that stays, if it is of this draft.
 fn made_of<R: Threads + Sync>(
     rt: &R,
-    alloc: Global,
+    draft: &SharedDraft,
     journal: &Journal,
     remains: Remains,
-    draft: &SharedDraft,
 ) -> Result<Option<Proposal>, AllocError>
     ensures proposal { IfOk result (λ made. IfSome made
         (IsProposal draft.now.base.now draft.now.header (arc_value draft.now.calls).items)) }
     ensures none { IfOk result (λ made. IfNone made (IsJournalOf journal.now
         draft.now.base.now draft.now.header (arc_value draft.now.calls).items → ⊥)) }
 {
-    let (is_own, parts) = test_and_parts(rt, alloc, journal, remains, draft);
+    let (is_own, parts) = test_and_parts(rt, draft, journal, remains);
     if !is_own {
         return Ok(None);
     }
-    let proposal = proposal_with(alloc, journal, parts?)?;
+    let proposal = proposal_with(draft.alloc, journal, parts?)?;
     Ok(Some(proposal))
 }
 
@@ -107,16 +105,16 @@ fn proposal_with(alloc: Global, journal: &Journal, parts: Parts) -> Result<Propo
 /// Whether a journal is of this draft, and the parts of its block.
 fn test_and_parts<R: Threads + Sync>(
     rt: &R,
-    alloc: Global,
+    draft: &SharedDraft,
     journal: &Journal,
     remains: Remains,
-    draft: &SharedDraft,
 ) -> (bool, Result<Parts, AllocError>)
     ensures own { IsTrue result.0 ↔ IsJournalOf journal.now draft.now.base.now draft.now.header
         (arc_value draft.now.calls).items }
     ensures parts { IfOk result.1 (AreParts journal.now draft.now.base.now draft.now.header) }
 {
     let Remains { shards, ahead } = remains;
+    let alloc = draft.alloc;
     let (base, header, calls) = (draft.base, &draft.header, draft.calls.as_slice());
     join(
         rt,

@@ -1,11 +1,12 @@
 //! The pool.
 
-ghost use Rattle.std.specs.Prelude.{◌≡◌, ◌≤◌, true, [], IfErr, IfOk, IfSome, None, OnOk, length};
+ghost use Rattle.std.specs.Prelude.{◌≡◌, ◌≤◌, true, [], IfErr, IfNone, IfOk, IfSome, IsFalse, IsTrue, None, OnOk, length};
 ghost use Rattle.std.specs.Arc.{arc_value};
 ghost use Rattle.mv_parts.specs.Opening.{open_fault};
 ghost use Rattle.mv_parts.specs.Sealing.{IsJournalOf};
 ghost use Rattle.avm_pool.specs.Proposals.{IsProposal};
 ghost use Rattle.avm_pool.specs.Refusals.{IsRefusal, IsWant, MayPropose};
+ghost use Rattle.avm_pool.specs.Resting.{IsStill};
 
 use crate::ahead::Ahead;
 use crate::draft::{Crew, Draft, SharedDraft, ThreadSets};
@@ -133,14 +134,58 @@ fn proposed<G: Gate, R: Threads + Wait + Sync, O: Op, const ENDS: bool>(
     } = draft;
     let calls = Arc::new(alloc, calls)?;
     let draft = SharedDraft {
+        alloc,
         base,
         header,
         calls,
     };
     let Crew { workers, own } = crew;
-    match by_workers::<G, R, O, ENDS>(rt, alloc, &draft, workers, &own, gate)? {
+    match by_workers::<G, R, O, ENDS>(rt, &draft, workers, &own, gate)? {
         Some(proposal) => Ok(proposal),
-        None => proposed_anew::<G, R, O, ENDS>(rt, alloc, &draft, &own, gate),
+        None => proposed_anew::<G, R, O, ENDS>(rt, &draft, &own, gate),
+    }
+}
+
+/// A journal of which no thread runs a call, its shards behind locks of their own, and the front of its block so far.
+#[derive(Drop)]
+struct Opened {
+    journal: Journal,
+    shards: Vec<ShardLock>,
+    ahead: Option<Ahead>,
+}
+
+impl Opened {
+    /// Runs the calls that are left, by one thread, and tells whether it did: it does not where calls are live.
+    fn run_rest<G: Gate, R: Wait, O: Op>(
+        &mut self,
+        rt: &R,
+        draft: &SharedDraft,
+        own: &FullOps<O>,
+        gate: &G,
+    ) -> Result<bool, PoolError>
+        ensures still { IfOk result
+            (λ done. IsTrue done → IsStill self.old.journal self.new.journal) }
+        ensures live { IfOk result
+            (λ done. IsFalse done → self.old.journal.world.live ≡ [] → ⊥) }
+        ensures want { IfErr result IsWant }
+    {
+        if !self.journal.is_over() {
+            return Ok(false);
+        }
+        let nobody = Mutex::new(None);
+        let shared = Shared {
+            alloc: draft.alloc,
+            shards: self.shards.as_slice(),
+            calls: draft.calls.as_slice(),
+            header: &draft.header,
+            ahead: &nobody,
+            gate,
+        };
+        if run_rest(rt, &shared, &mut self.journal, own) {
+            Ok(true)
+        } else {
+            Err(Failure::Fault(PoolFault::ClockEnd))
+        }
     }
 }
 
@@ -148,7 +193,6 @@ fn proposed<G: Gate, R: Threads + Wait + Sync, O: Op, const ENDS: bool>(
 /// opened, or calls are live in it.
 fn by_workers<G: Gate, R: Threads + Wait + Sync, O: Op, const ENDS: bool>(
     rt: &R,
-    alloc: Global,
     draft: &SharedDraft,
     workers: Vec<Ops<O>>,
     own: &FullOps<O>,
@@ -159,11 +203,11 @@ fn by_workers<G: Gate, R: Threads + Wait + Sync, O: Op, const ENDS: bool>(
         (IsProposal draft.now.base.now draft.now.header (arc_value draft.now.calls).items)) }
     ensures want { IfErr result IsWant }
 {
-    let (journal, shards) = draft.open(alloc)?;
+    let ahead = Mutex::new(draft.ahead(workers.len())?);
+    let (journal, shards) = draft.open()?;
     let journal = Mutex::new(journal);
-    let ahead = Mutex::new(draft.ahead(alloc, workers.len())?);
     let shared = Shared {
-        alloc,
+        alloc: draft.alloc,
         shards: shards.as_slice(),
         calls: draft.calls.as_slice(),
         header: &draft.header,
@@ -171,25 +215,18 @@ fn by_workers<G: Gate, R: Threads + Wait + Sync, O: Op, const ENDS: bool>(
         gate,
     };
     run_sets(rt, &journal, &shared, workers)?;
-    let mut journal = journal.into_inner();
-    if !journal.is_over() {
-        return Ok(None);
-    }
-    if !run_rest(rt, &shared, &mut journal, own) {
-        return Err(Failure::Fault(PoolFault::ClockEnd));
-    }
-    let remains = Remains {
-        shards: to_free::<Vec<ShardLock>, ENDS>(shards),
+    let left = Opened {
+        journal: journal.into_inner(),
+        shards,
         ahead: ahead.into_inner(),
     };
-    Ok(proposal_of::<R, ENDS>(rt, alloc, journal, remains, draft)?)
+    by_rest::<G, R, O, ENDS>(rt, draft, own, gate, left)
 }
 
 /// What one thread makes of all calls. It is for a journal that is not the one that was opened, which nothing rules out that
 /// is known of a value behind a lock.
 fn proposed_anew<G: Gate, R: Threads + Wait + Sync, O: Op, const ENDS: bool>(
     rt: &R,
-    alloc: Global,
     draft: &SharedDraft,
     own: &FullOps<O>,
     gate: &G,
@@ -199,59 +236,83 @@ fn proposed_anew<G: Gate, R: Threads + Wait + Sync, O: Op, const ENDS: bool>(
         (IsProposal draft.now.base.now draft.now.header (arc_value draft.now.calls).items) }
     ensures want { IfErr result IsWant }
 {
-    let (journal, shards) = draft.open(alloc)?;
-    let shared = Shared {
-        alloc,
-        shards: shards.as_slice(),
-        calls: draft.calls.as_slice(),
-        header: &draft.header,
-        ahead: &Mutex::new(None),
-        gate,
-    };
-    let mut journal = journal;
-    if !run_rest(rt, &shared, &mut journal, own) {
-        return Err(Failure::Fault(PoolFault::ClockEnd));
-    }
-    let remains = Remains {
-        shards: to_free::<Vec<ShardLock>, ENDS>(shards),
+    let (journal, shards) = draft.open()?;
+    let opened = Opened {
+        journal,
+        shards,
         ahead: None,
     };
-    match proposal_of::<R, ENDS>(rt, alloc, journal, remains, draft)? {
+    match by_rest::<G, R, O, ENDS>(rt, draft, own, gate, opened)? {
         Some(proposal) => Ok(proposal),
         None => unreachable!(),
     }
 }
 
+/// What one thread makes of the calls that are left; none where the journal is not of the draft, or calls are live in it.
+fn by_rest<G: Gate, R: Threads + Wait + Sync, O: Op, const ENDS: bool>(
+    rt: &R,
+    draft: &SharedDraft,
+    own: &FullOps<O>,
+    gate: &G,
+    opened: Opened,
+) -> Result<Option<Proposal>, PoolError>
+    ensures proposal { IfOk result (λ made. IfSome made
+        (IsProposal draft.now.base.now draft.now.header (arc_value draft.now.calls).items)) }
+    ensures none { IfOk result (λ made. IfNone made (IsJournalOf opened.journal
+        draft.now.base.now draft.now.header (arc_value draft.now.calls).items → ⊥)) }
+    ensures want { IfErr result IsWant }
+{
+    let mut opened = opened;
+    if !opened.run_rest(rt, draft, own, gate)? {
+        return Ok(None);
+    }
+    let Opened {
+        journal,
+        shards,
+        ahead,
+    } = opened;
+    let remains = Remains {
+        shards: to_free::<Vec<ShardLock>, ENDS>(shards),
+        ahead,
+    };
+    Ok(proposal_of::<R, ENDS>(rt, draft, journal, remains)?)
+}
+
 impl<'a> SharedDraft<'a> {
     /// What stands before all calls of the draft in a block, if there are several workers, who go ahead with it.
-    fn ahead(&self, alloc: Global, workers: usize) -> Result<Option<Ahead>, AllocError> {
+    fn ahead(&self, workers: usize) -> Result<Option<Ahead>, AllocError> {
         if workers < 2 {
             return Ok(None);
         }
-        let ahead = Ahead::begin(alloc, self.base.digest(), &self.header, self.calls.len())?;
+        let ahead = Ahead::begin(
+            self.alloc,
+            self.base.digest(),
+            &self.header,
+            self.calls.len(),
+        )?;
         Ok(Some(ahead))
     }
 
     /// A journal of which no call has begun, and its shards behind locks of their own.
-    fn open(&self, alloc: Global) -> Result<(Journal, Vec<ShardLock>), AllocError>
+    fn open(&self) -> Result<(Journal, Vec<ShardLock>), AllocError>
         requires opens { open_fault self.now.header (arc_value self.now.calls).items ≡ None }
         ensures { IfOk result (λ opened. IsJournalOf opened.0 self.now.base.now self.now.header
             (arc_value self.now.calls).items) }
     {
-        let (journal, held) = self.open_held(alloc)?;
-        let shards = locked(alloc, held)?;
+        let (journal, held) = self.open_held()?;
+        let shards = locked(self.alloc, held)?;
         Ok((journal, shards))
     }
 
     /// The same, with its shards held together.
-    fn open_held(&self, alloc: Global) -> Result<(Journal, Held), AllocError>
+    fn open_held(&self) -> Result<(Journal, Held), AllocError>
         requires opens { open_fault self.now.header (arc_value self.now.calls).items ≡ None }
         ensures { IfOk result (λ opened. IsJournalOf opened.0 self.now.base.now self.now.header
             (arc_value self.now.calls).items) }
     {
         let base = self.base.try_clone()?;
         let calls = Arc::try_clone(&self.calls)?;
-        match open_on(alloc, base, self.header, calls) {
+        match open_on(self.alloc, base, self.header, calls) {
             Ok(opened) => Ok(opened),
             Err(Failure::Memory) => Err(AllocError),
             Err(Failure::Fault(_fault)) => unreachable!(),
