@@ -263,9 +263,30 @@ fn by_rest<G: Gate, R: Threads + Wait + Sync, O: Op, const ENDS: bool>(
     ensures want { IfErr result IsWant }
 {
     let mut opened = opened;
-    if !opened.run_rest(rt, draft, own, gate)? {
-        return Ok(None);
+    match opened.run_rest(rt, draft, own, gate) {
+        Ok(true) => Ok(finished::<R, ENDS>(rt, draft, opened)?),
+        Ok(false) => {
+            drop(opened);
+            Ok(None)
+        }
+        Err(error) => {
+            drop(opened);
+            Err(error)
+        }
     }
+}
+
+/// The proposal of a journal on which all calls have run, if it is of the draft.
+fn finished<R: Threads + Sync, const ENDS: bool>(
+    rt: &R,
+    draft: &SharedDraft,
+    opened: Opened,
+) -> Result<Option<Proposal>, AllocError>
+    ensures proposal { IfOk result (λ made. IfSome made
+        (IsProposal draft.now.base.now draft.now.header (arc_value draft.now.calls).items)) }
+    ensures none { IfOk result (λ made. IfNone made (IsJournalOf opened.journal
+        draft.now.base.now draft.now.header (arc_value draft.now.calls).items → ⊥)) }
+{
     let Opened {
         journal,
         shards,
@@ -275,7 +296,7 @@ fn by_rest<G: Gate, R: Threads + Wait + Sync, O: Op, const ENDS: bool>(
         shards: to_free::<Vec<ShardLock>, ENDS>(shards),
         ahead,
     };
-    Ok(proposal_of::<R, ENDS>(rt, draft, journal, remains)?)
+    proposal_of::<R, ENDS>(rt, draft, journal, remains)
 }
 
 impl<'a> SharedDraft<'a> {
