@@ -1,5 +1,5 @@
 -- What a binary search finds among entries by rising key.
-use Rattle.std.proofs.Common.{◌≡◌, ◌∙◌, ℕ, zero, suc, ◌+◌, ◌<◌, ◌≤◌, false, List, [], ◌∷◌, length, get_or, set, None, Some, Result, Ok, Err, refl, sym, ap, subst, cond, arith}
+use Rattle.std.proofs.Common.{◌≡◌, ◌∙◌, ℕ, zero, suc, ◌+◌, ◌<◌, ◌≤◌, false, List, [], ◌∷◌, length, get_or, None, Some, Result, Ok, Err, refl, sym, ap, subst, cond, arith}
 use Rattle.std.specs.Ordering.{is_eq, is_lt, match_ordering, ordering_reverse}
 use Rattle.std.specs.declared.cmp.Ordering.{Ordering}
 use Rattle.std.specs.declared.cmp.Ordering.TheVariants.{Less, Equal, Greater}
@@ -89,3 +89,11 @@ module _ {K X : Type 0} {R : K → K → Ordering} (o : IsTotalOrder R) where
   searched es k s (Err i) within parted =
       let parts = parted (searchable_from_sorted o (λ (e : K × X). e.0) es k (λ i d _ within. subst (λ n. is_lt (R (get_or es n d).0 (get_or es i d).0) ≡ false) {x = suc i} {y = i + 1} (omega arith) (rises es s i d (omega (arith, within))))) in
       would_go es k i within (λ j d h. parts.0 j d (omega arith) h) (λ j d h inside. parts.1 j d h inside)
+
+-- The entries that were searched are those of the `Vec`, and the place is one among these.
+module _ {K X : Type 0} {R : K → K → Ordering} {k : K} {place : ℕ} {found es : List (K × X)} (same : found ≡ es) where
+  pub stands_in : StandsAt R k found place → StandsAt R k es place
+  stands_in = subst (λ xs. StandsAt R k xs place) same
+
+  pub would_go_in : WouldGoTo R k found place → WouldGoTo R k es place
+  would_go_in = subst (λ xs. WouldGoTo R k xs place) same
