@@ -13,4 +13,3 @@ pub mod LedgerRead
 pub mod ManyReading
 pub mod KeptOrder
 pub mod Collected
-pub mod Appended

@@ -4,3 +4,4 @@ pub mod ManyReading
 pub mod VaruintWriting
 pub mod Bytes
 pub mod Prefixes
+pub mod Appended

@@ -1,7 +1,7 @@
 use Rattle.std.proofs.Common.{◌<◌, ◌++◌, length, get_or, ap, ◌∙◌, arith}
 use Rattle.std.specs.List.{flat_map}
 use Rattle.avm_ledger.specs.Spellings.{entry_bytes, u8_bytes}
-use Rattle.avm_ledger.proofs.Appended.{at_first, goes_on, none_left, one_more}
+use Rattle.teal_code.proofs.Appended.{at_first, goes_on, none_left, one_more}
 use Rattle.avm_ledger.proofs.spelling.push_state.Goals as goal
 
 pub loop-key-init : goal.loop-key-init
