@@ -44,10 +44,20 @@ pub(crate) struct Programs {
 
 /// A call that keeps the rules of calls, which contracts see as its fields. All clones share them, and the programs that
 /// it brings are decoded once.
-#[derive(Drop)]
 pub struct Call {
     fields: Arc<CallData>,
     programs: Option<Programs>,
+}
+
+/// Written out, so that whoever owns one drops it by one call and not part by part.
+impl Drop for Call {
+    #[inline]
+    fn drop(self) {
+        let Call {
+            fields: _,
+            programs: _,
+        } = self;
+    }
 }
 
 impl Model for Call {

@@ -34,7 +34,6 @@ pub const MAX_BYTES: usize = 4096;
 /// leaves it as it was. The stack and the scratch space lie in boxes, and are written over in place: a machine is made once
 /// for many runs, by [`Cpu::reset`], and holds the memory of byte strings until they are written over. The memory for
 /// constants stays with it from run to run.
-#[derive(Drop)]
 pub struct Cpu {
     /// The first of these are on the stack, so many as `depth` says, the top last; the others are of no account.
     stack: Box<ArrayVec<Value, MAX_VALUES>>,
@@ -45,6 +44,22 @@ pub struct Cpu {
     uint_constants: Vec<u64>,
     byte_constants: ByteConstants,
     place: u16,
+}
+
+/// Written out, so that whoever owns one drops it by one call and not part by part.
+impl Drop for Cpu {
+    #[inline]
+    fn drop(self) {
+        let Cpu {
+            stack: _,
+            depth: _,
+            scratch: _,
+            used: _,
+            uint_constants: _,
+            byte_constants: _,
+            place: _,
+        } = self;
+    }
 }
 
 impl Model for Cpu {

@@ -74,7 +74,7 @@ impl Completion {
 }
 
 /// The fields of an application call.
-#[derive(Debug, Drop)]
+#[derive(Debug)]
 pub struct CallData {
     pub sender: Address,
     /// In microalgos.
@@ -100,6 +100,31 @@ pub struct CallData {
     pub clear: ThinBytes,
     pub global_schema: Schema,
     pub local_schema: Schema,
+}
+
+/// Written out, so that whoever owns one drops it by one call and not part by part.
+impl Drop for CallData {
+    #[inline]
+    fn drop(self) {
+        let CallData {
+            sender: _,
+            fee: _,
+            first_valid: _,
+            last_valid: _,
+            note: _,
+            lease: _,
+            rekey_to: _,
+            application: _,
+            completion: _,
+            arguments: _,
+            accounts: _,
+            foreign_applications: _,
+            approval: _,
+            clear: _,
+            global_schema: _,
+            local_schema: _,
+        } = self;
+    }
 }
 
 impl CallData {

@@ -23,7 +23,6 @@ use teal_value::{Address, StateKey, Value};
 
 /// What a call knows while its program runs: its fields, the block's header, the application that runs, the items that
 /// it was given, and those that it has written.
-#[derive(Drop)]
 pub struct Env {
     call: Arc<CallData>,
     header: Header,
@@ -32,6 +31,21 @@ pub struct Env {
     writes: ItemMap,
     /// The value that the keys of a new application have, to be lent.
     absent: ItemValue,
+}
+
+/// Written out, so that whoever owns one drops it by one call and not part by part.
+impl Drop for Env {
+    #[inline]
+    fn drop(self) {
+        let Env {
+            call: _,
+            header: _,
+            current: _,
+            reads: _,
+            writes: _,
+            absent: _,
+        } = self;
+    }
 }
 
 impl Model for Env {

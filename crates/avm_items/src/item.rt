@@ -12,7 +12,7 @@ use std::cmp::Ordering;
 use teal_value::{Address, StateKey};
 
 /// A part of a ledger that a call reads or writes as a whole. Items are ordered as written here.
-#[derive(Debug, Drop)]
+#[derive(Debug)]
 pub enum Item {
     /// The id of the next application that is created.
     NextApp,
@@ -24,6 +24,17 @@ pub enum Item {
     Key(u64, StateKey),
     /// An account's local state of an application, as a whole.
     Local(Address, u64),
+}
+
+/// Written out, so that whoever owns one drops it by one call and not part by part.
+impl Drop for Item {
+    #[inline]
+    fn drop(self) {
+        match self {
+            Item::NextApp | Item::App(_) | Item::Counts(_) => {}
+            Item::Key(_, _) | Item::Local(_, _) => {}
+        }
+    }
 }
 
 impl Item {

@@ -25,11 +25,23 @@ use teal_value::{Address, Failure, StateKey, Value};
 /// A ledger: applications with their global states, the local states of accounts, and the id of the next application,
 /// which no application has, nor one above it. What it finds it finds in logarithmic time. It is changed as an
 /// [`OpenLedger`].
-#[derive(Debug, Drop)]
+#[derive(Debug)]
 pub struct Ledger {
     next_id: u64,
     applications: BTreeMap<u64, StoredApplication>,
     local_states: BTreeMap<(Address, u64), SharedState>,
+}
+
+/// Written out, so that whoever owns one drops it by one call and not part by part.
+impl Drop for Ledger {
+    #[inline]
+    fn drop(self) {
+        let Ledger {
+            next_id: _,
+            applications: _,
+            local_states: _,
+        } = self;
+    }
 }
 
 impl Model for Ledger {
@@ -83,10 +95,15 @@ impl Ledger {
         ensures same { result ≡ self }
         ensures orderly { IsOrderly self }
     {
+        let Ledger {
+            next_id,
+            applications,
+            local_states,
+        } = self;
         OpenLedger {
-            next_id: self.next_id,
-            applications: self.applications,
-            local_states: self.local_states,
+            next_id,
+            applications,
+            local_states,
         }
     }
 

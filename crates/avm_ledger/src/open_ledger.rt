@@ -20,11 +20,23 @@ use teal_value::{Address, StateKey, Value};
 
 /// A ledger that is being changed, which contracts see as one: its maps are in order, and its next id may be any, also
 /// that of an application. So items are put one after another in whatever order they come.
-#[derive(Debug, Drop)]
+#[derive(Debug)]
 pub struct OpenLedger {
     pub(crate) next_id: u64,
     pub(crate) applications: BTreeMap<u64, StoredApplication>,
     pub(crate) local_states: BTreeMap<(Address, u64), SharedState>,
+}
+
+/// Written out, so that whoever owns one drops it by one call and not part by part.
+impl Drop for OpenLedger {
+    #[inline]
+    fn drop(self) {
+        let OpenLedger {
+            next_id: _,
+            applications: _,
+            local_states: _,
+        } = self;
+    }
 }
 
 impl Model for OpenLedger {
@@ -43,7 +55,12 @@ impl OpenLedger {
         requires { IsOrderly self }
         ensures { result ≡ self }
     {
-        Ledger::from_parts(self.next_id, self.applications, self.local_states)
+        let OpenLedger {
+            next_id,
+            applications,
+            local_states,
+        } = self;
+        Ledger::from_parts(next_id, applications, local_states)
     }
 
     /// The id of the next application.

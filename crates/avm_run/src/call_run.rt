@@ -158,11 +158,18 @@ pub(crate) fn finished(call: Call, header: Header, closed: EndedRun) -> Finished
 }
 
 /// A run of a call, which contracts see as its progress, or as none where it is spent.
-#[derive(Drop)]
 pub struct CallRun {
     state: State,
     /// A box for the program, until it begins and after it has ended.
     spare: Option<Spare>,
+}
+
+/// Written out, so that whoever owns one drops it by one call and not part by part.
+impl Drop for CallRun {
+    #[inline]
+    fn drop(self) {
+        let CallRun { state: _, spare: _ } = self;
+    }
 }
 
 impl Model for CallRun {

@@ -16,13 +16,26 @@ use std::marker::Model;
 
 /// A call that has ended, with the items that it read, those that it wrote, and its outcome. The definition of the call,
 /// over the items read alone, gives this outcome and these writes, so every ledger that agrees with them does.
-#[derive(Drop)]
 pub struct Finished {
     call: Call,
     header: Header,
     reads: ItemMap,
     writes: ItemMap,
     outcome: Outcome,
+}
+
+/// Written out, so that whoever owns one drops it by one call and not part by part.
+impl Drop for Finished {
+    #[inline]
+    fn drop(self) {
+        let Finished {
+            call: _,
+            header: _,
+            reads: _,
+            writes: _,
+            outcome: _,
+        } = self;
+    }
 }
 
 impl Model for Finished {
@@ -94,12 +107,19 @@ impl Finished {
     pub fn without_room(self, alloc: Global) -> Finished
         ensures { result ≡ self }
     {
+        let Finished {
+            call,
+            header,
+            reads,
+            writes,
+            outcome,
+        } = self;
         Finished {
-            call: self.call,
-            header: self.header,
-            reads: self.reads,
-            writes: self.writes.without_room(alloc),
-            outcome: self.outcome,
+            call,
+            header,
+            reads,
+            writes: writes.without_room(alloc),
+            outcome,
         }
     }
 
@@ -107,7 +127,14 @@ impl Finished {
     pub fn into_writes(self) -> ItemMap
         ensures { result ≡ self.writes }
     {
-        self.writes
+        let Finished {
+            call: _,
+            header: _,
+            reads: _,
+            writes,
+            outcome: _,
+        } = self;
+        writes
     }
 
     /// How the call ended.

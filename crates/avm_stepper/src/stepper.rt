@@ -25,7 +25,6 @@ use teal_value::{Failure, Fault};
 
 /// A call that is stepped through over the ledger that it met, which contracts see as that ledger, the call and its
 /// header with the steps made; as none where it is spent.
-#[derive(Drop)]
 pub struct Stepper {
     ledger: Ledger,
     /// What the call has written before its program.
@@ -34,6 +33,19 @@ pub struct Stepper {
     run: Option<CallRun>,
     /// The fault of the step behind those made, where it was tried.
     fault: Option<Fault>,
+}
+
+/// Written out, so that whoever owns one drops it by one call and not part by part.
+impl Drop for Stepper {
+    #[inline]
+    fn drop(self) {
+        let Stepper {
+            ledger: _,
+            prepared: _,
+            run: _,
+            fault: _,
+        } = self;
+    }
 }
 
 impl Model for Stepper {

@@ -81,7 +81,7 @@ fn known_next_id(run: &CallRun) -> Option<u64> {
 
 /// Whether a step of a run asks for the next id, and takes 7.
 fn takes_7<O: Op>(alloc: Global, ops: &FullOps<O>, run: &mut CallRun) -> bool {
-    let asks = matches!(run.step_one(alloc, ops), Ok(Step::Need(Item::NextApp)));
+    let asks = matches!(&run.step_one(alloc, ops), Ok(Step::Need(Item::NextApp)));
     asks && run.supply(Item::NextApp, ItemValue::NextApp(7)) == Ok(())
 }
 

@@ -62,13 +62,26 @@ fn field_named(alloc: Global, name: &str) -> Result<SourceField, FieldError>
 }
 
 /// The programs of sources, found by what they are for, and what each is for in the order of the document.
-#[derive(Drop)]
 pub(crate) struct Sources {
     places: Vec<(SourceField, u64)>,
     approvals: BTreeMap<u64, ByteString>,
     clears: BTreeMap<u64, ByteString>,
     call_approvals: BTreeMap<u64, ByteString>,
     call_clears: BTreeMap<u64, ByteString>,
+}
+
+/// Written out, so that whoever owns one drops it by one call and not part by part.
+impl Drop for Sources {
+    #[inline]
+    fn drop(self) {
+        let Sources {
+            places: _,
+            approvals: _,
+            clears: _,
+            call_approvals: _,
+            call_clears: _,
+        } = self;
+    }
 }
 
 impl Model for Sources {

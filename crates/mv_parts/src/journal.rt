@@ -32,7 +32,6 @@ use std::sync::Arc;
 use teal_value::Failure;
 
 /// The committed calls by rising timestamp, the clock, and which calls are live.
-#[derive(Drop)]
 pub struct Journal {
     pub(crate) alloc: Global,
     pub(crate) base: SharedBase,
@@ -45,6 +44,25 @@ pub struct Journal {
     pub(crate) live: LiveCalls,
     /// All versions, in shards of the journal's own that are never pruned.
     pub(crate) index: Held,
+}
+
+/// Written out, so that whoever owns one drops it by one call and not part by part.
+impl Drop for Journal {
+    #[inline]
+    fn drop(self) {
+        let Journal {
+            alloc: _,
+            base: _,
+            header: _,
+            calls: _,
+            clock: _,
+            low: _,
+            entries: _,
+            states: _,
+            live: _,
+            index: _,
+        } = self;
+    }
 }
 
 impl Model for Journal {

@@ -17,13 +17,24 @@ use std::alloc::{AllocError, Global};
 use std::marker::Model;
 
 /// The chains of some items, in the order in which they were made. A chain's number is its index there, and stays.
-#[derive(Drop)]
 pub(crate) struct Chains {
     numbers: Numbers,
     list: Vec<(Item, Chain<ItemValue>)>,
     /// For each slot the number of the item that was asked for last, so that most items are found without a look into the
     /// map. Nothing rests on it: whether the chain of the number is the item's is asked each time.
     recent: Vec<usize>,
+}
+
+/// Written out, so that whoever owns one drops it by one call and not part by part.
+impl Drop for Chains {
+    #[inline]
+    fn drop(self) {
+        let Chains {
+            numbers: _,
+            list: _,
+            recent: _,
+        } = self;
+    }
 }
 
 impl Model for Chains {

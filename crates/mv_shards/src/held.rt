@@ -25,13 +25,24 @@ use std::alloc::{AllocError, Global};
 use std::marker::Model;
 
 /// Some of the shards, each at its index.
-#[derive(Drop)]
 pub struct Held {
     parts: Parts,
     /// One more than the index of the last part, or 0 where there is none.
     end: usize,
     /// Where a commit finds its chains. Nothing rests on it between commits.
     rooms: Rooms,
+}
+
+/// Written out, so that whoever owns one drops it by one call and not part by part.
+impl Drop for Held {
+    #[inline]
+    fn drop(self) {
+        let Held {
+            parts: _,
+            end: _,
+            rooms: _,
+        } = self;
+    }
 }
 
 impl Model for Held {

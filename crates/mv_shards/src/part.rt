@@ -23,13 +23,26 @@ use std::sync::Arc;
 use teal_value::Failure;
 
 /// The versions of a part of the items. What has no chain has the base's version alone.
-#[derive(Drop)]
 pub(crate) struct Part {
     pub(crate) alloc: Global,
     pub(crate) index: u8,
     pub(crate) low: u64,
     pub(crate) base: Arc<Ledger>,
     pub(crate) chains: Chains,
+}
+
+/// Written out, so that whoever owns one drops it by one call and not part by part.
+impl Drop for Part {
+    #[inline]
+    fn drop(self) {
+        let Part {
+            alloc: _,
+            index: _,
+            low: _,
+            base: _,
+            chains: _,
+        } = self;
+    }
 }
 
 /// A copy of the newest value not above a timestamp in the chain of a number.

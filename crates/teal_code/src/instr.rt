@@ -7,7 +7,7 @@ use teal_table::Opcode;
 use teal_value::{ByteString, ByteStrings, Uints};
 
 /// What stands behind an opcode, by value. The opcode's row says which of these it is, and what it means there.
-#[derive(Debug, Drop)]
+#[derive(Debug)]
 pub enum Immediates {
     Nothing,
     Index(u8),
@@ -27,6 +27,27 @@ pub enum Immediates {
     ByteBlock(ByteStrings),
     Uint(u64),
     Bytes(ByteString),
+}
+
+/// Written out, so that whoever owns one drops it by one call and not part by part.
+impl Drop for Immediates {
+    #[inline]
+    fn drop(self) {
+        match self {
+            Immediates::Nothing
+            | Immediates::Index(_)
+            | Immediates::Field(_)
+            | Immediates::GroupField(_, _)
+            | Immediates::ArrayField(_, _)
+            | Immediates::GroupArrayField(_, _, _)
+            | Immediates::Bounds(_, _)
+            | Immediates::Offset(_)
+            | Immediates::UintBlock(_)
+            | Immediates::ByteBlock(_)
+            | Immediates::Uint(_)
+            | Immediates::Bytes(_) => {}
+        }
+    }
 }
 
 /// One instruction of a program.

@@ -9,9 +9,17 @@ use std::marker::Model;
 
 /// A list of bytes. Of a slice, up to 16 stand in the value itself and take no memory; a vector that is taken over stays the
 /// vector that it is.
-#[derive(Debug, Drop)]
+#[derive(Debug)]
 pub struct ByteString {
     bytes: Bytes,
+}
+
+/// Written out, so that whoever owns one drops it by one call and not part by part.
+impl Drop for ByteString {
+    #[inline]
+    fn drop(self) {
+        let ByteString { bytes: _ } = self;
+    }
 }
 
 /// Where bytes stand.
@@ -78,7 +86,8 @@ impl ByteString {
     pub fn into_vec(self, alloc: Global) -> Result<Vec<u8>, AllocError>
         ensures { IfOk result (λ bytes. bytes.items ≡ self) }
     {
-        match self.bytes {
+        let ByteString { bytes } = self;
+        match bytes {
             Bytes::Here(bytes) => Vec::from_slice(alloc, bytes.as_slice()),
             Bytes::Apart(bytes) => Ok(bytes),
         }

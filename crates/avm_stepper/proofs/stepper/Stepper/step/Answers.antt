@@ -6,7 +6,6 @@ use Rattle.avm_stepper.specs.DebugRuns.{IsKeptDebug, IsPreparedFor, seen}
 use Rattle.avm_stepper.specs.DebugSteps.{StepsTo}
 use Rattle.avm_stepper.proofs.Moving.{comes_over, ends_over}
 use Rattle.avm_stepper.proofs.Shows.{prepared_stays}
-use Rattle.avm_stepper.proofs.stepper.Stepper.step.Goals.{in-None-6, in-Some-2}
 use Rattle.avm_stepper.proofs.stepper.Stepper.step.Goals as goal
 
 pub step_over-requires-clause-stands : goal.step_over-requires-clause-stands
@@ -44,5 +43,4 @@ returns-in-Err g c =
     let run = sym c.take.ensures.value ∙ c.in-Some.is in
     let kept = subst (IsKeptDebug c.self.inside.ledger c.self.inside.fault) run c.self.invariant.0 in
     let old = sym c.self.view_is ∙ ap (seen c.self.inside.ledger c.self.inside.fault) run in
-    let refused = subst (λ (m : Option Debugged). StepsTo m None (Err failure.Memory)) (sym old) (comes_over c.self.inside.ledger c.self.inside.fault c.in-Some.run' kept c.if-not-comes_next.ensures).refused in
-    elim c.match-run-4.branch [ in-Some-2 w ↦ rw (w.self-is, c.take.ensures.after) refused | in-None-6 w ↦ rw (w.self-is, c.take.ensures.after) refused ]
+    rw c.take.ensures.after (subst (λ (m : Option Debugged). StepsTo m None (Err failure.Memory)) (sym old) (comes_over c.self.inside.ledger c.self.inside.fault c.in-Some.run' kept c.if-not-comes_next.ensures).refused)
