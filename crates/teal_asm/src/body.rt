@@ -12,6 +12,7 @@ ghost use Rattle.teal_asm.specs.Thinned.{IsNeedless, LeavesThinned, branch_label
 
 use crate::emit::MOST;
 use crate::gathered::{Labels, Strings};
+use crate::resolve::Constants;
 use indexmap::IndexSet;
 use std::alloc::{AllocError, Global};
 use teal_code::Immediates;
@@ -22,7 +23,6 @@ use teal_value::{ByteString, Failure};
 const MAX_CONSTANTS: usize = 256;
 
 /// The statements so far.
-#[derive(Drop)]
 pub(crate) struct Body {
     /// All of them, or so many that the program is too long, among them those that a later fault may need.
     pub statements: Vec<Statement>,
@@ -38,6 +38,24 @@ pub(crate) struct Body {
     pub commands: usize,
     pub has_uint_block: bool,
     pub has_byte_block: bool,
+}
+
+/// Written out, so that whoever owns one drops it by one call and not part by part.
+impl Drop for Body {
+    #[inline]
+    fn drop(self) {
+        let Body {
+            statements: _,
+            uints: _,
+            strings: _,
+            labels: _,
+            targets: _,
+            leads_back: _,
+            commands: _,
+            has_uint_block: _,
+            has_byte_block: _,
+        } = self;
+    }
 }
 
 impl Body {
@@ -58,6 +76,38 @@ impl Body {
             has_uint_block: false,
             has_byte_block: false,
         }
+    }
+
+    /// What its statements are resolved by, behind so many blocks, and the statements.
+    pub fn into_parts(self, blocks: usize) -> (Constants, Vec<Statement>)
+        ensures { result ≡ (
+          record {
+            uints = self.uints;
+            strings = self.strings;
+            labels = self.labels;
+            blocks = blocks;
+          },
+          self.statements,
+        ) }
+    {
+        let Body {
+            statements,
+            uints,
+            strings,
+            labels,
+            targets: _,
+            leads_back: _,
+            commands: _,
+            has_uint_block: _,
+            has_byte_block: _,
+        } = self;
+        let constants = Constants {
+            uints,
+            strings,
+            labels,
+            blocks,
+        };
+        (constants, statements)
     }
 
     /// Adds a statement whose label is new, or drops it where no later fault needs it: as soon as the program is too long,

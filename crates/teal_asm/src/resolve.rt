@@ -38,13 +38,8 @@ fn instructions_behind(blocks: Vec<Instruction>, body: Body) -> Result<Vec<Instr
     requires blocks { all_meant blocks.items ≡ gathered_blocks body.statements.items }
     ensures { Gives (λ v. all_meant v.items) result (all_instructions body.statements.items) }
 {
-    let constants = Constants {
-        uints: body.uints,
-        strings: body.strings,
-        labels: body.labels,
-        blocks: blocks.len(),
-    };
-    resolved(&constants, blocks, body.statements)
+    let (constants, statements) = body.into_parts(blocks.len());
+    resolved(&constants, blocks, statements)
 }
 
 /// What an instruction is looked up in.
