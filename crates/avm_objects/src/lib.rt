@@ -25,7 +25,7 @@ pub fn boxed<O: Drop>(alloc: Global, op: Option<O>) -> Option<Box<O>>
 /// once more at each instruction.
 ///
 /// It is no function, since boxes of objects are made only where they stay. Whether the set is full is asked of
-/// [`Ops::missing`]: it lacks each object whose box was refused memory.
+/// [`Ops::missing`]: it lacks each object for which memory was refused.
 #[macro_export]
 macro_rules! filled_set {
     ($alloc:expr, $refused:expr) => {{
@@ -38,9 +38,7 @@ macro_rules! filled_set {
                 continue;
             };
             let op: Box<dyn $crate::Op> = $crate::object_of!($alloc, opcode);
-            if ops.push($crate::BoxedOp { op }).is_err() {
-                return $refused;
-            }
+            let _is_kept = ops.push($crate::BoxedOp { op }).is_ok();
         }
         ops
     }};
