@@ -17,17 +17,17 @@ use teal_value::{ByteString, StateKey, Value, address_text};
 pub fn view_text(alloc: Global, view: &View<'_>) -> Result<String, AllocError>
     ensures { IfOk result (λ text. string_bytes text ≡ view_text (view_seen view.now)) }
 {
-    let stack = value_lines(alloc, view.stack)?;
-    let scratch = scratch_lines(alloc, &view.scratch)?;
-    let ints = number_lines(alloc, view.uint_constants)?;
-    let bytes = digit_lines(alloc, view.byte_constants)?;
-    let changes = change_lines(alloc, &view.global_changes, &view.local_changes)?;
     let mut text = place_text(alloc, view.place, &view.next)?;
-    push_part(alloc, &mut text, "stack", &stack)?;
-    push_part(alloc, &mut text, "scratch", &scratch)?;
-    push_part(alloc, &mut text, "ints", &ints)?;
-    push_part(alloc, &mut text, "bytes", &bytes)?;
-    push_part(alloc, &mut text, "changes", &changes)?;
+    let stack = value_lines(alloc, view.stack)?;
+    push_part(alloc, &mut text, "stack", stack)?;
+    let scratch = scratch_lines(alloc, &view.scratch)?;
+    push_part(alloc, &mut text, "scratch", scratch)?;
+    let ints = number_lines(alloc, view.uint_constants)?;
+    push_part(alloc, &mut text, "ints", ints)?;
+    let bytes = digit_lines(alloc, view.byte_constants)?;
+    push_part(alloc, &mut text, "bytes", bytes)?;
+    let changes = change_lines(alloc, &view.global_changes, &view.local_changes)?;
+    push_part(alloc, &mut text, "changes", changes)?;
     Ok(text)
 }
 
@@ -57,15 +57,15 @@ fn push_part(
     alloc: Global,
     text: &mut String,
     name: &str,
-    lines: &[String],
+    lines: Vec<String>,
 ) -> Result<(), AllocError>
     ensures { OnOk result
-        (string_bytes text.new ≡ string_bytes text.old ++ part_text name.now (texts lines.now)) }
+        (string_bytes text.new ≡ string_bytes text.old ++ part_text name.now (texts lines.items)) }
 {
     let count = lines.len();
     let heading = format!(in alloc; "{name} {count}\n")?;
     text.push_str(&heading)?;
-    push_lines(text, lines)
+    push_lines(text, &lines)
 }
 
 fn push_lines(text: &mut String, lines: &[String]) -> Result<(), AllocError>
