@@ -96,6 +96,29 @@ fn follow<V: Drop>(
     ensures room { 0 < vec_capacity older.old - vec_len older.old → vec_capacity older.new
         - vec_len older.new + 1 ≡ vec_capacity older.old - vec_len older.old }
 {
+    if older.len() < older.capacity() {
+        older.push_reserved(mem::replace(newest, version));
+        return Ok(());
+    }
+    follow_full(older, newest, version)
+}
+
+// The same, where there may be no room. It is out of line, since whoever has made room needs none of it.
+#[cold]
+#[inline(never)]
+fn follow_full<V: Drop>(
+    older: &mut Vec<Version<V>>,
+    newest: &mut Version<V>,
+    version: Version<V>,
+) -> Result<(), AllocError>
+    ensures ok { OnOk result (older.new.items ++ newest.new ∷ []
+        ≡ (older.old.items ++ newest.old ∷ []) ++ version ∷ []) }
+    ensures err { OnErr result
+        (older.new.items ++ newest.new ∷ [] ≡ older.old.items ++ newest.old ∷ []) }
+    ensures succeeds { 0 < vec_capacity older.old - vec_len older.old → IsOk result }
+    ensures room { 0 < vec_capacity older.old - vec_len older.old → vec_capacity older.new
+        - vec_len older.new + 1 ≡ vec_capacity older.old - vec_len older.old }
+{
     let before = mem::replace(newest, version);
     match older.insert(older.len(), before) {
         Ok(()) => Ok(()),

@@ -7,7 +7,7 @@ use Rattle.std.specs.BTreeMap.{is_at}
 use Rattle.avm_items.specs.declared.item.Item.{Item}
 use Rattle.avm_items.specs.Items.{item_cmp}
 use Rattle.mv_chain.specs.declared.chain.Version.{Version}
-use Rattle.mv_chain.specs.Versions.{Versions, IsChain, oldest_timestamp, versions_read_at, versions_with}
+use Rattle.mv_chain.specs.Versions.{Versions, IsChain, oldest_timestamp, versions_from, versions_read_at, versions_with}
 use Rattle.mv_shards.specs.Chains.{VersionLists, first_version, with_versions}
 use Rattle.mv_shards.specs.NumberMaps.{NotedNumbers, number_by_item, number_by_mix}
 
@@ -72,6 +72,14 @@ pub record AreChains {V : Type 0} (first : Item → V) (low : ℕ) (map : ChainM
   pub based : (x : Item) → is_untouched (versions_of first map x) ≡ true → versions_of first map x ≡ first_version (first x)
   pub chains : (x : Item) → IsChain (versions_of first map x)
   pub old_enough : (x : Item) → oldest_timestamp (versions_of first map x) ≤ low
+
+-- ---- pruning
+
+-- each chain is pruned at a timestamp, in its place
+abbrev pub ArePrunedChains : {V : Type 0} → ℕ → ChainMap V → ChainMap V → Type 0
+ArePrunedChains t [] [] = Unit {0}
+ArePrunedChains t (c ∷ cs) (d ∷ ds) = (d.0 ≡ c.0) × (d.1.list ≡ versions_from t c.1.list) × ArePrunedChains t cs ds
+ArePrunedChains t _ _ = ⊥
 
 -- ---- growth
 

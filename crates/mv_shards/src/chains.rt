@@ -1,15 +1,17 @@
 //! The chains of items, each with a number.
 
-ghost use Rattle.std.specs.Prelude.{◌≡◌, ◌≤◌, ◌<◌, [], IfOk, IfSome, None, OnOk, Some, length};
+ghost use Rattle.std.specs.Prelude.{◌≡◌, ◌≤◌, ◌<◌, ◌↔◌, [], IfOk, IfSome, IsTrue, None, OnOk, Some, length, set, slice_index, vec_capacity};
 ghost use Rattle.std.specs.Option.{option_copied};
 ghost use Rattle.std.specs.Ordering.{is_eq};
 ghost use Rattle.avm_items.specs.Items.{item_cmp};
 ghost use Rattle.avm_items.specs.LedgerItems.{at};
 ghost use Rattle.mv_chain.specs.Versions.{versions_from};
-ghost use Rattle.mv_shards.specs.KeptChains.{is_of};
+ghost use Rattle.mv_shards.specs.KeptChains.{AreNumbered, ArePrunedChains, is_of};
+ghost use Rattle.mv_shards.specs.Several.{AreListed, numbers_in, room_in, version_counts};
 
+use crate::notes::{MaybeNotes, add_number, make_room_for, note, noted_in};
 use crate::number_maps::Numbers;
-use crate::slot::{SLOT_COUNT, slot_of};
+use crate::slot::slot_of;
 use avm_items::{Item, ItemValue, item_of};
 use avm_ledger::Ledger;
 use mv_chain::Chain;
@@ -20,9 +22,7 @@ use std::marker::Model;
 pub(crate) struct Chains {
     numbers: Numbers,
     list: Vec<(Item, Chain<ItemValue>)>,
-    /// For each slot the number of the item that was asked for last, so that most items are found without a look into the
-    /// map. Nothing rests on it: whether the chain of the number is the item's is asked each time.
-    recent: Vec<usize>,
+    notes: MaybeNotes,
 }
 
 /// Written out, so that whoever owns one drops it by one call and not part by part.
@@ -32,7 +32,7 @@ impl Drop for Chains {
         let Chains {
             numbers: _,
             list: _,
-            recent: _,
+            notes: _,
         } = self;
     }
 }
@@ -40,12 +40,14 @@ impl Drop for Chains {
 impl Model for Chains {
     ghost use Rattle.avm_items.specs.declared.item_value.ItemValue.{ItemValue};
     ghost use Rattle.mv_shards.specs.KeptChains.{AreNumbered, ChainMap};
+    ghost use Rattle.mv_shards.specs.Several.{AreListed, numbers_in, room_in, version_counts};
 
     ghost Value = { ChainMap ItemValue };
 
     ghost view = { λ c. c.list.items };
 
-    ghost invariant = { λ c. AreNumbered c.numbers c.list.items };
+    ghost invariant = { λ c. AreNumbered c.numbers c.list.items
+        × AreListed (numbers_in c.notes) (room_in c.notes) (version_counts c.list.items) };
 }
 
 impl Chains {
@@ -58,7 +60,7 @@ impl Chains {
         Chains {
             numbers: Numbers::new(alloc),
             list: Vec::new(alloc),
-            recent: Vec::new(alloc),
+            notes: None,
         }
     }
 
@@ -66,17 +68,17 @@ impl Chains {
     fn find(&self, item: &Item) -> Option<usize>
         ensures { result ≡ number_in self.now item.now }
     {
-        match self.noted(item) {
+        match self.noted(item, slot_of(item)) {
             Some(number) => Some(number),
             None => self.number_of(item),
         }
     }
 
-    /// The number of an item's chain, if it is noted.
-    fn noted(&self, item: &Item) -> Option<usize>
+    /// The number of an item's chain, if it is noted in this slot.
+    fn noted(&self, item: &Item, slot: usize) -> Option<usize>
         ensures { IfSome result (λ number. number_in self.now item.now ≡ Some number) }
     {
-        let number = noted_in(&self.recent, item);
+        let number = noted_in(&self.notes, slot);
         if has_item(&self.list, number, item) {
             Some(number)
         } else {
@@ -124,19 +126,21 @@ impl Chains {
         ensures roomier { OnOk result (IsRoomier self.old self.new) }
         ensures number { IfOk result (λ number. number_in self.new item.now ≡ Some number) }
     {
-        match self.noted(item) {
+        let slot = slot_of(item);
+        match self.noted(item, slot) {
             Some(number) => Ok(number),
-            None => self.look_up_or_make(alloc, base, item),
+            None => self.look_up_or_make(alloc, base, item, slot),
         }
     }
 
-    /// The same, looked up. It is out of line, since most items are noted.
+    /// The same, looked up, and noted in a slot. It is out of line, since most items are noted.
     #[inline(never)]
     fn look_up_or_make(
         &mut self,
         alloc: Global,
         base: &Ledger,
         item: &Item,
+        slot: usize,
     ) -> Result<usize, AllocError>
         ensures grown { IsGrown (at base.now) self.old self.new }
         ensures roomier { OnOk result (IsRoomier self.old self.new) }
@@ -144,27 +148,33 @@ impl Chains {
     {
         match self.number_of(item) {
             Some(number) => {
-                note(&mut self.recent, item, number);
+                note(&mut self.notes, slot, number);
                 Ok(number)
             }
-            None => self.make(alloc, base, item),
+            None => self.make(alloc, base, item, slot),
         }
     }
 
     /// Makes a chain for an item that has none, of what it is in a ledger.
-    fn make(&mut self, alloc: Global, base: &Ledger, item: &Item) -> Result<usize, AllocError>
+    fn make(
+        &mut self,
+        alloc: Global,
+        base: &Ledger,
+        item: &Item,
+        slot: usize,
+    ) -> Result<usize, AllocError>
         requires { number_in self.old item.now ≡ None }
         ensures grown { IsGrown (at base.now) self.old self.new }
         ensures roomier { OnOk result (IsRoomier self.old self.new) }
         ensures number { IfOk result (λ number. number_in self.new item.now ≡ Some number) }
     {
         let chain = Chain::new(alloc, item_of(base, item)?);
-        make_slots(alloc, &mut self.recent)?;
         self.list.reserve(1)?;
         let number = self.list.len();
+        make_room_for(alloc, &mut self.notes, number + 1)?;
         self.numbers.add(item, number)?;
         self.list.push_reserved((item.copied(), chain));
-        note(&mut self.recent, item, number);
+        note(&mut self.notes, slot, number);
         Ok(number)
     }
 
@@ -196,49 +206,80 @@ impl Chains {
         ensures { (item : _) → number_in self.old item ≡ Some number
             → IsInstalled timestamp item value self.old self.new }
     {
+        add_if_single(&self.list, &mut self.notes, number);
         let _ = self.list[number].1.install(timestamp, value);
     }
 
-    /// Drops the versions that no read from a timestamp on can find. Most chains have one version, which stays.
+    /// Drops the versions that no read from a timestamp on can find. It goes through the chains alone that have more than one.
     pub(crate) fn prune(&mut self, timestamp: u64)
         ensures versions { (first : _) (x : _) → versions_of first self.new x
             ≡ versions_from timestamp (versions_of first self.old x) }
         ensures kept { (first : _) (low : _)
             → low ≤ timestamp → AreChains first low self.old → AreChains first timestamp self.new }
     {
-        for number in 0..self.list.len() {
-            prune_chain(&mut self.list[number].1, timestamp);
+        prune_noted(&mut self.list, &mut self.notes, timestamp);
+    }
+}
+
+/// Notes the number of a chain that is to be given a version, if it has one alone.
+fn add_if_single(list: &[(Item, Chain<ItemValue>)], notes: &mut MaybeNotes, number: usize)
+    requires within { number < length list.now }
+    requires listed { AreListed (numbers_in notes.old) (room_in notes.old)
+        (version_counts list.now) }
+    ensures listed { (count : _) → 1 < count → AreListed (numbers_in notes.new)
+        (room_in notes.new) (set (version_counts list.now) number count) }
+    ensures some { 0 < slice_index (version_counts list.now) number }
+{
+    if list[number].1.count() == 1 {
+        add_number(notes, number);
+    }
+}
+
+/// Drops the versions that no read from a timestamp on can find, in the chains that are noted as having more than one.
+fn prune_noted(list: &mut Vec<(Item, Chain<ItemValue>)>, notes: &mut MaybeNotes, timestamp: u64)
+    requires { AreListed (numbers_in notes.old) (room_in notes.old)
+        (version_counts list.old.items) }
+    ensures listed { AreListed (numbers_in notes.new) (room_in notes.new)
+        (version_counts list.new.items) }
+    ensures pruned { ArePrunedChains timestamp list.old.items list.new.items }
+    ensures numbered { (noted : _)
+        → AreNumbered noted list.old.items → AreNumbered noted list.new.items }
+{
+    match notes {
+        Some(notes) => prune_several(list, &mut notes.several, timestamp),
+        None => {}
+    }
+}
+
+/// Drops the versions that no read from a timestamp on can find, in the chains that have more than one. The numbers stay of those
+/// that still have.
+fn prune_several(list: &mut Vec<(Item, Chain<ItemValue>)>, several: &mut Vec<usize>, timestamp: u64)
+    requires { AreListed several.old.items (vec_capacity several.old)
+        (version_counts list.old.items) }
+    ensures listed { AreListed several.new.items (vec_capacity several.new)
+        (version_counts list.new.items) }
+    ensures pruned { ArePrunedChains timestamp list.old.items list.new.items }
+    ensures numbered { (noted : _)
+        → AreNumbered noted list.old.items → AreNumbered noted list.new.items }
+{
+    let mut kept = 0;
+    for index in 0..several.len() {
+        let number = several[index];
+        if prune_chain(&mut list[number].1, timestamp) {
+            several[kept] = number;
+            kept += 1;
         }
     }
+    several.truncate(kept);
 }
 
-/// Drops the versions that no read from a timestamp on can find.
-fn prune_chain(chain: &mut Chain<ItemValue>, timestamp: u64)
-    ensures { chain.new.list ≡ versions_from timestamp chain.old.list }
+/// Drops the versions that no read from a timestamp on can find. Whether more than one is left.
+fn prune_chain(chain: &mut Chain<ItemValue>, timestamp: u64) -> bool
+    ensures list { chain.new.list ≡ versions_from timestamp chain.old.list }
+    ensures several { IsTrue result ↔ 1 < length chain.new.list }
 {
-    if chain.count() > 1 {
-        chain.prune(timestamp);
-    }
-}
-
-/// Makes the slots for numbers, if they aren't there. Nothing is noted in them.
-fn make_slots(alloc: Global, recent: &mut Vec<usize>) -> Result<(), AllocError> {
-    if recent.is_empty() {
-        *recent = vec![in alloc; usize::MAX; SLOT_COUNT]?;
-    }
-    Ok(())
-}
-
-/// The number in an item's slot, or one that no chain has.
-fn noted_in(recent: &[usize], item: &Item) -> usize {
-    recent.get(slot_of(item)).copied().unwrap_or(usize::MAX)
-}
-
-/// Notes a number in an item's slot, if there are slots.
-fn note(recent: &mut [usize], item: &Item, number: usize) {
-    if let Some(slot) = recent.get_mut(slot_of(item)) {
-        *slot = number;
-    }
+    chain.prune(timestamp);
+    chain.count() > 1
 }
 
 /// Whether the chain of a number, if there is one, is an item's.

@@ -10,6 +10,7 @@ mod attempt;
 mod chains;
 mod held;
 mod index;
+mod notes;
 mod number_maps;
 mod part;
 mod read_fault;

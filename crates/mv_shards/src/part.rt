@@ -7,7 +7,7 @@ ghost use Rattle.avm_items.specs.LedgerItems.{at};
 ghost use Rattle.avm_items.specs.SameValues.{is_same_value};
 ghost use Rattle.mv_chain.specs.Versions.{lateness, newest_at, oldest_timestamp};
 ghost use Rattle.mv_shards.specs.declared.read_fault.ReadFault.TheVariants.{Pruned};
-ghost use Rattle.mv_shards.specs.KeptChains.{AreChains, IsGrown, IsReadableAt, IsRoomier, number_in, versions_of};
+ghost use Rattle.mv_shards.specs.KeptChains.{AreChains, IsGrown, IsMarked, IsReadableAt, IsRoomier, number_in, versions_of};
 ghost use Rattle.mv_shards.specs.Writing.{has_timestamp};
 ghost use Rattle.mv_shards.specs.Shards.{IsFirstRead, IsPruned, IsPrunedShard, IsReadAgain, versions_held};
 ghost use Rattle.mv_shards.specs.KeptShards.{IsMarkedRead, IsNewestValue, IsPart, shard_shown};
@@ -53,6 +53,18 @@ fn value_at(chains: &Chains, number: usize, timestamp: u64) -> Result<ItemValue,
     chains.at(number).read_at(timestamp).clone()
 }
 
+/// The value of a version that a read has found, once it is marked.
+fn marked(chains: &mut Chains, number: usize, timestamp: u64, value: ItemValue) -> ItemValue
+    requires readable { IsReadableAt timestamp chains.old number }
+    requires positive { 0 < timestamp }
+    ensures value { result ≡ value }
+    ensures marked { (item : _) → number_in chains.old item ≡ Some number
+        → IsMarked timestamp item chains.old chains.new }
+{
+    chains.mark(number, timestamp);
+    value
+}
+
 /// Reads an item for the first time in an attempt, and marks the version that is found.
 fn first_read(
     alloc: Global,
@@ -74,8 +86,7 @@ fn first_read(
     let number = chains.find_or_make(alloc, base, &item)?;
     let value = value_at(chains, number, attempt.timestamp)?;
     attempt.reads.insert(item, value.clone()?)?;
-    chains.mark(number, attempt.timestamp);
-    Ok(value)
+    Ok(marked(chains, number, attempt.timestamp, value))
 }
 
 /// Reads an item at the attempt's timestamp, and marks the version that is found. An item that the attempt has read gives

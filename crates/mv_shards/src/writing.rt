@@ -64,6 +64,26 @@ fn install_all(parts: &mut Parts, placed: &mut [(Spot, ItemValue)], timestamp: u
     }
 }
 
+/// Adds versions in two sets of parts.
+fn install_both(
+    parts: &mut Parts,
+    placed: &mut [(Spot, ItemValue)],
+    others: &mut Parts,
+    others_placed: &mut [(Spot, ItemValue)],
+    timestamp: u64,
+)
+    requires ready { AreReadyPlaced timestamp parts.old placed.old }
+    requires others_ready { AreReadyPlaced timestamp others.old others_placed.old }
+    requires positive { 0 < timestamp }
+    ensures own { (writes : _) → ArePlaced parts.old writes placed.old
+        → AreInstalledAt timestamp writes parts.old parts.new }
+    ensures others { (writes : _) → ArePlaced others.old writes others_placed.old
+        → AreInstalledAt timestamp writes others.old others.new }
+{
+    install_all(parts, placed, timestamp);
+    install_all(others, others_placed, timestamp);
+}
+
 /// What is to be written at a spot, which is left with nothing to write.
 fn taken(placed: &mut (Spot, ItemValue)) -> (Spot, ItemValue)
     ensures { result ≡ placed.old }
@@ -102,9 +122,14 @@ pub(crate) fn write_parts(
     match make_both(rooms, parts, others, reads, writes) {
         Ok(()) => {
             mark_all(parts, &rooms.own.reads, timestamp);
-            install_all(parts, &mut rooms.own.writes, timestamp);
             mark_all(others, &rooms.others.reads, timestamp);
-            install_all(others, &mut rooms.others.writes, timestamp);
+            install_both(
+                parts,
+                &mut rooms.own.writes,
+                others,
+                &mut rooms.others.writes,
+                timestamp,
+            );
             Ok(())
         }
         Err(refused) => Err(refused),
