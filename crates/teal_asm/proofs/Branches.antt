@@ -89,7 +89,7 @@ not_above_own p n ss s k e = at_part (either {o = lookup p (labels_from n ss)} (
 -- ---- what instructions give
 
 -- a result has this fault, or it is a list of this length
-abbrev Found : Option AsmFault → Result (List Meant) AsmFault → ℕ → Type 0
+abbrev pub Found : Option AsmFault → Result (List Meant) AsmFault → ℕ → Type 0
 Found (Some f) r count = r ≡ Err f
 Found None r count = (is : List Meant) × (r ≡ Ok is) × (length is ≡ count)
 
@@ -144,7 +144,7 @@ whole_found : (o : Option AsmFault) (blocks : List Meant) (r : Result (List Mean
 whole_found (Some f) blocks r n e = rw e refl
 whole_found None blocks r n e = (blocks ++ e.0, rw e.1 refl, length-append blocks e.0 ∙ omega (arith, e.2))
 
-all_found : (ss : List Statement) → Found (branch_fault [] ss) (all_instructions ss) (length (gathered_blocks ss) + command_count ss)
+pub all_found : (ss : List Statement) → Found (branch_fault [] ss) (all_instructions ss) (length (gathered_blocks ss) + command_count ss)
 all_found ss = whole_found (branch_fault [] ss) (gathered_blocks ss) (instructions ss (length (gathered_blocks ss)) ss) (command_count ss) (found ss [] ss (length (gathered_blocks ss)) refl (omega arith))
 
 kept_found : (kept all : List Statement) → Thins kept all → Found (branch_fault [] all) (all_instructions kept) (length (gathered_blocks kept) + command_count kept)

@@ -7,5 +7,5 @@ pub mod Pragma
 pub mod Resolving
 mod Needless
 mod Thinning
-mod Branches
+pub mod Branches
 mod ThinReading

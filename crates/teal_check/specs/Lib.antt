@@ -1,3 +1,4 @@
 pub mod WellFormed
 pub mod Shown
 pub mod FaultNames
+pub mod FaultNumbers

@@ -2,6 +2,7 @@
 
 ghost use Rattle.std.specs.Prelude.{◌≡◌};
 ghost use Rattle.teal_check.specs.FaultNames.{check_fault_name};
+ghost use Rattle.teal_check.specs.FaultNumbers.{check_fault_number};
 
 use std::fmt;
 use teal_code::CodeFault;
@@ -38,6 +39,23 @@ impl fmt::Display for CheckFault {
 }
 
 impl CheckFault {
+    /// Its number, from 1: those of the rules do not follow the order in which they are tested.
+    pub fn number(self) -> u8
+        ensures { result ≡ check_fault_number self }
+    {
+        match self {
+            CheckFault::Version => 1,
+            CheckFault::Length => 2,
+            CheckFault::Code { .. } => 3,
+            CheckFault::OutOfProfile { .. } => 4,
+            CheckFault::Backward { .. } => 5,
+            CheckFault::NotAligned { .. } => 6,
+            CheckFault::PastEnd { .. } => 7,
+            CheckFault::Cost => 8,
+            CheckFault::UnknownField { .. } => 9,
+        }
+    }
+
     /// Its name, as commands print it: of a fault of reading, that fault's.
     pub fn name(self) -> &'static str
         ensures { result.now ≡ check_fault_name self }

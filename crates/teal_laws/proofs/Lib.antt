@@ -17,3 +17,6 @@ pub mod TextMeaning
 pub mod ShortestSpellings
 pub mod ProgramRules
 pub mod TextRelation
+pub mod TextRules
+pub mod TextFaults
+pub mod OneFault

@@ -1,15 +1,15 @@
 -- What a text means is what its commands mean, each by itself.
-use Rattle.std.proofs.Common.{◌≡◌, ◌↔◌, ℕ, zero, suc, ◌+◌, ◌<◌, ◌≤◌, Bool, true, false, cond, not, eqb, ltb, ◌||◌, nat_eq, nat_le, List, [], ◌∷◌, ◌++◌, length, map, slice_get, Contains, Option, Some, None, Result, Ok, Err, refl, sym, ap, subst, ◌∙◌, append_assoc, length-append, arith}
+use Rattle.std.proofs.Common.{◌≡◌, ℕ, zero, suc, ◌+◌, ◌<◌, Bool, true, false, cond, not, eqb, ltb, ◌||◌, nat_eq, nat_le, List, [], ◌∷◌, ◌++◌, length, map, slice_get, Option, Some, None, Result, Ok, Err, refl, sym, ap, subst, ◌∙◌, append_assoc, length-append, arith}
 use Rattle.std.specs.declared.cmp.Ordering.TheVariants.{Less}
 use Rattle.std.specs.Cmp.{IsEquivalence}
-use Rattle.std.specs.List.{AllByRecursion, flat_map, list_any, position_or_len}
+use Rattle.std.specs.List.{AllByRecursion, list_any, position_or_len}
 use Rattle.std.specs.List.Sorted.{IsStrictlySortedBy}
 use Rattle.std.specs.Map.{lookup}
 use Rattle.std.specs.Option.{option_to_list}
 use Rattle.std.specs.Ordering.{nat_cmp}
 use Rattle.std.specs.Str.{bytes_eq}
 use Rattle.std.proofs.lemmas.Bool.Decides.{nat_tests}
-use Rattle.std.proofs.lemmas.Bool.{eq-eqb, eqb-true, lt-ltb, ltb-false}
+use Rattle.std.proofs.lemmas.Bool.{eq-eqb, eqb-true, lt-ltb}
 use Rattle.std.proofs.lemmas.List.{append-nil}
 use Rattle.std.proofs.lemmas.List.Folds.{list_any-append, position_or_len_push}
 use Rattle.std.proofs.lemmas.Map.Views.{Contains-from_any, list_any-from_Contains}
@@ -26,9 +26,9 @@ use Rattle.teal_source.specs.Operands.{Word}
 use Rattle.teal_source.specs.Statements.{Words, distinct, with_new, fault_at, gathered_uints, gathered_strings, on_text, pragma_version, statements, words_of_lines}
 use Rattle.teal_text.specs.Lines.{LineTokens, lines_of}
 use Rattle.teal_asm.specs.Constants.{HasConstant, HasConstants, HasItsConstant}
-use Rattle.teal_asm.specs.Meaning.{Meant, Straight, Branch, Meaning, branch, commands_in, label_entry, labels_from, label_number, gathered_blocks, instruction, optional_instruction, instructions, all_instructions, meaning, meaning_of_lines, meaning_with, read_uint_constant, read_byte_constant}
-use Rattle.teal_asm.proofs.Resolving.{each_has_its_constant, place_within}
-use Rattle.teal_laws.specs.TextRelation.{commands_of, named_uints, named_strings, AreGathered, StandsBefore, IsMeantBy, AreMeantBy, AreStatementsOf, IsWhatItSays}
+use Rattle.teal_asm.specs.Meaning.{Meant, Branch, Meaning, branch, commands_in, label_entry, labels_from, label_number, gathered_blocks, instruction, optional_instruction, instructions, all_instructions, meaning, meaning_of_lines, meaning_with}
+use Rattle.teal_asm.proofs.Resolving.{each_has_its_constant}
+use Rattle.teal_laws.specs.TextRelation.{commands_of, named_uints, named_strings, AreGathered, StandsBefore, IsMeantBy, AreMeantBy, IsWhatItSays}
 
 -- ---- constants
 
@@ -169,10 +169,10 @@ module _ {A : Type 0} (eq : A → A → Bool) (self : (x : A) → eq x x ≡ tru
       at_test true is later e = ap (λ z. Some z) (sym (one x k is))
       at_test false is later e = one_on (position_or_len (eq x) ks) ∙ later e
 
-uints_gathered : (named : List ℕ) → AreGathered nat_eq named (distinct nat_eq [] named)
+pub uints_gathered : (named : List ℕ) → AreGathered nat_eq named (distinct nat_eq [] named)
 uints_gathered = are_gathered nat_eq (λ n. eq-eqb n n refl) (λ n m e. eqb-true n m e)
 
-strings_gathered : (named : List (List ℕ)) → AreGathered bytes_eq named (distinct bytes_eq [] named)
+pub strings_gathered : (named : List (List ℕ)) → AreGathered bytes_eq named (distinct bytes_eq [] named)
 strings_gathered = are_gathered bytes_eq (λ s. (bytes_eq-Decides s s).1 refl) (λ s t e. (bytes_eq-Decides s t).0 e)
 
 uint_found : (n : ℕ) (ks : List ℕ) → list_any (nat_eq n) ks ≡ true → slice_get ks (position_or_len (nat_eq n) ks) ≡ Some n

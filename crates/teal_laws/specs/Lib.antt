@@ -5,3 +5,4 @@ pub mod ShortestSpelling
 pub mod TextCost
 pub mod ProgramRules
 pub mod TextRelation
+pub mod TextRules

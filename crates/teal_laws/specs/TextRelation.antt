@@ -1,6 +1,6 @@
 -- What a text means, said of each command by itself. `teal_asm/specs/Meaning` says it as the assembler works, statement
 -- after statement; here nothing is computed.
-use Rattle.std.specs.Prelude.{◌≡◌, ◌↔◌, ℕ, ◌+◌, ◌<◌, nat_eq, Bool, List, [], ◌∷◌, ◌++◌, length, map, slice_get, Contains, Some, Result, Ok}
+use Rattle.std.specs.Prelude.{◌≡◌, ◌↔◌, ℕ, ◌+◌, ◌<◌, nat_eq, Bool, List, [], ◌∷◌, ◌++◌, length, map, slice_get, Contains, Some, Ok}
 use Rattle.std.specs.List.{flat_map, position_or_len}
 use Rattle.std.specs.List.Sorted.{IsStrictlySortedBy}
 use Rattle.std.specs.Option.{option_to_list}

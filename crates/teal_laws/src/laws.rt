@@ -12,6 +12,8 @@ ghost use Rattle.teal_code.specs.Limits.{most_cost};
 ghost use Rattle.teal_check.specs.declared.fault.CheckFault.TheVariants.{Cost};
 ghost use Rattle.teal_check.specs.WellFormed.{WellFormed, checked};
 ghost use Rattle.teal_dis.specs.Listing.{listing, operands};
+ghost use Rattle.teal_source.specs.declared.fault.AsmFault.{AsmFault};
+ghost use Rattle.teal_source.specs.declared.statement.Statement.{Statement};
 ghost use Rattle.teal_source.specs.Commands.{command};
 ghost use Rattle.teal_asm.specs.Meaning.{Meaning, meaning};
 ghost use Rattle.teal_asm.specs.Program.{assembled};
@@ -22,6 +24,7 @@ ghost use Rattle.teal_laws.specs.ProgramRules.{IsProgram};
 ghost use Rattle.teal_laws.specs.ShortestSpelling.{IsShortOffset, IsShortest};
 ghost use Rattle.teal_laws.specs.TextCost.{meant_cost};
 ghost use Rattle.teal_laws.specs.TextRelation.{IsWhatItSays};
+ghost use Rattle.teal_laws.specs.TextRules.{AreSaidIn, FitTogether, IsFirstFault};
 
 /// What `encode_into` writes of an instruction is its shortest spelling, where bytes spell it at all: so it is for one that
 /// was read, and for one of the version whose numbers are in their range.
@@ -101,4 +104,17 @@ pub fn assembled_programs_break_no_other_rule()
 pub fn texts_mean_what_they_say()
     ensures { (text : List ℕ) (m : Meaning)
         → meaning text ≡ Ok m → IsWhatItSays text m.version m.instructions }
+{}
+
+/// A text has a meaning exactly where it breaks no rule: each of its lines is read by itself, behind a pragma that names the
+/// version; each label is defined once, and the label of each branch behind it; no explicit block stands beside constants of
+/// its kind; and at most 256 different constants of a kind are named. Any other text has one first fault: of its tokens, of
+/// the pragma, of the first line that can't be read or breaks a rule with those above it, or else of the first branch whose
+/// label isn't behind it.
+pub fn meant_texts_keep_the_rules()
+    ensures meant { (text : List ℕ) → IsOk (meaning text)
+        ↔ ((version : Version) × (ss : List Statement)
+        × AreSaidIn text version ss × FitTogether ss) }
+    ensures fault { (text : List ℕ) (f : AsmFault)
+        → (meaning text ≡ Err f) ↔ IsFirstFault text f }
 {}

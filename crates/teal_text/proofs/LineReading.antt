@@ -1,5 +1,5 @@
 -- Reading a text line by line.
-use Rattle.std.proofs.Common.{◌≡◌, ℕ, ◌+◌, ◌<◌, ◌≤◌, Bool, true, false, not, cond, eqb, List, [], ◌∷◌, length, take, drop, Result, Ok, refl, ap, ◌∙◌, arith, inl, inr, ◌-◌}
+use Rattle.std.proofs.Common.{◌≡◌, ℕ, ◌+◌, ◌<◌, ◌≤◌, Bool, true, false, not, cond, eqb, List, [], ◌∷◌, ◌++◌, length, take, drop, Result, Ok, refl, ap, ◌∙◌, arith, inl, inr, ◌-◌}
 use Rattle.std.specs.List.{slice_split, onto_first}
 use Rattle.std.specs.Str.Lines.{strip_carriage_return}
 use Rattle.std.proofs.lemmas.List.{drop_all, nil_from_length}
@@ -108,3 +108,9 @@ refuses (failure.Fault f) number place rest some e = next_line number place rest
 pub none_left : (number place : ℕ) (rest : List ℕ) → length rest ≡ 0 → lines_from number place (slice_split is_line_feed rest) ≡ Ok []
 unfolding lines_from
 none_left number place rest e = rw (nil_from_length rest e) refl
+
+-- ---- all lines of a text
+
+-- lines in front of those that are left, or the fault of these
+abbrev pub with_lines : List LineTokens → Result (List LineTokens) TextFault → Result (List LineTokens) TextFault
+with_lines before left = left >>= λ ls. Ok (before ++ ls)

@@ -8,18 +8,20 @@
 
 mod fault;
 mod line;
-mod lines;
 mod literal;
 mod numbers;
 mod scan;
 mod string;
+mod text;
 mod token;
+mod unread;
 
 pub use fault::{TextError, TextFault, TextFaultKind};
 pub use line::{Line, first_line, plain_words_read_back, tokens_lie_in_order};
-pub use lines::Lines;
 pub use literal::{
     base64_bytes, byte_literal, encoded_bytes, literals_read_back, names_encoding, token_bytes,
 };
 pub use numbers::{decimal_reads_back, number, number_of_word};
+pub use text::lines;
 pub use token::Token;
+pub use unread::Lines;

@@ -8,7 +8,7 @@ use Rattle.teal_text.specs.Tokens.{tokens_of, LiesWithin}
 use Rattle.teal_text.specs.Lines.{on_line, line_text, line_len}
 use Rattle.teal_text.specs.Unread.{Unread, unread_behind, IsBehind}
 use Rattle.teal_text.proofs.LineReading.{takes, refuses, none_left}
-use Rattle.teal_text.proofs.lines.Lines.next_line.Goals as goal
+use Rattle.teal_text.proofs.unread.Lines.next_line.Goals as goal
 
 pub returns-then-is_empty : goal.returns-then-is_empty
 returns-then-is_empty c =
