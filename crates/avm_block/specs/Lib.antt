@@ -3,6 +3,7 @@ pub mod BlockSpelling
 pub mod OutcomeReader
 pub mod BlockReader
 pub mod AcceptedCalls
+pub mod CallsFaults
 pub mod BlockRoundTrip
 pub mod WorkedBlocks
 pub mod FaultNames

@@ -6,6 +6,7 @@
 
 mod accepted_calls;
 mod block;
+mod block_calls;
 mod block_fault;
 mod call_sizes;
 mod decoding;
@@ -19,6 +20,7 @@ pub mod reading_laws;
 
 pub use accepted_calls::{accepts, first_beyond};
 pub use block::{Block, MAX_ENTRIES};
+pub use block_calls::{CallsError, CallsFault, calls_fault};
 pub use block_fault::{BlockError, BlockFault};
 pub use decoding::decode;
 pub use encoding::encode;

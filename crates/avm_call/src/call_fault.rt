@@ -2,6 +2,7 @@
 
 ghost use Rattle.std.specs.Prelude.{◌≡◌};
 ghost use Rattle.avm_call.specs.FaultNames.{call_fault_name};
+ghost use Rattle.avm_call.specs.FaultNumbers.{call_fault_number};
 
 use std::fmt;
 use teal_check::CheckFault;
@@ -41,6 +42,24 @@ impl fmt::Display for CallFault {
 }
 
 impl CallFault {
+    /// Its number, from 1: not that of its place in the order of the tests.
+    pub fn number(self) -> u8
+        ensures { result ≡ call_fault_number self }
+    {
+        match self {
+            CallFault::Accounts => 1,
+            CallFault::Args => 2,
+            CallFault::ArgBytes => 3,
+            CallFault::Foreign => 4,
+            CallFault::ProgramsMissing => 5,
+            CallFault::ProgramsGiven => 6,
+            CallFault::SchemaSize => 7,
+            CallFault::ClearOnCreate => 8,
+            CallFault::Program(_fault) => 9,
+            CallFault::Note => 10,
+        }
+    }
+
     /// Its name, as commands print it.
     pub fn name(self) -> &'static str
         ensures { result.now ≡ call_fault_name self }

@@ -8,7 +8,7 @@ use lib.ListN.{get_elem?}
 use Rattle.crossbeam_queue.specs.Fifo.{Pushes, Pops, Forks, Learns}
 use Rattle.crossbeam_queue.proofs.Lists.{at_set, at_snoc, set_again}
 use Rattle.avm_pool.specs.declared.call_numbers.Hand.{Hand}
-use Rattle.avm_pool.specs.NumberRule.{hand, numbers_to, all_drawn, OnePuts, Numbered, Allows, WasMoment}
+use Rattle.avm_pool.specs.NumberRule.{hand, numbers_to, all_drawn, OnePuts, Numbered, Allows, AllowsCount}
 
 numbers_to-add_one : (n : ℕ) → numbers_to (n + 1) ≡ numbers_to n ++ (n + 1) ∷ []
 numbers_to-add_one n = rw add-one
@@ -87,7 +87,7 @@ pub allows : (pass : ℕ) (v : Hand) → Learns Numbered pass v (Allows v)
 allows pass v items views h at = (pass, views, h, at)
 
 -- the numbers queued are among those put
-pub room_taken : (n : ℕ) (v : Hand) → v.puts ≡ true → WasMoment n v → n ≤ v.put
+pub room_taken : (n : ℕ) (v : Hand) → v.puts ≡ true → AllowsCount n v → n ≤ v.put
 room_taken n v may m =
     let h = m.2.2 in
     let mine = h.2 m.2.0 v m.2.3 may in

@@ -10,8 +10,8 @@ use Rattle.avm_items.specs.declared.call_data.CallData.{CallData}
 use Rattle.avm_ops.specs.OpSets.{IsFull, Slots}
 use Rattle.avm_block.specs.Blocks.{most_calls}
 use Rattle.avm_block.specs.AcceptedCalls.{first_beyond}
-use Rattle.mv_parts.specs.declared.open_fault.OpenFault.TheVariants.{Profile, TooMany}
-use Rattle.mv_parts.specs.Opening.{open_fault}
+use Rattle.avm_block.specs.declared.block_calls.CallsFault.TheVariants.{Profile, TooMany}
+use Rattle.avm_block.specs.CallsFaults.{calls_fault}
 use Rattle.avm_pool.specs.declared.pool_fault.PoolFault.{PoolFault}
 use Rattle.avm_pool.specs.declared.pool_fault.PoolFault.TheVariants as fault
 use Rattle.avm_pool.specs.Refusals.{AreFull, IsRefusal, IsPoolTestRefusal, IsWant, MayPropose}
@@ -34,7 +34,7 @@ module _ {O : Type 0} (opcode : O → Opcode) where
   wants_are_refusals sets own header calls may (failure.Fault (fault.Profile number)) want = absurd want
 
   -- where no test fails, a journal of the calls may be opened
-  pub journal_opens : (sets : List (Slots O)) (own : Slots O) (header : Header) (calls : List CallData) → MayPropose opcode sets own header calls → open_fault header calls ≡ None
+  pub journal_opens : (sets : List (Slots O)) (own : Slots O) (header : Header) (calls : List CallData) → MayPropose opcode sets own header calls → calls_fault header calls ≡ None
   journal_opens sets own header calls may =
       let few : nat_lt most_calls (length calls) ≡ false = let l = may.workers.calls_few in grind (arith, nat_tests) in
       ap (λ b. if b then Some TooMany else option_map Profile (first_beyond header.profile 1 calls)) few ∙ ap (option_map Profile) may.within

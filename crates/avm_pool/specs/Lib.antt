@@ -6,5 +6,6 @@ pub mod Refusals
 pub mod Resting
 pub mod Running
 pub mod FaultNames
+pub mod FaultNumbers
 pub mod NumberRule
 pub mod NumberPasses

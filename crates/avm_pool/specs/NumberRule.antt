@@ -30,6 +30,6 @@ Numbered queued hands = (pass : ℕ) × (put : ℕ) × OnePuts pass put hands ×
 abbrev pub Allows : Hand → List ℕ → Type 0
 Allows v queued = (pass : ℕ) × (hands : List Hand) × Numbered queued hands × (get_elem? hands pass ≡ some v)
 
--- at one moment n numbers were queued, as the rule allows
-abbrev pub WasMoment : ℕ → Hand → Type 0
-WasMoment n v = (queued : List ℕ) × (length queued ≡ n) × Allows v queued
+-- The rule allows that n numbers are queued while a pass knows v: some passes go with that. Which passes there are, it does not say.
+abbrev pub AllowsCount : ℕ → Hand → Type 0
+AllowsCount n v = (queued : List ℕ) × (length queued ≡ n) × Allows v queued

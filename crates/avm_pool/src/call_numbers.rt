@@ -90,7 +90,7 @@ pub struct Numbers {
 
 impl Numbers {
     ghost use Rattle.avm_pool.specs.NumberPasses.{IsWith};
-    ghost use Rattle.avm_pool.specs.NumberRule.{WasMoment, hand};
+    ghost use Rattle.avm_pool.specs.NumberRule.{AllowsCount, hand};
 
     /// An empty queue, and the one pass that may put. It takes all its memory here.
     pub fn new(alloc: Global) -> Result<(Numbers, NumberPass), AllocError>
@@ -109,26 +109,28 @@ impl Numbers {
         self.queue.another::<Worker>(pass)
     }
 
-    /// Puts the next number. It comes back only where the queue was full at one moment of the call, which it never is
-    /// for whoever puts at most [`ROOM`] numbers.
+    /// Puts the next number. It comes back only where the rule allows that the queue is full, which it never does for whoever
+    /// puts at most [`ROOM`] numbers.
     pub fn put<R: Wait>(&self, rt: &R, pass: &mut NumberPass, number: u32) -> Result<(), u32>
         requires queue { IsWith self.now pass.old }
         requires next { ((view pass.old).puts ≡ true) × (number ≡ (view pass.old).put + 1) }
         ensures queue { IsWith self.now pass.new }
         ensures rule { MatchResult result
             (λ _. view pass.new ≡ hand true number (view pass.old).drawn) (λ back. (back ≡ number)
-            × (view pass.new ≡ view pass.old) × WasMoment ROOM (view pass.old)) }
+            × (view pass.new ≡ view pass.old) × AllowsCount ROOM (view pass.old)) }
         ensures room { OnErr result (ROOM ≤ (view pass.old).put) }
     {
         self.queue.push_as::<Puts, R>(rt, pass, number)
     }
 
-    /// Draws the number at the front. `None` is given only where the queue was empty at one moment of the call.
+    /// Draws the number at the front. `None` is given only where the rule allows that the queue is empty: what this pass knows
+    /// goes with some passes that have drawn all numbers put. The clause says no more, since it does not name the passes that
+    /// there are; that a number which is queued is drawn is tested.
     pub fn draw<R: Wait>(&self, rt: &R, pass: &mut NumberPass) -> Option<u32>
         requires { IsWith self.now pass.old }
         ensures queue { IsWith self.now pass.new }
         ensures rule { MatchOption result ((view pass.new ≡ view pass.old)
-            × WasMoment 0 (view pass.old)) (λ number. view pass.new ≡ hand (view pass.old).puts
+            × AllowsCount 0 (view pass.old)) (λ number. view pass.new ≡ hand (view pass.old).puts
             (view pass.old).put ((view pass.old).drawn ++ number ∷ [])) }
     {
         self.queue.pop_as::<Draws, R>(rt, pass)

@@ -2,6 +2,7 @@
 
 ghost use Rattle.std.specs.Prelude.{◌≡◌};
 ghost use Rattle.avm_pool.specs.FaultNames.{pool_fault_name};
+ghost use Rattle.avm_pool.specs.FaultNumbers.{pool_fault_number};
 
 use std::fmt;
 use teal_value::Failure;
@@ -29,6 +30,19 @@ impl fmt::Display for PoolFault {
 }
 
 impl PoolFault {
+    /// Its number, from 1: not that of its place in the order of the tests.
+    pub fn number(self) -> u8
+        ensures { result ≡ pool_fault_number self }
+    {
+        match self {
+            PoolFault::Workers => 1,
+            PoolFault::OpMissing(_code) => 2,
+            PoolFault::Spawn => 3,
+            PoolFault::ClockEnd => 4,
+            PoolFault::Profile { .. } => 5,
+        }
+    }
+
     /// Its name, as commands print it.
     pub fn name(self) -> &'static str
         ensures { result.now ≡ pool_fault_name self }

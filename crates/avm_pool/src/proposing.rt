@@ -2,7 +2,7 @@
 
 ghost use Rattle.std.specs.Prelude.{◌≡◌, ◌≤◌, true, [], IfErr, IfNone, IfOk, IfSome, IsFalse, IsTrue, None, OnOk, length};
 ghost use Rattle.std.specs.Arc.{arc_value};
-ghost use Rattle.mv_parts.specs.Opening.{open_fault};
+ghost use Rattle.avm_block.specs.CallsFaults.{calls_fault};
 ghost use Rattle.mv_parts.specs.Sealing.{IsJournalOf};
 ghost use Rattle.avm_pool.specs.Proposals.{IsProposal};
 ghost use Rattle.avm_pool.specs.Refusals.{IsRefusal, IsWant, MayPropose};
@@ -95,7 +95,7 @@ fn proposed_over<G: Gate, R: Threads + Wait + Sync, O: Op>(
     crew: Crew<O>,
     gate: &G,
 ) -> Result<Proposal, PoolError>
-    requires opens { open_fault draft.header draft.calls.items ≡ None }
+    requires opens { calls_fault draft.header draft.calls.items ≡ None }
     ensures proposal { IfOk result
         (IsProposal draft.entry.base.now draft.entry.header draft.entry.calls.items) }
     ensures want { IfErr result IsWant }
@@ -122,7 +122,7 @@ fn proposed<G: Gate, R: Threads + Wait + Sync, O: Op, const ENDS: bool>(
     crew: Crew<O>,
     gate: &G,
 ) -> Result<Proposal, PoolError>
-    requires opens { open_fault draft.header draft.calls.items ≡ None }
+    requires opens { calls_fault draft.header draft.calls.items ≡ None }
     ensures proposal { IfOk result
         (IsProposal draft.entry.base.now draft.entry.header draft.entry.calls.items) }
     ensures want { IfErr result IsWant }
@@ -198,7 +198,7 @@ fn by_workers<G: Gate, R: Threads + Wait + Sync, O: Op, const ENDS: bool>(
     own: &FullOps<O>,
     gate: &G,
 ) -> Result<Option<Proposal>, PoolError>
-    requires opens { open_fault draft.now.header (arc_value draft.now.calls).items ≡ None }
+    requires opens { calls_fault draft.now.header (arc_value draft.now.calls).items ≡ None }
     ensures proposal { IfOk result (λ made. IfSome made
         (IsProposal draft.now.base.now draft.now.header (arc_value draft.now.calls).items)) }
     ensures want { IfErr result IsWant }
@@ -231,7 +231,7 @@ fn proposed_anew<G: Gate, R: Threads + Wait + Sync, O: Op, const ENDS: bool>(
     own: &FullOps<O>,
     gate: &G,
 ) -> Result<Proposal, PoolError>
-    requires opens { open_fault draft.now.header (arc_value draft.now.calls).items ≡ None }
+    requires opens { calls_fault draft.now.header (arc_value draft.now.calls).items ≡ None }
     ensures proposal { IfOk result
         (IsProposal draft.now.base.now draft.now.header (arc_value draft.now.calls).items) }
     ensures want { IfErr result IsWant }
@@ -316,7 +316,7 @@ impl<'a> SharedDraft<'a> {
 
     /// A journal of which no call has begun, and its shards behind locks of their own.
     fn open(&self) -> Result<(Journal, Vec<ShardLock>), AllocError>
-        requires opens { open_fault self.now.header (arc_value self.now.calls).items ≡ None }
+        requires opens { calls_fault self.now.header (arc_value self.now.calls).items ≡ None }
         ensures { IfOk result (λ opened. IsJournalOf opened.0 self.now.base.now self.now.header
             (arc_value self.now.calls).items) }
     {
@@ -327,7 +327,7 @@ impl<'a> SharedDraft<'a> {
 
     /// The same, with its shards held together.
     fn open_held(&self) -> Result<(Journal, Held), AllocError>
-        requires opens { open_fault self.now.header (arc_value self.now.calls).items ≡ None }
+        requires opens { calls_fault self.now.header (arc_value self.now.calls).items ≡ None }
         ensures { IfOk result (λ opened. IsJournalOf opened.0 self.now.base.now self.now.header
             (arc_value self.now.calls).items) }
     {

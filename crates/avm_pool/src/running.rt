@@ -13,9 +13,11 @@ use avm_call::Call;
 use avm_items::{Item, ItemValue};
 use avm_ledger::Header;
 use avm_ops::Op;
-use avm_run::{Finished, FullOps, Reader, RunContext, Spare, run_reading};
+use avm_run::{Executions, Finished, FullOps, Reader, RunContext, Spare, run_reading};
 use mv_shards::{Attempt, shard_of};
 use std::alloc::{AllocError, Global};
+use std::marker::Brand;
+use std::sync::ledger::{Blank, Ledger};
 use std::sync::{Mutex, Wait};
 use teal_value::Failure;
 
@@ -80,20 +82,32 @@ impl<'a, 'b, G: Gate, R: Wait> Trial<'a, 'b, G, R> {
     pub fn run<O: Op>(&mut self, executor: &mut Executor<O>) -> Result<Finished, AttemptEnd>
         ensures { IsSameAttempt self.old.attempt self.new.attempt }
     {
-        let shared = self.shared;
-        let Some(call) = shared.call(self.attempt.number()) else {
+        let Some(call) = self.shared.call(self.attempt.number()) else {
             return Err(AttemptEnd::Left);
         };
-        let context = RunContext {
-            alloc: shared.alloc,
-            ops: executor.ops,
-            header: shared.header,
-        };
-        match run_reading(&context, call, &mut executor.spare, self) {
+        match self.run_call::<Brand, O>(executor, call, Blank::new(2)) {
             Ok(finished) => Ok(finished),
             Err(Failure::Memory) => Err(AttemptEnd::Left),
             Err(Failure::Fault(end)) => Err(end),
         }
+    }
+
+    fn run_call<L: Ledger, O: Op>(
+        &mut self,
+        executor: &mut Executor<O>,
+        call: &Call,
+        blank: Blank,
+    ) -> Result<Finished, Failure<AttemptEnd>>
+        requires blank { (blank.name ≡ L.name) × (blank.parts ≡ L.parts) × (blank.parts ≡ 2) }
+        ensures { IsSameAttempt self.old.attempt self.new.attempt }
+    {
+        let mut executions = Executions::<L>::new(blank);
+        let context = RunContext {
+            alloc: self.shared.alloc,
+            ops: executor.ops,
+            header: self.shared.header,
+        };
+        run_reading(&context, call, &mut executor.spare, self, &mut executions)
     }
 
     /// Tells the gate what the attempt has come to.

@@ -19,12 +19,11 @@ use std::alloc::AllocError;
 use std::sync::{Mutex, Wait};
 use teal_value::Failure;
 
-/// After how many commits a worker adds to the front of the block.
-const COMMITS_AHEAD: u32 = 64;
+/// After how many of its commits a worker prunes, and adds to the front of the block.
+const COMMITS_BETWEEN: u32 = 64;
 
-/// How many commits a worker makes before its first prune. Before each further one it makes twice as many as before the last,
-/// since a prune visits each item that the block has touched: so all prunes together visit as many as its commits touch.
-const FIRST_PRUNE: u32 = 64;
+/// How many entries it adds at most, for those that others have committed meanwhile too.
+const ENTRIES_AHEAD: usize = 256;
 
 /// What the attempts of a call and its entry take, in bytes. A worker may run all calls.
 const CALL_ROOM: usize = 2048;
@@ -96,7 +95,7 @@ struct Site<'a, 'b, 'c, G, R> {
 }
 
 impl<'a, 'b, 'c, G: Gate, R: Wait> Site<'a, 'b, 'c, G, R> {
-    /// Runs the calls of the numbers that are drawn, and prunes after some commits.
+    /// Runs the calls of the numbers that are drawn, and prunes after every so many commits.
     fn run_numbers<O: Op>(
         &self,
         executor: &mut Executor<O>,
@@ -107,7 +106,6 @@ impl<'a, 'b, 'c, G: Gate, R: Wait> Site<'a, 'b, 'c, G, R> {
         requires { IsWith numbers.now pass.old }
     {
         let mut commits = 0u32;
-        let mut next_prune = FIRST_PRUNE;
         for _ in self.rt.forever() {
             let Some(number) = numbers.draw(self.rt, pass) else {
                 return ThreadEnd::Over;
@@ -115,11 +113,8 @@ impl<'a, 'b, 'c, G: Gate, R: Wait> Site<'a, 'b, 'c, G, R> {
             match self.run_call(executor, held, number) {
                 AttemptEnd::Committed => {
                     commits = commits.saturating_add(1);
-                    if commits % COMMITS_AHEAD == 0 {
+                    if commits % COMMITS_BETWEEN == 0 {
                         self.go_ahead();
-                    }
-                    if commits == next_prune {
-                        next_prune = next_prune.saturating_mul(2);
                         self.prune(held);
                     }
                 }
@@ -232,14 +227,16 @@ impl<'a, 'b, 'c, G: Gate, R: Wait> Site<'a, 'b, 'c, G, R> {
         ahead.with(self.shared.entries_of(kept.as_slice())?)
     }
 
-    /// The entries that stay as they are, from an index on.
+    /// The entries that stay as they are, from an index on. Room is made before the journal is locked, and entries that don't
+    /// fit wait for the next time.
     fn settled_from(&self, from: usize) -> Result<Vec<Kept>, AllocError> {
-        let mut kept = Vec::with_capacity(self.shared.alloc, 4 * COMMITS_AHEAD as usize)?;
+        let mut kept = Vec::with_capacity(self.shared.alloc, ENTRIES_AHEAD)?;
         let journal = lock_soon(self.rt, self.journal);
         let entries = journal.entries();
-        for index in from..journal.settled() {
+        let end = journal.settled().min(from.saturating_add(ENTRIES_AHEAD));
+        for index in from..end {
             let entry = &entries[index];
-            kept.push((entry.timestamp(), entry.number(), entry.outcome()))?;
+            kept.push_reserved((entry.timestamp(), entry.number(), entry.outcome()));
         }
         Ok(kept)
     }

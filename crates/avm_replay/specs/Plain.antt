@@ -1,26 +1,12 @@
 -- Blocks of calls made one after another.
-use Rattle.std.specs.Prelude.{◌≡◌, ℕ, ◌+◌, nat_lt, if◌then◌else◌, List, [], ◌∷◌, length, map, All, Option, Some, option_map}
-use Rattle.teal_value.specs.declared.failure.Failure.{Failure}
-use Rattle.teal_value.specs.declared.failure.Failure.TheVariants as failure
+use Rattle.std.specs.Prelude.{◌≡◌, ℕ, ◌+◌, List, [], ◌∷◌, map, All}
 use Rattle.avm_ledger.specs.declared.header.Header.{Header}
 use Rattle.avm_ledger.specs.Ledgers.{Ledger}
 use Rattle.avm_items.specs.declared.call_data.CallData.{CallData}
 use Rattle.avm_call.specs.Places.{HasPlace}
 use Rattle.avm_call.specs.Replay.{outcomes, replayed}
 use Rattle.avm_block.specs.declared.entry.Entry.{Entry}
-use Rattle.avm_block.specs.AcceptedCalls.{first_beyond}
-use Rattle.avm_block.specs.Blocks.{Block, Replays, calls_in, calls_of, outcomes_in, most_calls}
-use Rattle.avm_replay.specs.declared.plain.PlainBlockFault.{PlainBlockFault}
-use Rattle.avm_replay.specs.declared.plain.PlainBlockFault.TheVariants as fault
-
--- why these calls make no block under a header
-abbrev pub plain_fault : Header → List CallData → Option PlainBlockFault
-plain_fault header calls = if nat_lt most_calls (length calls) then Some fault.TooMany else option_map fault.Profile (first_beyond header.profile 1 calls)
-
--- It is this fault, or that memory ran out.
-abbrev pub IsPlainFaultOf : Option PlainBlockFault → Failure PlainBlockFault → Type 0
-IsPlainFaultOf found failure.Memory = Unit {0}
-IsPlainFaultOf found (failure.Fault f) = found ≡ Some f
+use Rattle.avm_block.specs.Blocks.{Block, Replays, calls_in, calls_of, outcomes_in}
 
 -- so many timestamps, one after another
 abbrev pub timestamps_from : ℕ → List CallData → List ℕ

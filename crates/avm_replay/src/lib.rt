@@ -12,6 +12,6 @@ pub mod worked;
 
 pub use base::Base;
 pub use past::{StateError, StateFault, state_at, state_at_owned};
-pub use plain::{PlainBlockError, PlainBlockFault, plain_block};
+pub use plain::plain_block;
 pub use replayer::{one_verdict, replay, replay_owned};
 pub use verdict::Verdict;

@@ -11,8 +11,11 @@ use crate::base::Base;
 use avm_block::{Block, Entry};
 use avm_ledger::Ledger;
 use avm_ops::Op;
-use avm_run::{FullOps, RunContext, call_on};
+use avm_run::{Executions, FullOps, RunContext, call_on};
 use std::alloc::{AllocError, Global};
+use std::marker::Brand;
+use std::sync::ledger;
+use std::sync::ledger::Blank;
 use teal_value::Failure;
 use thiserror::Error;
 
@@ -76,27 +79,31 @@ pub fn state_at_owned<O: Op>(
         ops,
         header: block.header(),
     };
-    make_until(&context, &mut after, block.entries(), timestamp)?;
+    let blank = Blank::new(2);
+    make_until::<Brand, O>(&context, &mut after, block.entries(), timestamp, blank)?;
     Ok(after)
 }
 
 /// Makes the calls of entries on a ledger, up to the last that isn't behind the timestamp.
-fn make_until<O: Op>(
+fn make_until<L: ledger::Ledger, O: Op>(
     context: &RunContext<'_, O>,
     ledger: &mut Ledger,
     entries: &[Entry],
     timestamp: u64,
+    blank: Blank,
 ) -> Result<(), AllocError>
+    requires blank { (blank.name ≡ L.name) × (blank.parts ≡ L.parts) × (blank.parts ≡ 2) }
     requires rising { RisesAbove 0 entries.now }
     ensures { IfOk result (λ _. ledger.new ≡ replayed ledger.old context.now.header.now
         (calls_in (entries_until timestamp entries.now))) }
 {
+    let mut executions = Executions::<L>::new(blank);
     let mut spare = None;
     for entry in entries {
         if entry.timestamp > timestamp {
             return Ok(());
         }
-        call_on(context, ledger, &entry.call, &mut spare)?;
+        call_on(context, ledger, &entry.call, &mut spare, &mut executions)?;
     }
     Ok(())
 }

@@ -9,8 +9,11 @@ use avm_block::{Block, Entry, MAX_ENTRIES};
 use avm_call::Outcome;
 use avm_ledger::Ledger;
 use avm_ops::Op;
-use avm_run::{FullOps, RunContext, call_on};
+use avm_run::{Executions, FullOps, RunContext, call_on};
 use std::alloc::{AllocError, Global};
+use std::marker::Brand;
+use std::sync::ledger;
+use std::sync::ledger::Blank;
 
 /// Makes the calls of a block over the ledger before it, and compares. The ledger is copied once; a call costs what it
 /// touches.
@@ -45,7 +48,9 @@ pub fn replay_owned<O: Op>(
         ops,
         header: block.header(),
     };
-    if let Some((entry, found)) = first_wrong(&context, &mut after, block.entries())? {
+    let blank = Blank::new(2);
+    let wrong = first_wrong::<Brand, O>(&context, &mut after, block.entries(), blank)?;
+    if let Some((entry, found)) = wrong {
         return Ok(Verdict::WrongOutcome { entry, found });
     }
     if after.digest(alloc)? != *block.after() {
@@ -56,19 +61,22 @@ pub fn replay_owned<O: Op>(
 
 /// Makes the calls of entries on a ledger, up to the first that ends otherwise than its entry says; gives its number and
 /// how it ends.
-fn first_wrong<O: Op>(
+fn first_wrong<L: ledger::Ledger, O: Op>(
     context: &RunContext<'_, O>,
     ledger: &mut Ledger,
     entries: &[Entry],
+    blank: Blank,
 ) -> Result<Option<(usize, Outcome)>, AllocError>
+    requires blank { (blank.name ≡ L.name) × (blank.parts ≡ L.parts) × (blank.parts ≡ 2) }
     requires few { length entries.now ≤ MAX_ENTRIES }
     ensures { IfOk result (Compares ledger.old ledger.new context.now.header.now entries.now) }
 {
+    let mut executions = Executions::<L>::new(blank);
     let mut spare = None;
     let mut number = 0;
     for entry in entries {
         number += 1;
-        let found = call_on(context, ledger, &entry.call, &mut spare)?;
+        let found = call_on(context, ledger, &entry.call, &mut spare, &mut executions)?;
         if !are_same(found, entry.outcome) {
             return Ok(Some((number, found)));
         }

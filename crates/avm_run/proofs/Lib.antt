@@ -14,3 +14,4 @@ mod Executing
 mod Showing
 mod KnownItems
 pub mod FinishedCalls
+mod ItemByItem

@@ -16,9 +16,8 @@ ghost use Rattle.avm_run.specs.RunState.{is_asked};
 ghost use Rattle.avm_run.specs.Showing.{Shows};
 
 use crate::context::RunContext;
-use crate::executions::Executions;
 use crate::finished::Finished;
-use crate::full_ops::FullOps;
+use crate::full_ops::{Executions, FullOps};
 use crate::phase::{EndedRun, PathOutcome, Phase, RunOutcome, run_on, step_on};
 use crate::running::Spare;
 use crate::shown::Shown;
@@ -28,9 +27,9 @@ use avm_ledger::Header;
 use avm_ops::Op;
 use std::alloc::{AllocError, Global};
 use std::cmp::Ordering;
-use std::marker::{Brand, Model};
+use std::marker::Model;
 use std::mem;
-use std::sync::ledger::{Blank, Ledger};
+use std::sync::ledger::Ledger;
 use thiserror::Error;
 
 /// Why a run gives no answer.
@@ -275,35 +274,12 @@ impl CallRun {
 
     /// Runs on until the call ends or asks for an item that was not supplied. It goes on where it stopped; the tests
     /// before the program may be made again. A program makes no more steps than it has instructions, which cost at most 700
-    /// together (AVM specification, "Execution Environment for Smart Contracts"). How many instructions are executed,
-    /// [`CallRun::advance_counted`] says.
-    pub fn advance<O: Op>(&mut self, alloc: Global, ops: &FullOps<O>) -> Result<Advance, RunFault>
-        ensures { Advances self.old self.new result }
-    {
-        self.advance_on::<Brand, O>(alloc, ops, Blank::new(2))
-    }
-
-    /// Runs on, and counts on a new ledger.
-    #[inline]
-    fn advance_on<L: Ledger, O: Op>(
-        &mut self,
-        alloc: Global,
-        ops: &FullOps<O>,
-        blank: Blank,
-    ) -> Result<Advance, RunFault>
-        requires name { blank.name ≡ L.name }
-        requires two { blank.parts ≡ 2 }
-        requires parts { blank.parts ≡ L.parts }
-        ensures { Advances self.old self.new result }
-    {
-        let mut executions = Executions::<L>::new(blank);
-        self.advance_counted(alloc, ops, &mut executions)
-    }
-
-    /// Runs on as [`CallRun::advance`] does, and counts the instructions that are executed: one for each step that the run
-    /// makes, so that none is executed again once it has made its step, however often the run asks. An instruction that
-    /// asks is executed again when the run goes on; that and a fault are counted apart.
-    pub fn advance_counted<L: Ledger, O: Op>(
+    /// together (AVM specification, "Execution Environment for Smart Contracts").
+    ///
+    /// The instructions that are executed are counted: one for each step that the run makes, so that none is executed again
+    /// once it has made its step, however often the run asks. An instruction that asks is executed again when the run goes
+    /// on; that and a fault are counted apart.
+    pub fn advance<L: Ledger, O: Op>(
         &mut self,
         alloc: Global,
         ops: &FullOps<O>,
@@ -341,34 +317,10 @@ impl CallRun {
     }
 
     /// Makes one step of the path of the call's program, over the items supplied. The first step makes the tests before the
-    /// program and leads to the start of the path, before the first instruction; each further step carries out one
-    /// instruction. At a fault and at the end of the program the run stays where it stands. Where no program runs, the call
-    /// ends, as with [`CallRun::advance`].
-    pub fn step_one<O: Op>(&mut self, alloc: Global, ops: &FullOps<O>) -> Result<Step, RunFault>
-        ensures { Steps self.old self.new result }
-    {
-        self.step_one_on::<Brand, O>(alloc, ops, Blank::new(2))
-    }
-
-    /// Makes one step, and counts on a new ledger.
-    #[inline]
-    fn step_one_on<L: Ledger, O: Op>(
-        &mut self,
-        alloc: Global,
-        ops: &FullOps<O>,
-        blank: Blank,
-    ) -> Result<Step, RunFault>
-        requires name { blank.name ≡ L.name }
-        requires two { blank.parts ≡ 2 }
-        requires parts { blank.parts ≡ L.parts }
-        ensures { Steps self.old self.new result }
-    {
-        let mut executions = Executions::<L>::new(blank);
-        self.step_one_counted(alloc, ops, &mut executions)
-    }
-
-    /// Makes one step as [`CallRun::step_one`] does, and counts the instruction that it executes, if any.
-    pub fn step_one_counted<L: Ledger, O: Op>(
+    /// program and leads to the start of the path, before the first instruction; each further step executes one
+    /// instruction, which is counted. At a fault and at the end of the program the run stays where it stands. Where no program
+    /// runs, the call ends, as with [`CallRun::advance`].
+    pub fn step_one<L: Ledger, O: Op>(
         &mut self,
         alloc: Global,
         ops: &FullOps<O>,

@@ -12,7 +12,7 @@ ghost use Rattle.avm_run.specs.ExecutedSteps.{CallExecutes};
 
 use crate::admission::first_item;
 use crate::context::RunContext;
-use crate::executions::Executions;
+use crate::full_ops::Executions;
 use crate::phase::{EndedRun, Phase, RunOutcome, run_on};
 use crate::running::{Spare, keep_room, no_items};
 use avm_call::{Call, Outcome};
@@ -22,55 +22,17 @@ use avm_laws::order_laws::every_call_keeps_order;
 use avm_ledger::Ledger;
 use avm_ops::Op;
 use std::alloc::AllocError;
-use std::marker::Brand;
 use std::sync::ledger;
-use std::sync::ledger::Blank;
 
 /// Makes a call on a ledger, in place, and answers its outcome. It costs what the call touches, not what the ledger holds.
 ///
 /// The program runs in the spare box, on its machine, and leaves it for the next call: a first call is handed `None`, and
 /// further ones need no memory for either.
-pub fn call_on<O: Op>(
-    context: &RunContext<'_, O>,
-    ledger: &mut Ledger,
-    call: &Call,
-    spare: &mut Option<Spare>,
-) -> Result<Outcome, AllocError>
-    ensures outcome { IfOk result
-        (λ outcome. outcome ≡ outcome_on ledger.old call.now context.now.header.now) }
-    ensures after { IfOk result
-        (λ _. ledger.new ≡ ledger_after ledger.old call.now context.now.header.now) }
-    ensures unchanged { IfErr result (λ _. ledger.new ≡ ledger.old) }
-{
-    call_on_blank::<Brand, O>(context, ledger, call, spare, Blank::new(2))
-}
-
-/// Makes a call on a ledger, and counts on a new one of counts.
-#[inline]
-fn call_on_blank<L: ledger::Ledger, O: Op>(
-    context: &RunContext<'_, O>,
-    ledger: &mut Ledger,
-    call: &Call,
-    spare: &mut Option<Spare>,
-    blank: Blank,
-) -> Result<Outcome, AllocError>
-    requires name { blank.name ≡ L.name }
-    requires two { blank.parts ≡ 2 }
-    requires parts { blank.parts ≡ L.parts }
-    ensures outcome { IfOk result
-        (λ outcome. outcome ≡ outcome_on ledger.old call.now context.now.header.now) }
-    ensures after { IfOk result
-        (λ _. ledger.new ≡ ledger_after ledger.old call.now context.now.header.now) }
-    ensures unchanged { IfErr result (λ _. ledger.new ≡ ledger.old) }
-{
-    let mut executions = Executions::<L>::new(blank);
-    call_on_counted(context, ledger, call, spare, &mut executions)
-}
-
-/// Makes a call on a ledger as [`call_on`] does, and counts the instructions that are executed: one for each step of its
-/// program's path, and so no more than the program has, and none where no program runs. An instruction that asks for an
-/// item is executed again with it; that and a fault are counted apart.
-pub fn call_on_counted<L: ledger::Ledger, O: Op>(
+///
+/// The instructions that are executed are counted: one for each step of the program's path, and so no more than the program
+/// has, and none where no program runs. An instruction that asks for an item is executed again with it; that and a fault are
+/// counted apart.
+pub fn call_on<L: ledger::Ledger, O: Op>(
     context: &RunContext<'_, O>,
     ledger: &mut Ledger,
     call: &Call,
@@ -97,20 +59,23 @@ pub fn call_on_counted<L: ledger::Ledger, O: Op>(
     Ok(closed.outcome)
 }
 
-/// Makes a call on a copy of a ledger.
-pub fn call_plain<O: Op>(
+/// Makes a call on a copy of a ledger, as [`call_on`] does.
+pub fn call_plain<L: ledger::Ledger, O: Op>(
     context: &RunContext<'_, O>,
     ledger: &Ledger,
     call: &Call,
+    executions: &mut Executions<L>,
 ) -> Result<(Outcome, Ledger), AllocError>
     ensures outcome { IfOk result
         (λ r. r.0 ≡ outcome_on ledger.now call.now context.now.header.now) }
     ensures after { IfOk result
         (λ r. r.1 ≡ ledger_after ledger.now call.now context.now.header.now) }
+    ensures executes { IfOk result (λ r. CallExecutes ledger.now
+        call.now context.now.header.now r.0 executions.old executions.new) }
 {
     let mut after = ledger.clone()?;
     let mut spare = None;
-    let outcome = call_on(context, &mut after, call, &mut spare)?;
+    let outcome = call_on(context, &mut after, call, &mut spare, executions)?;
     Ok((outcome, after))
 }
 

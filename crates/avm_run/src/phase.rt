@@ -13,7 +13,7 @@ ghost use Rattle.avm_run.specs.Standing.{BeginsRun};
 use crate::admission::{AdmissionStop, Admitted, admit};
 use crate::context::RunContext;
 use crate::ending::{cleared, end_call};
-use crate::executions::Executions;
+use crate::full_ops::Executions;
 use crate::running::{Callee, Running, Spare, StepsOutcome, make_steps, start_program};
 use avm_call::{Call, Cause, Ended, Outcome};
 use avm_items::{Item, ItemMap, ItemValue};

@@ -1,14 +1,10 @@
 -- Items inserted in their order.
-use Rattle.std.proofs.Common.{◌≡◌, ◌<◌, ◌+◌, ℕ, [], ◌∷◌, ◌++◌, drop, get_or, length, ap, sym, subst, ◌∙◌, append_assoc}
+use Rattle.std.proofs.Common.{◌≡◌, ◌<◌, ◌+◌, ℕ, ◌∷◌, ◌++◌, drop, get_or, length, ap, sym, subst, ◌∙◌}
 use Rattle.std.proofs.lemmas.List.{drop_more}
-use Rattle.std.specs.List.{AllByRecursion}
-use Rattle.std.specs.List.Sorted.{IsStrictlySortedBy}
-use Rattle.std.specs.Map.{keys_of}
-use Rattle.std.specs.declared.cmp.Ordering.TheVariants.{Less}
 use Rattle.avm_ledger.proofs.RisingReading.{moved_next}
 use Rattle.avm_items.specs.declared.item.Item.{Item}
 use Rattle.avm_items.specs.declared.item_value.ItemValue.{ItemValue}
-use Rattle.avm_items.specs.Items.{ItemMap, IsInItemOrder, item_cmp, with_item}
+use Rattle.avm_items.specs.Items.{ItemMap, IsInItemOrder, with_item}
 use Rattle.avm_items.proofs.Puts.{item_total}
 
 -- with the next item copied, the copy and the rest are still all the items

@@ -14,8 +14,11 @@ use avm_items::Item;
 use avm_ledger::Ledger;
 use avm_ops::Op;
 use avm_replay::state_at;
-use avm_run::{CallRun, FullOps, RunFault, Step};
+use avm_run::{CallRun, Executions, FullOps, RunFault, Step};
 use std::alloc::{AllocError, Global};
+use std::marker::Brand;
+use std::sync::ledger;
+use std::sync::ledger::Blank;
 use teal_value::Failure;
 
 /// What the tests before a program come to.
@@ -60,15 +63,17 @@ pub(crate) fn ledger_before<O: Op>(
 }
 
 /// Tries the tests before a program, over the items supplied.
-fn try_start<O: Op>(
+fn try_start<L: ledger::Ledger, O: Op>(
     alloc: Global,
     ops: &FullOps<O>,
     run: &mut CallRun,
+    blank: Blank,
 ) -> Result<StartOutcome, AllocError>
+    requires blank { (blank.name ≡ L.name) × (blank.parts ≡ L.parts) × (blank.parts ≡ 2) }
     requires tests { IsAtTests run.old }
     ensures { IfOk result (λ begun. Begins run.old run.new begun) }
 {
-    match run.step_one(alloc, ops) {
+    match run.step_one(alloc, ops, &mut Executions::<L>::new(blank)) {
         Ok(Step::Moved) => Ok(StartOutcome::Program),
         Ok(Step::Need(item)) => Ok(StartOutcome::Need(item)),
         Ok(Step::Done(_finished)) => Ok(StartOutcome::Nothing),
@@ -90,7 +95,7 @@ pub(crate) fn start_over<O: Op>(
     ensures { IfOk result (λ runs. BeginsOver ledger.now run.old run.new runs) }
 {
     loop {
-        match try_start(alloc, ops, run)? {
+        match try_start::<Brand, O>(alloc, ops, run, Blank::new(2))? {
             StartOutcome::Program => return Ok(true),
             StartOutcome::Nothing => return Ok(false),
             StartOutcome::Need(item) => supply_from(ledger, run, item)?,

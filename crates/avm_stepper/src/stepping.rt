@@ -7,8 +7,11 @@ use avm_call::Ended;
 use avm_items::{Item, item_of};
 use avm_ledger::Ledger;
 use avm_ops::Op;
-use avm_run::{CallRun, FullOps, RunFault, Step};
+use avm_run::{CallRun, Executions, FullOps, RunFault, Step};
 use std::alloc::{AllocError, Global};
+use std::marker::Brand;
+use std::sync::ledger;
+use std::sync::ledger::Blank;
 use teal_value::Fault;
 
 /// What an instruction comes to.
@@ -43,15 +46,17 @@ fn is_left(run: &CallRun) -> bool
 }
 
 /// Tries the instruction that comes next, over the items supplied.
-fn try_step<O: Op>(
+fn try_step<L: ledger::Ledger, O: Op>(
     alloc: Global,
     ops: &FullOps<O>,
     run: &mut CallRun,
+    blank: Blank,
 ) -> Result<StepOutcome, AllocError>
+    requires blank { (blank.name ≡ L.name) × (blank.parts ≡ L.parts) × (blank.parts ≡ 2) }
     requires before { IsBefore run.old }
     ensures { IfOk result (λ outcome. Goes run.old run.new outcome) }
 {
-    match run.step_one(alloc, ops) {
+    match run.step_one(alloc, ops, &mut Executions::<L>::new(blank)) {
         Ok(Step::Moved) => Ok(StepOutcome::Moved),
         Ok(Step::Need(item)) => Ok(StepOutcome::Need(item)),
         Ok(Step::Ended(Ended::Faulted(fault, _place))) => Ok(StepOutcome::Faulted(fault)),
@@ -90,7 +95,7 @@ pub(crate) fn step_over<O: Op>(
     ensures { IfOk result (λ fault. LeadsTo ledger.now run.old run.new fault) }
 {
     loop {
-        match try_step(alloc, ops, run)? {
+        match try_step::<Brand, O>(alloc, ops, run, Blank::new(2))? {
             StepOutcome::Moved => return Ok(None),
             StepOutcome::Faulted(fault) => return Ok(Some(fault)),
             StepOutcome::Need(item) => supply_from(ledger, run, item)?,

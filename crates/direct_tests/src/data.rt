@@ -15,7 +15,7 @@ use std::test::Fail;
 /// By the number of its arguments, `main` with 1 puts the number under `v` of the call's further account, and 1, under `v` of the
 /// sender; else it adds 1 to the number under `n` of the global state, and with 2 rejects, with 3 errs. `adds` adds the number
 /// under `n` of the call's foreign application, and 1, to its own. `skew` does what `main` does with 1 argument.
-const PROGRAMS: [(&str, &str, &str); 7] = [
+const PROGRAMS: [(&str, &str, &str); 8] = [
     ("approves", "#pragma version 2\nint 1", "0220010122"),
     ("errs", "#pragma version 2\nerr", "0200"),
     (
@@ -42,6 +42,11 @@ const PROGRAMS: [(&str, &str, &str); 7] = [
         "looks",
         "#pragma version 2\nint 1\nbyte \"k\"\napp_global_get_ex",
         "022001012601016b222865",
+    ),
+    (
+        "asserts",
+        "#pragma version 3\nint 1\nassert\nint 1",
+        "03200101224422",
     ),
 ];
 

@@ -42,3 +42,5 @@ mod script;
 mod sets;
 #[cfg(test)]
 mod sets_of_objects;
+#[cfg(test)]
+mod unproposed;

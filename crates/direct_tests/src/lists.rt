@@ -2,7 +2,7 @@
 
 ghost use Rattle.std.specs.Prelude.{◌≡◌, IfOk, None};
 ghost use Rattle.std.specs.Arc.{arc_value};
-ghost use Rattle.mv_parts.specs.Opening.{open_fault};
+ghost use Rattle.avm_block.specs.CallsFaults.{calls_fault};
 
 use crate::data::stand_once;
 use avm_block::Block;
@@ -85,7 +85,7 @@ impl<'a, O: Op> Bench<'a, O> {
 
     /// The calls, where a store opens for them, which says that they are few, each of the header's profile.
     fn store_calls(&self, header: Header, calls: &Arc<Vec<Call>>) -> Result<Arc<Vec<Call>>, Fail>
-        ensures { IfOk result (λ calls. open_fault header (arc_value calls).items ≡ None) }
+        ensures { IfOk result (λ calls. calls_fault header (arc_value calls).items ≡ None) }
     {
         let own = Arc::try_clone(calls)?;
         match Store::open(self.alloc, self.base.clone()?, header, own) {

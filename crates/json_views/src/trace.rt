@@ -23,10 +23,13 @@ use avm_input::outcome_text;
 use avm_items::Completion;
 use avm_ledger::{Header, Ledger};
 use avm_ops::Op;
-use avm_run::{FullOps, RunContext, call_plain};
+use avm_run::{Executions, FullOps, RunContext, call_plain};
 use avm_stepper::{Stepper, entry_of};
 use json::Pretty;
 use std::alloc::{AllocError, Global};
+use std::marker::Brand;
+use std::sync::ledger;
+use std::sync::ledger::Blank;
 use teal_check::Program;
 use teal_dis::line_numbers;
 use teal_value::Failure;
@@ -48,7 +51,8 @@ pub(crate) fn trace_found<O: Op>(
     let Some(entry) = entry_of(block.entries(), number) else {
         unreachable!()
     };
-    let text = trace_text(alloc, &mut stepper, entry, block.header(), ops)?;
+    let blank = Blank::new(2);
+    let text = trace_text::<Brand, O>(alloc, &mut stepper, entry, block.header(), ops, blank)?;
     if text.len() as u64 > TEXT_LIMIT {
         return Err(Failure::Fault(TraceRefusal::TooLong));
     }
@@ -74,20 +78,23 @@ fn opened<O: Op>(
 }
 
 /// The text of the trace of an entry's call, from before its first instruction.
-fn trace_text<O: Op>(
+fn trace_text<L: ledger::Ledger, O: Op>(
     alloc: Global,
     stepper: &mut Stepper,
     entry: &Entry,
     header: &Header,
     ops: &FullOps<O>,
+    blank: Blank,
 ) -> Result<String, Failure<TraceRefusal>>
+    requires blank { (blank.name ≡ L.name) × (blank.parts ≡ L.parts) × (blank.parts ≡ 2) }
     requires start { IsStartOf stepper.old entry.now.call header.now }
     ensures text { IfOk result
         (λ text. IsTraceText stepper.old entry.now.outcome (string_bytes text)) }
     ensures refused { IfErr result (IsTraceFailure stepper.old entry.now.outcome) }
 {
     let context = RunContext { alloc, ops, header };
-    let (outcome, _after) = call_plain(&context, stepper.ledger(), &entry.call)?;
+    let mut executions = Executions::<L>::new(blank);
+    let (outcome, _after) = call_plain(&context, stepper.ledger(), &entry.call, &mut executions)?;
     let mut out = Pretty::new(alloc);
     begin_object(&mut out)?;
     put_name(&mut out, "app-call-messages")?;

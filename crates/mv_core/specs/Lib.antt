@@ -10,3 +10,4 @@ pub mod Commits
 pub mod Worlds
 pub mod WorkerSteps
 pub mod FaultNames
+pub mod FaultNumbers

@@ -2,7 +2,7 @@
 
 ghost use Rattle.std.specs.Prelude.{◌≡◌, [], None, Some, IfOk, OnOk, replicate};
 ghost use Rattle.std.specs.Arc.{arc_value};
-ghost use Rattle.mv_parts.specs.Opening.{open_fault};
+ghost use Rattle.avm_block.specs.CallsFaults.{calls_fault};
 ghost use Rattle.mv_core.specs.declared.world.Worker.TheVariants.{Idle};
 ghost use Rattle.mv_core.specs.Worlds.{AreLiveIn, AreSound, IsRun, IsRunTo, IsStep, input_of};
 ghost use Rattle.mv_core.specs.WorkerSteps.{worker_in};
@@ -39,7 +39,7 @@ pub fn run_events<O: Op>(
     calls: Arc<Vec<Call>>,
     events: &[Event],
 ) -> Result<World, AllocError>
-    requires opens { open_fault header (arc_value calls).items ≡ None }
+    requires opens { calls_fault header (arc_value calls).items ≡ None }
     ensures { IfOk result (λ world. IsRun (record {
       base = base;
       header = header;

@@ -2,6 +2,7 @@
 
 ghost use Rattle.std.specs.Prelude.{◌≡◌};
 ghost use Rattle.mv_core.specs.FaultNames.{abandon_fault_name, commit_fault_name, read_fault_name, state_fault_name};
+ghost use Rattle.mv_core.specs.FaultNumbers.{commit_fault_number};
 
 use avm_items::Item;
 use avm_run::Finished;
@@ -13,7 +14,7 @@ use thiserror::Error;
 #[error("{name}", name = self.name())]
 pub enum ReadFault {
     /// The ticket is of no live attempt.
-    Unknown,
+    Unknown = 1,
 }
 
 impl ReadFault {
@@ -44,6 +45,17 @@ pub enum CommitFault {
 }
 
 impl CommitFault {
+    /// Its number, from 1: not that of its place in the order of the tests.
+    pub fn number(&self) -> u8
+        ensures { result ≡ commit_fault_number self.now }
+    {
+        match self {
+            CommitFault::Late { .. } => 1,
+            CommitFault::Unknown => 2,
+            CommitFault::Stranger => 3,
+        }
+    }
+
     /// Its name.
     pub fn name(&self) -> &'static str
         ensures { result.now ≡ commit_fault_name self.now }
@@ -71,7 +83,7 @@ pub struct RefusedCommit {
 #[error("{name}", name = self.name())]
 pub enum AbandonFault {
     /// The ticket is of no live attempt.
-    Unknown,
+    Unknown = 1,
 }
 
 impl AbandonFault {
@@ -90,7 +102,7 @@ impl AbandonFault {
 #[error("{name}", name = self.name())]
 pub enum StateFault {
     /// The timestamp is below the low mark.
-    Pruned,
+    Pruned = 1,
 }
 
 impl StateFault {

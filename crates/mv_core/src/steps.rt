@@ -12,8 +12,10 @@ use crate::ticket::Ticket;
 use crate::world::Worker;
 use avm_items::Item;
 use avm_ops::Op;
-use avm_run::{Advance, CallRun, Finished, RunFault};
+use avm_run::{Advance, CallRun, Executions, Finished, RunFault};
 use std::alloc::AllocError;
+use std::marker::Brand;
+use std::sync::ledger::{Blank, Ledger};
 use teal_value::Failure;
 
 /// A worker after its event.
@@ -109,7 +111,7 @@ fn begin<O: Op>(tools: &Tools<O>, store: &mut Store, number: u32) -> Result<Work
         Ok(ticket) => match store.call(number) {
             Some(call) => {
                 let run = CallRun::start(tools.alloc, call, store.header(), None)?;
-                advance(tools, ticket, run)
+                advance::<Brand, O>(tools, ticket, run, Blank::new(2))
             }
             None => unreachable!(),
         },
@@ -135,7 +137,7 @@ fn read<O: Op>(
     let mut run = run;
     match store.read(&ticket, asks.copied()) {
         Ok(value) => match run.supply(asks, value) {
-            Ok(()) => advance(tools, ticket, run),
+            Ok(()) => advance::<Brand, O>(tools, ticket, run, Blank::new(2)),
             Err(RunFault::Memory) => Err(AllocError),
             Err(RunFault::NotAsked) => unreachable!(),
             Err(RunFault::Spent) => unreachable!(),
@@ -146,12 +148,18 @@ fn read<O: Op>(
 }
 
 /// Runs on to the next item that a run asks for, or to the end of its call.
-fn advance<O: Op>(tools: &Tools<O>, ticket: Ticket, run: CallRun) -> Result<Worker, AllocError>
+fn advance<L: Ledger, O: Op>(
+    tools: &Tools<O>,
+    ticket: Ticket,
+    run: CallRun,
+    blank: Blank,
+) -> Result<Worker, AllocError>
+    requires blank { (blank.name ≡ L.name) × (blank.parts ≡ L.parts) × (blank.parts ≡ 2) }
     requires runs { IsGoing run }
     ensures { IfOk result (λ after. IsAdvanced ticket run after) }
 {
     let mut run = run;
-    match run.advance(tools.alloc, tools.ops) {
+    match run.advance(tools.alloc, tools.ops, &mut Executions::<L>::new(blank)) {
         Ok(Advance::Need(asks)) => Ok(Worker::Running { ticket, run, asks }),
         Ok(Advance::Done(finished)) => {
             // What a call that has ended keeps.

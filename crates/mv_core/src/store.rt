@@ -18,7 +18,7 @@ ghost use Rattle.mv_core.specs.declared.faults.ReadFault.TheVariants.{Unknown};
 ghost use Rattle.mv_core.specs.declared.faults.StateFault.TheVariants.{Pruned};
 ghost use Rattle.mv_core.specs.AttemptSlots.{HasLiveNumber};
 ghost use Rattle.std.specs.Arc.{arc_value};
-ghost use Rattle.mv_parts.specs.Opening.{IsOpenRefusal, open_fault};
+ghost use Rattle.avm_block.specs.CallsFaults.{IsCallsRefusal, calls_fault};
 ghost use Rattle.mv_core.specs.Calls.{as_journal, first_store};
 ghost use Rattle.mv_core.specs.Commits.{IsCommitRefusal, IsCommitted, MayCommit};
 ghost use Rattle.mv_core.specs.Stores.{IsFirstRead, IsPrune, IsReadAgain};
@@ -30,13 +30,12 @@ use crate::faults::{
 use crate::opening::empty_slots;
 use crate::reading::read_at;
 use crate::ticket::{Ticket, index_of};
+use avm_block::CallsError;
 use avm_call::Call;
 use avm_items::{Item, ItemValue};
 use avm_ledger::{Header, Ledger};
 use avm_run::Finished;
-use mv_parts::{
-    BeginError, Entry, Journal, OpenError, every_consistent_world_of_calls_is_serial, open_parts,
-};
+use mv_parts::{BeginError, Entry, Journal, every_consistent_world_of_calls_is_serial, open_parts};
 use mv_shards::{Attempt, Held};
 use std::alloc::Global;
 use std::marker::Model;
@@ -69,11 +68,11 @@ impl Store {
         base: Ledger,
         header: Header,
         calls: Arc<Vec<Call>>,
-    ) -> Result<Store, OpenError>
+    ) -> Result<Store, CallsError>
         ensures opened { IfOk result
             (λ store. store ≡ first_store base header (arc_value calls).items) }
-        ensures opens { OnOk result (open_fault header (arc_value calls).items ≡ None) }
-        ensures refused { IfErr result (IsOpenRefusal header (arc_value calls).items) }
+        ensures opens { OnOk result (calls_fault header (arc_value calls).items ≡ None) }
+        ensures refused { IfErr result (IsCallsRefusal header (arc_value calls).items) }
     {
         let count = calls.len();
         base.holds();

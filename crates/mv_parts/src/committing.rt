@@ -4,7 +4,7 @@ ghost use Rattle.std.specs.Prelude.{◌≡◌, ◌-◌, ◌<◌, OnErr, OnOk, ve
 ghost use Rattle.mv_history.specs.History.{IsRising, entries_with};
 ghost use Rattle.mv_parts.specs.CallLaws.{entry_of as entry_at};
 ghost use Rattle.mv_shards.specs.Writing.{AreWritten, CanTake};
-ghost use Rattle.mv_parts.specs.Commits.{entries_not_above};
+ghost use Rattle.mv_history.specs.Settled.{entries_not_above};
 
 use crate::entry::Entry;
 use avm_run::Finished;

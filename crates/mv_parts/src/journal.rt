@@ -3,14 +3,15 @@
 ghost use Rattle.std.specs.Prelude.{◌≡◌, ◌+◌, ◌↔◌, ◌<◌, ◌≤◌, length, IfOk, IfErr, IfNone, IfSome, IsOk, IsTrue, OnErr, OnOk, None};
 ghost use Rattle.std.specs.Option.{option_copied};
 ghost use Rattle.avm_ledger.specs.Ledgers.{IsOrderly};
+ghost use Rattle.mv_history.specs.Settled.{settled_count};
 ghost use Rattle.mv_history.specs.World.{after_abandon, after_begin, fresh_attempt, low_after_prune};
 ghost use Rattle.mv_parts.specs.CallNumbers.{call_of};
 ghost use Rattle.mv_parts.specs.SerialCalls.{AreOfCalls, AreSerialCalls};
 ghost use Rattle.mv_shards.specs.Helds.{ArePruned};
 ghost use Rattle.teal_value.specs.declared.failure.Failure.TheVariants.{Memory};
-ghost use Rattle.mv_parts.specs.Commits.{entries_not_above, AreCovered, IsCommitRefusal, IsCommitted, IsTestRefusal, IsWriteRefusal, MayCommit, MayWrite};
+ghost use Rattle.mv_parts.specs.Commits.{AreCovered, IsCommitRefusal, IsCommitted, IsTestRefusal, IsWriteRefusal, MayCommit, MayWrite};
 ghost use Rattle.mv_parts.specs.Journals.{AreLiveCalls, IsBeginRefusal, IsIndexedStore, IsLive, begin_fault};
-ghost use Rattle.mv_parts.specs.Opening.{open_fault};
+ghost use Rattle.avm_block.specs.CallsFaults.{calls_fault};
 
 use crate::base::SharedBase;
 use crate::begin_fault::{BeginError, BeginFault};
@@ -171,11 +172,10 @@ impl Journal {
         }
     }
 
-    /// How many of the entries, from the first, stay as they are: those not above the low mark that a prune would make now. What
-    /// commits after stands above them.
+    /// How many of the entries, from the first, are settled: those not above the low mark that a prune would make now. They stay
+    /// as they are, whatever comes after ([`every_call_keeps_settled_entries`](crate::every_call_keeps_settled_entries)).
     pub fn settled(&self) -> usize
-        ensures count { result ≡ entries_not_above
-            (low_after_prune self.now.world self.now.world.clock) self.now.world.entries }
+        ensures count { result ≡ settled_count self.now.world }
         ensures few { result ≤ length self.now.world.entries }
     {
         self.holds();
@@ -359,7 +359,7 @@ impl Journal {
         ensures serial { AreSerialCalls self.now.base
             self.now.header self.now.calls self.now.world }
         ensures orderly { IsOrderly self.now.base }
-        ensures opened { open_fault self.now.header self.now.calls ≡ None }
+        ensures opened { calls_fault self.now.header self.now.calls ≡ None }
         ensures store { IsIndexedStore self.now }
         ensures are_calls { AreOfCalls self.now.calls self.now.world.entries }
         ensures live_calls { AreLiveCalls self.now.calls self.now.world.live }

@@ -18,7 +18,6 @@ mod entry;
 mod journal;
 mod laws;
 mod live;
-mod open_fault;
 mod opening;
 mod past;
 mod same_ledger;
@@ -31,8 +30,10 @@ pub use begin_fault::{BeginError, BeginFault};
 pub use commit_fault::{CommitError, CommitFault, RefusedCommit};
 pub use entry::Entry;
 pub use journal::Journal;
-pub use laws::{every_call_keeps_agreement, every_read_above_the_low_mark_is_marked};
-pub use open_fault::{OpenError, OpenFault};
+pub use laws::{
+    every_call_keeps_agreement, every_call_keeps_settled_entries,
+    every_read_above_the_low_mark_is_marked,
+};
 pub use opening::{open_on, open_parts};
 pub use seal_fault::{RefusedSeal, SealError, SealFault};
 pub use sealing::Sealed;

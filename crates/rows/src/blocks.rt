@@ -8,6 +8,8 @@
 //! - `steps WORDS` makes a run of a call, instruction by instruction, over the ledger: how many there are, where the program
 //!   then stands, and how the call ends.
 
+ghost use Rattle.std.specs.Prelude.{◌≡◌};
+
 use crate::ledgers::{Bench, Words, digits_of, profile_of};
 use avm_block::{Block, Entry, encode};
 use avm_call::{Call, Outcome};
@@ -16,11 +18,14 @@ use avm_items::item_of;
 use avm_ledger::{Header, Ledger};
 use avm_ops::Op;
 use avm_replay::plain_block;
-use avm_run::{Advance, CallRun, FullOps, Step};
+use avm_run::{Advance, CallRun, Executions, FullOps, Step};
 use sample_calls::calls::call;
 use sample_calls::words::{number, word};
 use std::alloc::Global;
+use std::marker::Brand;
 use std::mem;
+use std::sync::ledger;
+use std::sync::ledger::Blank;
 use std::test::Fail;
 use teal_value::Failure;
 
@@ -184,7 +189,7 @@ fn steps<O: Op>(
     let mut moved = 0u64;
     for _turn in 0..10_000u64 {
         let place = place_text(alloc, &run)?;
-        match turned(alloc, ops, &bench.ledger, &mut run)? {
+        match turned::<Brand, O>(alloc, ops, &bench.ledger, &mut run, Blank::new(2))? {
             Turn::Moved => moved = moved.saturating_add(1),
             Turn::Supplied => {}
             Turn::Ended(outcome) => {
@@ -209,13 +214,17 @@ fn place_text(alloc: Global, run: &CallRun) -> Result<String, Fail> {
     }
 }
 
-fn turned<O: Op>(
+fn turned<L: ledger::Ledger, O: Op>(
     alloc: Global,
     ops: &FullOps<O>,
     ledger: &Ledger,
     run: &mut CallRun,
-) -> Result<Turn, Fail> {
-    match run.step_one(alloc, ops) {
+    blank: Blank,
+) -> Result<Turn, Fail>
+    requires blank { (blank.name ≡ L.name) × (blank.parts ≡ L.parts) × (blank.parts ≡ 2) }
+{
+    let mut executions = Executions::<L>::new(blank);
+    match run.step_one(alloc, ops, &mut executions) {
         Ok(Step::Moved) => Ok(Turn::Moved),
         Ok(Step::Need(item)) => {
             let value = item_of(ledger, &item)?;
@@ -224,15 +233,20 @@ fn turned<O: Op>(
                 Err(_) => Err("an item that is asked for is taken".into()),
             }
         }
-        Ok(Step::Ended(_ended)) => ended(alloc, ops, run),
+        Ok(Step::Ended(_ended)) => ended(alloc, ops, run, &mut executions),
         Ok(Step::Done(finished)) => Ok(Turn::Ended(finished.outcome())),
         Err(_) => Err("a run steps".into()),
     }
 }
 
 /// The outcome of a call whose program has ended.
-fn ended<O: Op>(alloc: Global, ops: &FullOps<O>, run: &mut CallRun) -> Result<Turn, Fail> {
-    match run.advance(alloc, ops) {
+fn ended<L: ledger::Ledger, O: Op>(
+    alloc: Global,
+    ops: &FullOps<O>,
+    run: &mut CallRun,
+    executions: &mut Executions<L>,
+) -> Result<Turn, Fail> {
+    match run.advance(alloc, ops, executions) {
         Ok(Advance::Done(finished)) => Ok(Turn::Ended(finished.outcome())),
         _ => Err("a call whose program has ended is over".into()),
     }

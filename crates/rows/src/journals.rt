@@ -13,12 +13,14 @@ use avm_call::Call;
 use avm_items::{Item, ItemMap, ItemValue};
 use avm_ledger::Header;
 use avm_ops::Op;
-use avm_run::{Advance, CallRun, Finished, FullOps};
+use avm_run::{Advance, CallRun, Executions, Finished, FullOps};
 use mv_parts::{CommitFault, Journal, RefusedCommit, Sealed, open_parts};
 use mv_shards::{Attempt, Held, Shard};
 use sample_calls::calls::HEADER;
 use sample_calls::words::{call_number, item, number, word};
 use std::alloc::{AllocError, Global};
+use std::marker::Brand;
+use std::sync::ledger::{Blank, Ledger};
 use std::test::Fail;
 use teal_value::Failure;
 
@@ -452,7 +454,10 @@ fn run<O: Op>(
         return Ok(Said::Word("no such attempt"));
     };
     let end = match parts.journal.call(attempt.number()) {
-        Some(call) => finished(alloc, ops, call, &mut parts.held, attempt)?,
+        Some(call) => {
+            let held = &mut parts.held;
+            finished::<Brand, O>(alloc, ops, call, held, attempt, Blank::new(2))?
+        }
         None => None,
     };
     match end {
@@ -465,16 +470,20 @@ fn run<O: Op>(
     }
 }
 
-fn finished<O: Op>(
+fn finished<L: Ledger, O: Op>(
     alloc: Global,
     ops: &FullOps<O>,
     call: &Call,
     held: &mut Held,
     attempt: &mut Attempt,
-) -> Result<Option<Finished>, AllocError> {
+    blank: Blank,
+) -> Result<Option<Finished>, AllocError>
+    requires blank { (blank.name ≡ L.name) × (blank.parts ≡ L.parts) × (blank.parts ≡ 2) }
+{
+    let mut executions = Executions::<L>::new(blank);
     let mut run = CallRun::start(alloc, call, &HEADER, None)?;
     for _item in 0..16 {
-        match run.advance(alloc, ops) {
+        match run.advance(alloc, ops, &mut executions) {
             Ok(Advance::Done(finished)) => return Ok(Some(finished)),
             Ok(Advance::Need(item)) => match found(alloc, held, attempt, &item)? {
                 Some(value) => {

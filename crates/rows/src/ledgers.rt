@@ -11,17 +11,22 @@
 //!
 //! `sample_calls` has the words of calls and the pieces of bytes.
 
+ghost use Rattle.std.specs.Prelude.{◌≡◌};
+
 use avm_block::{BlockFault, decode, encode};
 use avm_call::Call;
 use avm_call_codec::{CallCodec, CallDataFault};
 use avm_items::CallData;
 use avm_ledger::{Header, Ledger, LedgerFault, Profile};
 use avm_ops::Op;
-use avm_run::{FullOps, RunContext, call_on};
+use avm_run::{Executions, FullOps, RunContext, call_on};
 use sample_calls::calls::{HEADER, call_or_fault};
 use sample_calls::programs::Programs;
 use sample_calls::words::{joined, number, word};
 use std::alloc::Global;
+use std::marker::Brand;
+use std::sync::ledger;
+use std::sync::ledger::Blank;
 use std::test::Fail;
 use teal_value::Failure;
 
@@ -178,22 +183,27 @@ fn called<O: Op>(
     match call_or_fault(alloc, &bench.programs, words)? {
         Ok(call) => {
             let header = bench.header(profile.unwrap_or(call.needs()));
-            outcome_text(alloc, ops, &mut bench.ledger, &header, &call)
+            let ledger = &mut bench.ledger;
+            outcome_text::<Brand, O>(alloc, ops, ledger, &header, &call, Blank::new(2))
         }
         Err(fault) => Ok(format!(in alloc; "{fault:?}")?),
     }
 }
 
 /// How a call ends, which is made on a ledger under a header.
-fn outcome_text<O: Op>(
+fn outcome_text<L: ledger::Ledger, O: Op>(
     alloc: Global,
     ops: &FullOps<O>,
     ledger: &mut Ledger,
     header: &Header,
     call: &Call,
-) -> Result<String, Fail> {
+    blank: Blank,
+) -> Result<String, Fail>
+    requires blank { (blank.name ≡ L.name) × (blank.parts ≡ L.parts) × (blank.parts ≡ 2) }
+{
     let context = RunContext { alloc, ops, header };
-    let outcome = call_on(&context, ledger, call, &mut None)?;
+    let mut executions = Executions::<L>::new(blank);
+    let outcome = call_on(&context, ledger, call, &mut None, &mut executions)?;
     Ok(format!(in alloc; "{outcome:?} {:?}", header.profile)?)
 }
 

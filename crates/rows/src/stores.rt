@@ -2,7 +2,7 @@
 
 ghost use Rattle.std.specs.Prelude.{◌≡◌, IfOk, None};
 ghost use Rattle.std.specs.Arc.{arc_value};
-ghost use Rattle.mv_parts.specs.Opening.{open_fault};
+ghost use Rattle.avm_block.specs.CallsFaults.{calls_fault};
 
 use crate::item_texts::{digits_of, entries_text, item_text, late_text, value_text};
 use crate::script::Step;
@@ -13,12 +13,14 @@ use avm_debug::{Debugger, PastError, Source, state_of};
 use avm_items::Item;
 use avm_ledger::{Header, Ledger};
 use avm_ops::Op;
-use avm_run::{Advance, CallRun, Finished, FullOps, RunContext, call_plain};
+use avm_run::{Advance, CallRun, Executions, Finished, FullOps, RunContext, call_plain};
 use mv_core::{CommitFault, Event, ReadFault, Store, Ticket, Tools, Worker, World, run_events};
 use mv_parts::{BeginFault, Sealed};
 use sample_calls::calls::HEADER;
 use std::alloc::{AllocError, Global};
-use std::sync::Arc;
+use std::marker::Brand;
+use std::sync::ledger::Blank;
+use std::sync::{Arc, ledger};
 use std::test::Fail;
 use teal_value::{Address, Failure, StateKey};
 
@@ -208,7 +210,7 @@ impl Stores {
     ) -> Result<Said, AllocError> {
         match event {
             StoreEvent::Open(stored) => self.open(alloc, stored),
-            StoreEvent::Plain(stored) => plain(alloc, ops, stored),
+            StoreEvent::Plain(stored) => plain::<Brand, O>(alloc, ops, stored, Blank::new(2)),
             StoreEvent::Events(stored, events) => self.run_events(alloc, ops, stored, events),
             StoreEvent::Run(ticket, name) => self.run(alloc, ops, ticket, name.as_str()),
             StoreEvent::Commit(ticket, name) => self.commit(alloc, ticket, name.as_str()),
@@ -308,7 +310,7 @@ impl Stores {
         let Some(store) = &mut self.store else {
             return Ok(Said::Word("no store"));
         };
-        match finished(alloc, ops, store, ticket)? {
+        match finished::<Brand, O>(alloc, ops, store, ticket, Blank::new(2))? {
             Some(finished) => {
                 let said = Said::Ends(finished.outcome(), finished.reads().len());
                 self.keep(String::from_str(alloc, name)?, finished)?;
@@ -381,7 +383,15 @@ pub fn other_ledger(alloc: Global) -> Ledger {
     other.close()
 }
 
-fn plain<O: Op>(alloc: Global, ops: &FullOps<O>, stored: &Stored) -> Result<Said, AllocError> {
+fn plain<L: ledger::Ledger, O: Op>(
+    alloc: Global,
+    ops: &FullOps<O>,
+    stored: &Stored,
+    blank: Blank,
+) -> Result<Said, AllocError>
+    requires blank { (blank.name ≡ L.name) × (blank.parts ≡ L.parts) × (blank.parts ≡ 2) }
+{
+    let mut executions = Executions::<L>::new(blank);
     match stored.calls.first() {
         Some(call) => {
             let context = RunContext {
@@ -389,7 +399,7 @@ fn plain<O: Op>(alloc: Global, ops: &FullOps<O>, stored: &Stored) -> Result<Said
                 ops,
                 header: &HEADER,
             };
-            let (outcome, after) = call_plain(&context, &stored.base, call)?;
+            let (outcome, after) = call_plain(&context, &stored.base, call, &mut executions)?;
             let digits = digits_of(alloc, &after)?;
             Ok(Said::Text(format!(in alloc; "{outcome:?} {digits}")?))
         }
@@ -410,7 +420,7 @@ fn world_after<O: Op>(
 
 /// The calls, where a store opens for them, which says that they are few, each of the header's profile.
 fn store_calls(alloc: Global, header: Header, stored: &Stored) -> Result<Arc<Vec<Call>>, AllocError>
-    ensures { IfOk result (λ calls. open_fault header (arc_value calls).items ≡ None) }
+    ensures { IfOk result (λ calls. calls_fault header (arc_value calls).items ≡ None) }
 {
     let own = Arc::try_clone(&stored.calls)?;
     match Store::open(alloc, stored.base.clone()?, header, own) {
@@ -444,18 +454,22 @@ fn worker_text(alloc: Global, worker: &Worker) -> Result<String, AllocError> {
 }
 
 /// Runs a call to its end, over what its live attempt reads; none where it is not live.
-fn finished<O: Op>(
+fn finished<L: ledger::Ledger, O: Op>(
     alloc: Global,
     ops: &FullOps<O>,
     store: &mut Store,
     ticket: &Ticket,
-) -> Result<Option<Finished>, AllocError> {
+    blank: Blank,
+) -> Result<Option<Finished>, AllocError>
+    requires blank { (blank.name ≡ L.name) × (blank.parts ≡ L.parts) × (blank.parts ≡ 2) }
+{
+    let mut executions = Executions::<L>::new(blank);
     let mut run = match store.call(ticket.number) {
         Some(call) => CallRun::start(alloc, call, &HEADER, None)?,
         None => return Ok(None),
     };
     for _item in 0..16 {
-        match run.advance(alloc, ops) {
+        match run.advance(alloc, ops, &mut executions) {
             Ok(Advance::Done(finished)) => return Ok(Some(finished)),
             Ok(Advance::Need(item)) => {
                 if !is_supplied(store, ticket, &mut run, item)? {

@@ -9,3 +9,6 @@ invariant-loop-item g l = record { starts : StartsOver l.ledger l.initial.run l.
 
 abbrev pub decreases-loop-item : goal.decreases-loop-item
 decreases-loop-item g l = most_items - length (reads_in l.run)
+
+abbrev pub ghosts-try_start : goal.ghosts-try_start
+ghosts-try_start g a = record { name = a.blank.name; parts = a.blank.parts }

@@ -8,3 +8,6 @@ invariant-loop-fault g l = record { goes_on : GoesOnOver l.ledger l.initial.run 
 
 abbrev pub decreases-loop-fault : goal.decreases-loop-fault
 decreases-loop-fault g l = most_items - length (reads_in l.run)
+
+abbrev pub ghosts-try_step : goal.ghosts-try_step
+ghosts-try_step g a = record { name = a.blank.name; parts = a.blank.parts }

@@ -3,7 +3,7 @@ use Rattle.avm_ledger.specs.Ledgers.{IsOrderly}
 use Rattle.avm_items.specs.LedgerItems.{put}
 use Rattle.avm_call.specs.Replay.{ledger_after}
 use Rattle.avm_run.proofs.Executing.{if_err, refused_ended}
-use Rattle.avm_run.proofs.on_ledger.call_on_counted.Goals as goal
+use Rattle.avm_run.proofs.on_ledger.call_on.Goals as goal
 
 pub put_items-requires : goal.put_items-requires
 put_items-requires g c =
@@ -21,4 +21,5 @@ returns-clause-after g c =
 
 pub returns-in_err-room-clause-few : goal.returns-in_err-room-clause-few
 returns-in_err-room-clause-few g c =
-    if_err _ _ (refused_ended c.args.ledger.now c.args.call.now c.args.context.now.header.now _ _ _ c.in_ok-closed.ensures.executes)
+    let e = c.in_ok-closed.ensures.executes in
+    if_err _ _ (refused_ended c.args.call.now c.args.context.now.header.now e.reads _ _ _ e.executes)

@@ -6,7 +6,7 @@ use Rattle.avm_run.specs.RunState.{Progress}
 use Rattle.avm_run.specs.KeptRuns.{IsKeptRun, IsSoundState, progress, progress_of}
 use Rattle.avm_run.proofs.LiveRuns.{asks_kept, asked_by_end, ends_over_reads}
 use Rattle.avm_run.proofs.Answering.{asks_for}
-use Rattle.avm_run.proofs.call_run.CallRun.advance_counted.Goals as goal
+use Rattle.avm_run.proofs.call_run.CallRun.advance.Goals as goal
 
 pub run_on-requires-clause-follows : goal.run_on-requires-clause-follows
 run_on-requires-clause-follows g c κs within =

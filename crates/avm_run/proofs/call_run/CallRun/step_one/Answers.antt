@@ -6,7 +6,7 @@ use Rattle.avm_run.specs.RunState.{Progress}
 use Rattle.avm_run.specs.KeptRuns.{IsKeptRun, IsSoundState, progress, progress_of}
 use Rattle.avm_run.proofs.LiveRuns.{asks_kept, asked_by_end, ends_kept, ends_over_reads, goes_kept}
 use Rattle.avm_run.proofs.Answering.{asks_for, ends_there, makes_step}
-use Rattle.avm_run.proofs.call_run.CallRun.step_one_counted.Goals as goal
+use Rattle.avm_run.proofs.call_run.CallRun.step_one.Goals as goal
 
 pub step_on-requires-clause-follows : goal.step_on-requires-clause-follows
 step_on-requires-clause-follows g c κs within =
