@@ -9,7 +9,7 @@
 No program runs here. How each call ends, and the ledger after, are worked out by hand in
 expected.json; the bytes of a program, with their places, stand in the .code file beside the
 source. Of documents it reads what the examples have: an application with its state, sources
-and transactions. All is put together by the formats of docs/MACHINE.md ("Bytes", "Blocks").
+and transactions. All is put together as docs/FORMATS.md says, field by field.
 """
 import base64
 import hashlib

@@ -5,11 +5,17 @@
    that it is given, unless memory is refused. What is said below of statuses, of answers and of what is written is proved, by
    the contracts of crates/avm_c/src/lib.rt, which cite the definitions of the commands of the program `avm`.
 
+   docs/FORMATS.md has the bytes of ledgers and of blocks, field by field.
+
    What a caller owes
-   - Bytes are a pointer and then their number. No pointer is null, also of no bytes and of no room.
+   - Bytes are a pointer and then their number. No pointer is null, also of no bytes and of no room. An empty std::vector or Go
+     slice may have a null pointer, so where a length may be 0, write
+         avm_c_check(length ? bytes : (const uint8_t *)"", length)
+     and for no room the address of any byte of your own.
    - What a call writes to overlaps nothing else that it is given, and nobody else reads or writes it during the call. What a
      call only reads may be shared, also by calls in other threads at once.
-   - A thread that makes a call has 524,288 bytes of stack left for it (measured, not proved).
+   - A thread that makes a call has 524,288 bytes of stack left for it (measured, not proved). Threads of musl have 128 KiB where
+     pthread_attr_setstacksize does not say otherwise; give it 1 MiB, say.
    - malloc, realloc and free are of one allocator. No call is made in a signal handler, nor in the forked child of a process
      that has threads.
 
@@ -53,8 +59,8 @@ enum avm_status {
 
 /* How a call ends. */
 enum avm_ending {
-    AVM_APPROVED = 0,
-    AVM_REJECTED = 1,
+    AVM_APPROVED = 0,        /* The program approved. */
+    AVM_REJECTED = 1,        /* The program rejected. */
     AVM_FAULTED = 2,         /* `number` is the fault's, `place` the place of its instruction. */
     AVM_CALL_REFUSED = 3,    /* No program ran; `number` is the reason's. */
     AVM_CLEARED_GONE = 4,    /* The sender's local state was cleared: the application is gone, */
@@ -62,13 +68,78 @@ enum avm_ending {
     AVM_CLEARED_FAULTED = 6  /* or faulted, as `number` and `place` say. */
 };
 
-/* The first entry of a block whose call ends otherwise than the entry says, and how it ends. Numbers of faults and of reasons are
-   those of the bytes of outcomes: teal_value/src/fault.rt and `Why` in avm_call/src/outcome.rt list them. Fields of which an ending
-   says nothing are 0. */
+/* What stops a program: the numbers that stand in `struct avm_difference` and in the bytes of outcomes. */
+enum avm_fault {
+    AVM_FAULT_ERR = 1,           /* `err` was executed. */
+    AVM_FAULT_UNDERFLOW = 2,     /* The stack has fewer values than the instruction takes. */
+    AVM_FAULT_WRONG_TYPE = 3,    /* An operand is of another type than the instruction takes. */
+    AVM_FAULT_COMPARE = 4,       /* Two values of different types were compared. */
+    AVM_FAULT_OVERFLOW = 5,      /* A result is above 2^64 - 1. */
+    AVM_FAULT_NEGATIVE = 6,      /* A difference is below 0. */
+    AVM_FAULT_DIV_ZERO = 7,      /* A divisor is 0. */
+    AVM_FAULT_TOO_LONG = 8,      /* A byte string is longer than is allowed where it goes. */
+    AVM_FAULT_RANGE = 9,         /* An index or a range lies outside its operand. */
+    AVM_FAULT_BTOI_LENGTH = 10,  /* `btoi` was given more than 8 bytes. */
+    AVM_FAULT_STACK_FULL = 11,   /* More than 1000 values would stand on the stack. */
+    AVM_FAULT_NO_CONSTANT = 12,  /* The constant block in force has no such constant. */
+    AVM_FAULT_BAD_FIELD = 13,    /* The field has no value in this profile. */
+    AVM_FAULT_NO_TXN = 14,       /* The group has no such transaction. */
+    AVM_FAULT_NO_ARG = 15,       /* The call has no such argument. */
+    AVM_FAULT_NO_ACCOUNT = 16,   /* The call has no such account. */
+    AVM_FAULT_NO_FOREIGN = 17,   /* The call has no such foreign application. */
+    AVM_FAULT_NOT_OPTED_IN = 18, /* The account has no local state of the application. */
+    AVM_FAULT_NO_SUCH_APP = 19,  /* The application doesn't exist. */
+    AVM_FAULT_SCHEMA = 20,       /* The state would have more entries than its schema allows. */
+    AVM_FAULT_KEY_LENGTH = 21,   /* A key is longer than 64 bytes. */
+    AVM_FAULT_FINAL_DEPTH = 22,  /* The program ended with other than one value on the stack. */
+    AVM_FAULT_FINAL_BYTES = 23,  /* The program ended with a byte string on the stack. */
+    AVM_FAULT_ASSERT = 24        /* `assert` was given 0. */
+};
+
+/* Why a call is refused before its program runs, likewise. */
+enum avm_why {
+    AVM_WHY_NO_APP = 1,     /* The application is gone. */
+    AVM_WHY_ALREADY_IN = 2, /* The sender is opted in already. */
+    AVM_WHY_NOT_IN = 3,     /* The sender isn't opted in. */
+    AVM_WHY_IDS_END = 4     /* No id is left for a creation. */
+};
+
+/* Which rule of programs bytes break, and what is wrong with source text. No function of this version gives these numbers;
+   avm_c_answer prints the names, with the words `check` and `asm`. For AVM_RULE_CODE it prints the name of the fault of reading. */
+enum avm_rule {
+    AVM_RULE_VERSION = 1,        /* The version is neither 2 nor 3. */
+    AVM_RULE_LENGTH = 2,         /* There are no bytes, or more than 1024. */
+    AVM_RULE_CODE = 3,           /* No instruction is read at the place, or no version at place 0. */
+    AVM_RULE_OUT_OF_PROFILE = 4, /* The opcode is one of the public table that this machine leaves out. */
+    AVM_RULE_BACKWARD = 5,       /* A branch's offset is above 32767, in the public encoding a backward branch. */
+    AVM_RULE_NOT_ALIGNED = 6,    /* A branch's target is neither an instruction's place nor the end. */
+    AVM_RULE_PAST_END = 7,       /* A branch's target lies behind the end. */
+    AVM_RULE_COST = 8,           /* The costs of the instructions add up to more than 700. */
+    AVM_RULE_UNKNOWN_FIELD = 9   /* The opcode has no such field. */
+};
+
+enum avm_asm_fault {
+    AVM_ASM_TEXT = 1,                /* A string or its escapes. */
+    AVM_ASM_NO_PRAGMA = 2,           /* The first line with a token doesn't begin with `#pragma`. */
+    AVM_ASM_VERSION = 3,             /* The pragma names another version than 2 and 3, or stands in a later line. */
+    AVM_ASM_UNKNOWN_NAME = 4,        /* No instruction or field of the version has the name. */
+    AVM_ASM_OPERANDS = 5,            /* The instruction takes another number of operands, or another kind of field. */
+    AVM_ASM_BAD_NUMBER = 6,          /* An operand is no number, or is too large for its place. */
+    AVM_ASM_BAD_BYTES = 7,           /* An operand is no byte literal, or no address. */
+    AVM_ASM_LABEL_TWICE = 8,         /* An earlier line has the same label. */
+    AVM_ASM_LABEL_MISSING = 9,       /* No line has the label that a branch names. */
+    AVM_ASM_LABEL_BEHIND = 10,       /* A branch names a label that stands at or before it. */
+    AVM_ASM_TOO_MANY_CONSTANTS = 11, /* The constants that are gathered are more than 256 of a kind. */
+    AVM_ASM_MIXED_BLOCK = 12,        /* A constant is gathered beside an explicit block of its kind. */
+    AVM_ASM_TOO_LONG = 13            /* The program has more than 1024 bytes. */
+};
+
+/* The first entry of a block whose call ends otherwise than the entry says, and how it ends. Fields of which an ending says nothing
+   are 0. */
 struct avm_difference {
     uint64_t entry;  /* the entry's number, counted from 1 */
     uint32_t ending; /* one of enum avm_ending */
-    uint32_t number;
+    uint32_t number; /* of enum avm_fault where a program faulted, of enum avm_why where the call was refused */
     uint32_t place;  /* in bytes from the program's beginning */
 };
 

@@ -1,31 +1,51 @@
 /* replay FILE..: the verdict on each block, which stands in its file behind the ledger before it, as two lines of hexadecimal
-   digits. The status is 0 where every block agrees, 1 where one does not, and 2 where a file cannot be read. */
+   digits of either case. The status is 0 where every block agrees, 1 where one does not or where a line is refused (another character,
+   an odd count of digits), and 2 where a file cannot be read. */
 #define _POSIX_C_SOURCE 200809L
 #include "avm.h"
 
+#include <stdbool.h>
 #include <stdio.h>
 #include <stdlib.h>
-#include <string.h>
+#include <sys/types.h>
 
 struct bytes {
     uint8_t *at;
     size_t length;
+    bool refused;
 };
+
+static int value_of(char digit) {
+    if (digit >= '0' && digit <= '9') return digit - '0';
+    if (digit >= 'a' && digit <= 'f') return digit - 'a' + 10;
+    if (digit >= 'A' && digit <= 'F') return digit - 'A' + 10;
+    return -1;
+}
+
+/* How many characters a line has before its end. */
+static size_t without_end(const char *line, size_t count) {
+    if (count == 0 || line[count - 1] != '\n') return count;
+    return count > 1 && line[count - 2] == '\r' ? count - 2 : count - 1;
+}
+
+/* The bytes that digits spell. Of none the pointer is not null either: room for one byte more is asked for. */
+static struct bytes bytes_of(const char *digits, size_t count) {
+    struct bytes read = {malloc(count / 2 + 1), 0, count % 2 != 0};
+    for (; read.at && !read.refused && read.length < count / 2; read.length++) {
+        int high = value_of(digits[2 * read.length]), low = value_of(digits[2 * read.length + 1]);
+        read.refused = high < 0 || low < 0;
+        if (!read.refused) read.at[read.length] = (uint8_t)(high << 4 | low);
+    }
+    return read;
+}
 
 /* The bytes that the next line spells; the pointer is null where there is no such line. */
 static struct bytes next_line(FILE *file) {
-    struct bytes read = {NULL, 0};
+    struct bytes read = {NULL, 0, false};
     char *line = NULL;
     size_t room = 0;
-    if (getline(&line, &room, file) > 0) {
-        size_t count = strspn(line, "0123456789abcdefABCDEF") / 2;
-        /* One byte more than is wanted: the pointer is not null, also of no bytes. */
-        read.at = malloc(count + 1);
-        for (; read.at && read.length < count; read.length++) {
-            char digits[3] = {line[2 * read.length], line[2 * read.length + 1], 0};
-            read.at[read.length] = (uint8_t)strtoul(digits, NULL, 16);
-        }
-    }
+    ssize_t count = getline(&line, &room, file);
+    if (count > 0) read = bytes_of(line, without_end(line, (size_t)count));
     free(line);
     return read;
 }
@@ -40,6 +60,10 @@ static void print_ending(const struct avm_difference *found) {
 }
 
 static int print_verdict(struct bytes ledger, struct bytes block) {
+    if (ledger.refused || block.refused) {
+        printf("refused\n");
+        return 1;
+    }
     uint8_t digest[32];
     struct avm_difference found;
     uint32_t status = avm_c_replay(ledger.at, ledger.length, block.at, block.length, digest, &found);

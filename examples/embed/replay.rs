@@ -1,5 +1,6 @@
 //! replay FILE..: the verdict on each block, which stands in its file behind the ledger before it, as two lines of hexadecimal
-//! digits. The status is 0 where every block agrees, and else 1.
+//! digits of either case. The status is 0 where every block agrees, and else 1; a line with another character or with an odd count of
+//! digits is refused.
 
 use std::process::ExitCode;
 
@@ -73,19 +74,32 @@ fn words_of(difference: &Difference) -> String {
     format!("wrong outcome {} {ending}", difference.entry)
 }
 
-fn bytes_of(line: &str) -> Vec<u8> {
-    let digits = line.as_bytes().chunks_exact(2);
-    digits
-        .map(|pair| u8::from_str_radix(std::str::from_utf8(pair).unwrap(), 16).expect("hexadecimal digits"))
-        .collect()
+/// The bytes that a line spells. None has another character, or an odd count of digits.
+fn bytes_of(line: &[u8]) -> Option<Vec<u8>> {
+    let value = |digit: &u8| char::from(*digit).to_digit(16);
+    let pairs = line.chunks(2).map(|pair| match pair {
+        [high, low] => Some((value(high)? << 4 | value(low)?) as u8),
+        _ => None,
+    });
+    pairs.collect()
+}
+
+/// A file's lines, without their ends.
+fn lines_of(text: &[u8]) -> impl Iterator<Item = &[u8]> {
+    text.split_inclusive(|byte| *byte == b'\n')
+        .map(|line| line.strip_suffix(b"\r\n").or(line.strip_suffix(b"\n")).unwrap_or(line))
 }
 
 fn main() -> ExitCode {
     let mut agree = true;
     for name in std::env::args().skip(1) {
-        let text = std::fs::read_to_string(&name).expect("a file of two lines");
-        let mut lines = text.lines().map(bytes_of);
-        let (ledger, block) = (lines.next().expect("a ledger"), lines.next().expect("a block"));
+        let text = std::fs::read(&name).expect("a file of two lines");
+        let mut lines = lines_of(&text).map(bytes_of);
+        let (Some(ledger), Some(block)) = (lines.next().expect("a ledger"), lines.next().expect("a block")) else {
+            println!("refused");
+            agree = false;
+            continue;
+        };
         match replay(&ledger, &block) {
             Verdict::Agrees(digest) => {
                 let digits: String = digest.iter().map(|byte| format!("{byte:02x}")).collect();

@@ -11,17 +11,18 @@ import ast
 import collections
 import ctypes
 import hashlib
-import re
 import sys
 from pathlib import Path
 
 TOP = Path(__file__).resolve().parent.parent.parent
-sys.path[:0] = [str(TOP / "tests"), str(TOP / "examples/embed")]
+sys.path[:0] = [str(TOP / "tests"), str(TOP / "python")]
+import formats  # noqa: E402
 import stored  # noqa: E402
-from avm import ANSWERED, Avm, Status  # noqa: E402
+from avm import Answer, Avm, AvmError, Ledger, Status  # noqa: E402
 
 MARK = b"\xa5"
 MOST = 1 << 16
+ANSWERED = (Status.DONE, Status.REFUSED, Status.USAGE)
 # What a command answers, and the status of the function that does the same.
 STATUSES = {
     "refused input": Status.NO_TEXT,
@@ -43,7 +44,8 @@ STATUSES = {
 class Lending(Avm):
     """Calls with lent room, made with every kind of room."""
 
-    def _lent(self, function, *given):
+    def _lent(self, name, *given, guess=0):
+        function = self._functions[name]
         status, answer = self.with_room(function, given, MOST)
         if answer is not None:
             sizes = {0, max(len(answer) - 1, 0), len(answer), len(answer) + 1}
@@ -66,6 +68,23 @@ class Lending(Avm):
         if status not in ANSWERED and written.value != 0:
             raise AssertionError(f"{status!r} says that it wrote {written.value} bytes")
         return status, room.raw[:filled] if status in ANSWERED else None
+
+
+def asked(function, *given):
+    """The status of a function, and what it gives; where it raises, None."""
+    try:
+        return Status.DONE, function(*given)
+    except AvmError as error:
+        return error.status, None
+
+
+def reason(function, *given):
+    """The line of the command that an error of the function has."""
+    try:
+        function(*given)
+    except AvmError as error:
+        return error.reason
+    return None
 
 
 def names():
@@ -114,8 +133,9 @@ def of_program(avm, name, given, text):
     (program,) = parts_of(given, 1)
     status = status_of(text)
     if name == "check":
-        return avm.check(program), status
-    return avm.list(program), (status, text.encode() if status == Status.DONE else None)
+        refused = text.rstrip("\n") if status == Status.NO_PROGRAM else None
+        return (asked(avm.check, program), reason(avm.check, program)), ((status, None), refused)
+    return asked(avm.list, program), (status, text if status == Status.DONE else None)
 
 
 def options_in(words):
@@ -124,21 +144,36 @@ def options_in(words):
     return dict(zip(parts[::2], map(int, parts[1::2])))
 
 
+def verdict_of(avm, ledger, block):
+    """The status, the digest, the difference, and the line that `avm replay` prints: of an error its reason."""
+    try:
+        verdict = avm.replay(ledger, block)
+    except AvmError as error:
+        return error.status, None, None, error.reason
+    found = verdict.difference
+    if found:
+        numbers = found.entry, found.ending, found.number, found.place
+        return verdict.status, verdict.digest, numbers, f"wrong outcome {found.named}"
+    return verdict.status, verdict.digest, None, str(verdict)
+
+
+def wanted_verdict(status, text):
+    words = text.split()
+    digest = bytes.fromhex(words[1]) if status == Status.DONE else None
+    return status, digest, difference_in(words[2:]) if status == Status.WRONG_OUTCOME else None, text.rstrip("\n")
+
+
 def of_block(avm, words, given, text):
     ledger, block = parts_of(given, 2)
     options = options_in(words)
     status = status_of(text)
     if words[0] == "replay":
-        found = avm.replay(ledger, block)
-        difference = found[2] and (found[2].entry, found[2].ending, found[2].number, found[2].place)
-        digest = bytes.fromhex(text.split()[1]) if status == Status.DONE else None
-        wanted = difference_in(text.split()[2:]) if status == Status.WRONG_OUTCOME else None
-        return (found[0], found[1], difference), (status, digest, wanted)
+        return verdict_of(avm, ledger, block), wanted_verdict(status, text)
     if words[0] == "state":
-        answer = bytes.fromhex(text) if status == Status.DONE else None
-        return avm.state(ledger, block, options["--at"]), (status, answer)
-    answer = text.encode() if status == Status.DONE else None
-    return avm.view(ledger, block, options["--entry"], options["--steps"]), (status, answer)
+        found, after = asked(avm.state, ledger, block, options["--at"])
+        return (found, after and after.hex()), (status, text.rstrip("\n") if status == Status.DONE else None)
+    found, view = asked(avm.view, ledger, block, options["--entry"], options["--steps"])
+    return (found, view and view.text), (status, text if status == Status.DONE else None)
 
 
 def of_command(avm, words, given, answer):
@@ -146,7 +181,8 @@ def of_command(avm, words, given, answer):
     text = answer.decode()
     if words[0] == "asm":
         status = status_of(text)
-        return avm.assemble(given), (status, bytes.fromhex(text) if status == Status.DONE else None)
+        found, program = asked(avm.assemble, given)
+        return (found, program.hex() if program else reason(avm.assemble, given)), (status, text.rstrip("\n"))
     if words[0] in ("dis", "check"):
         return of_program(avm, words[0], given, text) if parts_of(given, 1) else None
     return of_block(avm, words, given, text) if parts_of(given, 2) else None
@@ -157,29 +193,29 @@ def ends(avm):
     wrong = []
     for path in sorted((TOP / "examples").glob("*/*.block")):
         ledger, block = map(bytes.fromhex, path.read_text().split())
-        status, after = avm.state(ledger, block, 2**64 - 1)
-        if status != Status.DONE or hashlib.sha256(after).digest() != block[-64:-32]:
+        after = asked(avm.state, ledger, block)[1]
+        if after is None or hashlib.sha256(bytes(after)).digest() != block[-64:-32]:
             wrong.append(f"{path.name}: the ledger after the block")
-        if avm.state(ledger, block, 0) != (Status.DONE, ledger):
+        if asked(avm.state, ledger, block, 0) != (Status.DONE, Ledger(ledger)):
             wrong.append(f"{path.name}: the ledger before the block")
     return wrong
 
 
-def numbers():
-    """The statuses of avm.py have the numbers of include/avm.h."""
-    header = (TOP / "include/avm.h").read_text().split("enum avm_status {")[1].split("};")[0]
-    named = {name: int(value) for name, value in re.findall(r"AVM_(\w+) = (\d+)", header)}
-    return [] if named == {status.name: status.value for status in Status} else ["avm.py has other statuses than avm.h"]
+def documented(avm):
+    """The ledger and the block of docs/FORMATS.md agree."""
+    shown = formats.examples(formats.PAGE.read_text())
+    found = verdict_of(avm, shown["ledger"][0], shown["block"][0])
+    return [] if found[0] == Status.DONE else [f"docs/FORMATS.md: {found[3]}"]
 
 
 def main(library):
     avm, counts = Lending(library), collections.Counter()
-    wrong = numbers() + ends(avm)
+    wrong = ends(avm) + documented(avm)
     for words, given, answer, status in stored.commands():
         waits = words[:1] == ["propose"] and status != Status.USAGE
-        wanted = (Status.PROPOSE, None) if waits else (Status(status), answer)
+        wanted = (Status.PROPOSE, None) if waits else (Status.DONE, Answer(Status(status), answer))
         counts["answer"] += 1
-        if avm.answer(words, given) != wanted:
+        if asked(avm.answer, words, given) != wanted:
             wrong.append(f"avm_c_answer: {words} {given[:60]}")
         pair = None if waits or status == Status.USAGE else of_command(avm, words, given, answer)
         if pair:

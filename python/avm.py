@@ -1,0 +1,609 @@
+"""The Algorand Virtual Machine in this process, over its shared library.
+
+    from avm import Avm, Block, Ledger, Program
+
+    avm = Avm()                                    # the library beside this module, or Avm("./libavm_c.so")
+    program = avm.assemble(open("counter.teal").read())
+    print(avm.list(program))
+    ledger, block = map(bytes.fromhex, open("counter.block").read().split())
+    verdict = avm.replay(ledger, block)
+    print(verdict)                                 # agrees 4fa5..
+    after = avm.state(ledger, block, timestamp=3)  # the ledger in the middle of the block
+
+`Avm` has the seven functions of include/avm.h, which says what each promises. Programs, ledgers and blocks are given as `bytes`
+or as `Program`, `Ledger` and `Block`; docs/FORMATS.md has their layouts. What a function refuses is raised: an `AvmError` of the
+class for its status, and `MemoryError` where memory was refused. Several threads may use one `Avm` at once, and run side by side;
+each has 512 KiB of stack left for it (`threading.stack_size`).
+
+As a program, `avm.py LIBRARY FILE..` prints the verdict on each block, which stands in its file behind the ledger before it, as two
+lines of hexadecimal digits.
+"""
+
+import ctypes
+import enum
+import os
+import re
+import sys
+from dataclasses import dataclass
+from pathlib import Path
+from typing import Any, Callable, Dict, List, Optional, Sequence, Tuple, Type, TypeVar, Union
+
+__all__ = [
+    "Answer", "AsmFault", "Avm", "AvmError", "Block", "Difference", "Ended", "Ending", "Fault", "Given", "Ledger", "NeedsThreads",
+    "NoBlock", "NoEntry", "NoLedger", "NoProgram", "NoRun", "NoText", "NotAssembled", "Program", "Rule", "Spelled", "Status",
+    "Verdict", "View", "Why", "WrongBase", "WrongOutcome", "WrongState",
+]  # fmt: skip
+
+
+def _words(name: str) -> str:
+    return name.lower().replace("_", " ")
+
+
+# ---- numbers: those of include/avm.h. The members of `Fault`, `Why`, `Rule` and `AsmFault` are named as commands print them.
+
+
+class Status(enum.IntEnum):
+    """What a function says (`enum avm_status`)."""
+
+    DONE = 0
+    REFUSED = 1
+    USAGE = 2
+    MEMORY = 3
+    NO_ROOM = 4
+    PROPOSE = 5
+    NO_TEXT = 6
+    NOT_ASSEMBLED = 7
+    NO_PROGRAM = 8
+    NO_LEDGER = 9
+    NO_BLOCK = 10
+    WRONG_BASE = 11
+    WRONG_OUTCOME = 12
+    WRONG_STATE = 13
+    NO_ENTRY = 14
+    NO_RUN = 15
+    ENDED = 16
+
+
+class Ending(enum.IntEnum):
+    """How a call ends (`enum avm_ending`)."""
+
+    APPROVED = 0
+    REJECTED = 1
+    FAULTED = 2
+    CALL_REFUSED = 3
+    CLEARED_GONE = 4
+    CLEARED_REJECTED = 5
+    CLEARED_FAULTED = 6
+
+    @property
+    def words(self) -> str:
+        """As commands print it."""
+        return _words(self.name.replace("CALL_", ""))
+
+
+class Fault(enum.IntEnum):
+    """What stops a program (`enum avm_fault`)."""
+
+    Err = 1
+    Underflow = 2
+    WrongType = 3
+    Compare = 4
+    Overflow = 5
+    Negative = 6
+    DivZero = 7
+    TooLong = 8
+    Range = 9
+    BtoiLength = 10
+    StackFull = 11
+    NoConstant = 12
+    BadField = 13
+    NoTxn = 14
+    NoArg = 15
+    NoAccount = 16
+    NoForeign = 17
+    NotOptedIn = 18
+    NoSuchApp = 19
+    Schema = 20
+    KeyLength = 21
+    FinalDepth = 22
+    FinalBytes = 23
+    Assert = 24
+
+
+class Why(enum.IntEnum):
+    """Why a call is refused before its program runs (`enum avm_why`)."""
+
+    NoApp = 1
+    AlreadyIn = 2
+    NotIn = 3
+    IdsEnd = 4
+
+
+class Rule(enum.IntEnum):
+    """Which rule of programs bytes break (`enum avm_rule`)."""
+
+    Version = 1
+    Length = 2
+    Code = 3
+    OutOfProfile = 4
+    Backward = 5
+    NotAligned = 6
+    PastEnd = 7
+    Cost = 8
+    UnknownField = 9
+
+
+class AsmFault(enum.IntEnum):
+    """What is wrong with source text (`enum avm_asm_fault`)."""
+
+    Text = 1
+    NoPragma = 2
+    Version = 3
+    UnknownName = 4
+    Operands = 5
+    BadNumber = 6
+    BadBytes = 7
+    LabelTwice = 8
+    LabelMissing = 9
+    LabelBehind = 10
+    TooManyConstants = 11
+    MixedBlock = 12
+    TooLong = 13
+
+
+# ---- what is given and answered
+
+_S = TypeVar("_S", bound="Spelled")
+
+
+@dataclass(frozen=True)
+class Spelled:
+    """Something by its bytes. Which bytes are one is for the machine to say: nothing is tested here."""
+
+    spelled: bytes
+
+    @classmethod
+    def from_hex(cls: Type[_S], digits: str) -> _S:
+        """From hexadecimal digits of either case. Another character or an odd count is a `ValueError`; `avm` refuses it too."""
+        if len(digits) % 2 or re.search("[^0-9a-fA-F]", digits):
+            raise ValueError("another character than hexadecimal digits, or an odd count of them")
+        return cls(bytes.fromhex(digits))
+
+    def hex(self) -> str:
+        """Its lower-case hexadecimal digits."""
+        return self.spelled.hex()
+
+    def __bytes__(self) -> bytes:
+        return self.spelled
+
+    def __len__(self) -> int:
+        return len(self.spelled)
+
+
+class Program(Spelled):
+    """An approval program or a clear state program."""
+
+
+class Ledger(Spelled):
+    """A ledger."""
+
+
+class Block(Spelled):
+    """A block."""
+
+
+#: What is taken for bytes.
+Given = Union[bytes, bytearray, memoryview, Spelled]
+
+
+@dataclass(frozen=True)
+class Difference:
+    """The first entry of a block whose call ends otherwise than the entry says, and how it ends.
+
+    `entry` is the entry's number, counted from 1. `number` is that of the fault or of the reason, and `place` that of the faulting
+    instruction, in bytes from the program's beginning; of an ending that has none they are 0.
+    """
+
+    entry: int
+    ending: Ending
+    number: int
+    place: int
+
+    @property
+    def fault(self) -> Optional[Fault]:
+        """What stopped the program, where one faulted."""
+        return Fault(self.number) if self._faulted else None
+
+    @property
+    def why(self) -> Optional[Why]:
+        """Why no program ran, where the call is refused."""
+        return Why(self.number) if self.ending == Ending.CALL_REFUSED else None
+
+    @property
+    def named(self) -> str:
+        """As `avm replay` prints it: the entry's number and the ending, with the name of the fault or of the reason."""
+        found = self.fault or self.why
+        return self._with(found.name if found else "")
+
+    @property
+    def _faulted(self) -> bool:
+        return self.ending in (Ending.FAULTED, Ending.CLEARED_FAULTED)
+
+    def _with(self, number: str) -> str:
+        place = str(self.place) if self._faulted else ""
+        return " ".join(word for word in (str(self.entry), self.ending.words, number, place) if word)
+
+    def __str__(self) -> str:
+        """As `named`, with numbers."""
+        return self._with(str(self.number or ""))
+
+
+@dataclass(frozen=True)
+class Verdict:
+    """What replaying a block says of it. It is true where the block agrees.
+
+    `status` is DONE, WRONG_BASE, WRONG_OUTCOME or WRONG_STATE. `digest` is the SHA-256 of the ledger after the block, where it
+    agrees, and `difference` the first entry that differs, where an outcome is wrong.
+    """
+
+    status: Status
+    digest: Optional[bytes] = None
+    difference: Optional[Difference] = None
+
+    @property
+    def agrees(self) -> bool:
+        """Whether the block replays over the ledger to what it says."""
+        return self.status == Status.DONE
+
+    def agreed(self) -> bytes:
+        """The digest of the ledger after the block. Where the block does not agree, `WrongBase`, `WrongOutcome` or `WrongState`."""
+        if self.digest is not None:
+            return self.digest
+        if self.difference is not None:
+            raise WrongOutcome(self.status, f"wrong outcome {self.difference.named}", self.difference)
+        raise _REFUSALS[self.status](self.status, _words(self.status.name))
+
+    def __bool__(self) -> bool:
+        return self.agrees
+
+    def __str__(self) -> str:
+        if self.digest is not None:
+            return f"agrees {self.digest.hex()}"
+        words = _words(self.status.name)
+        return f"{words} {self.difference}" if self.difference else words
+
+
+@dataclass(frozen=True)
+class View:
+    """What stands in the machine after some steps of a call, as the text that `avm debug` prints."""
+
+    text: str
+
+    def __str__(self) -> str:
+        return self.text
+
+
+@dataclass(frozen=True)
+class Answer:
+    """What the program `avm` writes: its exit status, which is DONE, REFUSED or USAGE, and its standard output."""
+
+    status: Status
+    output: bytes
+
+    @property
+    def text(self) -> str:
+        """The output as text."""
+        return self.output.decode()
+
+
+# ---- what is refused
+
+
+class AvmError(Exception):
+    """What a function refuses; each status that refuses has a class of its own.
+
+    `status` is the function's, and `reason` the line that a command of `avm` prints for the same, where one does.
+    """
+
+    def __init__(self, status: Status, reason: Optional[str] = None, *more: Any) -> None:
+        super().__init__(status, reason, *more)
+        self.status = status
+        self.reason = reason
+
+    @property
+    def kind(self) -> Optional[str]:
+        """The name of the fault, where the reason has one."""
+        return next((word for word in self._told if not word.isdigit()), None)
+
+    @property
+    def _told(self) -> List[str]:
+        """The words behind `refused` and the command."""
+        return self.reason.split()[2:] if self.reason and self.reason.startswith("refused ") else []
+
+    @property
+    def _number(self) -> Optional[int]:
+        return next((int(word) for word in self._told if word.isdigit()), None)
+
+    def __str__(self) -> str:
+        return self.reason or _words(self.status.name)
+
+
+class NoText(AvmError):
+    """The text is not UTF-8."""
+
+
+class NotAssembled(AvmError):
+    """The text has a fault, as source text. `kind` is the name of an `AsmFault`."""
+
+    @property
+    def line(self) -> Optional[int]:
+        """The line of the fault, counted from 1."""
+        return self._number
+
+
+class NoProgram(AvmError):
+    """The bytes break a rule of programs. `kind` is the name of a `Rule`; for `Rule.Code` that of the fault of reading."""
+
+    @property
+    def place(self) -> Optional[int]:
+        """The place of the instruction, where the rule is one of instructions."""
+        return self._number
+
+
+class NoLedger(AvmError):
+    """The bytes are no ledger. `kind` is a fault of docs/FORMATS.md."""
+
+
+class NoBlock(AvmError):
+    """The ledger's bytes are one, the block's are no block. `kind` is a fault of docs/FORMATS.md."""
+
+
+class WrongBase(AvmError):
+    """The block stands over another ledger."""
+
+
+class WrongOutcome(AvmError):
+    """An entry's call ends otherwise than the entry says, as `difference` tells."""
+
+    def __init__(self, status: Status, reason: Optional[str] = None, difference: Optional[Difference] = None) -> None:
+        super().__init__(status, reason, difference)
+        self.difference = difference
+
+
+class WrongState(AvmError):
+    """All calls end as the block says, and the ledger after them has another digest."""
+
+
+class NoEntry(AvmError):
+    """The block has no entry of this number."""
+
+
+class NoRun(AvmError):
+    """No program runs in the entry's call: it is refused, or clears what is left of a gone application."""
+
+
+class Ended(AvmError):
+    """The program ends before so many steps."""
+
+
+class NeedsThreads(AvmError):
+    """The words are `propose`, which takes threads: no command here."""
+
+
+_REFUSALS: Dict[Status, Type[AvmError]] = {
+    Status.PROPOSE: NeedsThreads,
+    Status.NO_TEXT: NoText,
+    Status.NOT_ASSEMBLED: NotAssembled,
+    Status.NO_PROGRAM: NoProgram,
+    Status.NO_LEDGER: NoLedger,
+    Status.NO_BLOCK: NoBlock,
+    Status.WRONG_BASE: WrongBase,
+    Status.WRONG_OUTCOME: WrongOutcome,
+    Status.WRONG_STATE: WrongState,
+    Status.NO_ENTRY: NoEntry,
+    Status.NO_RUN: NoRun,
+    Status.ENDED: Ended,
+}
+# How the command's line begins that says why.
+_REASONS = {
+    Status.NO_TEXT: "refused input",
+    Status.NOT_ASSEMBLED: "refused asm ",
+    Status.NO_PROGRAM: "refused check ",
+    Status.NO_LEDGER: "refused ledger ",
+    Status.NO_BLOCK: "refused block ",
+}
+
+# ---- the library
+
+
+class _Difference(ctypes.Structure):
+    """`struct avm_difference`."""
+
+    _fields_ = [("entry", ctypes.c_uint64), ("ending", ctypes.c_uint32), ("number", ctypes.c_uint32), ("place", ctypes.c_uint32)]
+
+
+# How the functions are called, after the words for bytes, numbers and lent room.
+_FUNCTIONS = {
+    "check": "bytes",
+    "assemble": "bytes room",
+    "list": "bytes room",
+    "replay": "bytes bytes digest difference",
+    "state": "bytes bytes number room",
+    "view": "bytes bytes number number room",
+    "answer": "bytes bytes room",
+}
+_SIZE = ctypes.c_size_t
+_TYPES: Dict[str, Tuple[Any, ...]] = {
+    "bytes": (ctypes.c_char_p, _SIZE),
+    "room": (ctypes.c_char_p, _SIZE, ctypes.POINTER(_SIZE)),
+    "number": (ctypes.c_uint64,),
+    "digest": (ctypes.c_char_p,),
+    "difference": (ctypes.POINTER(_Difference),),
+}
+_VERDICTS = (Status.DONE, Status.WRONG_BASE, Status.WRONG_OUTCOME, Status.WRONG_STATE)
+_ANSWERED = (Status.DONE, Status.REFUSED, Status.USAGE)
+_FIRST_ROOM = 4096
+_MOST_NUMBER = 2**64 - 1
+
+
+def _bytes(given: Given) -> bytes:
+    if isinstance(given, Spelled):
+        return given.spelled
+    return given if isinstance(given, bytes) else bytes(memoryview(given))
+
+
+def _sized(*given: Given) -> List[Any]:
+    """Bytes as they are handed over, each with its length behind it. Of no bytes the pointer is not null either."""
+    return [word for each in map(_bytes, given) for word in (each, len(each))]
+
+
+def _number(number: int) -> int:
+    if not 0 <= number <= _MOST_NUMBER:
+        raise ValueError(f"{number} is not from 0 to 2^64 - 1")
+    return number
+
+
+def _library(library: Union[str, "os.PathLike[str]", None]) -> str:
+    """Where the library is."""
+    if library is not None:
+        return library if isinstance(library, str) else os.path.abspath(library)
+    named = os.environ.get("AVM_LIBRARY")
+    beside = Path(__file__).resolve().parent.parent / "lib" / "libavm.so"
+    if not named and not beside.exists():
+        raise FileNotFoundError(f"there is no {beside}: name the library, or set AVM_LIBRARY")
+    return named or str(beside)
+
+
+class Avm:
+    """The machine.
+
+    `library` is the path of the shared library. Without one it is what AVM_LIBRARY in the environment names, or ../lib/libavm.so
+    beside this module's folder, where an unpacked archive has it.
+    """
+
+    def __init__(self, library: Union[str, "os.PathLike[str]", None] = None) -> None:
+        loaded = ctypes.CDLL(_library(library))
+        self._functions: Dict[str, Callable[..., int]] = {}
+        for name, words in _FUNCTIONS.items():
+            function = getattr(loaded, f"avm_c_{name}")
+            function.restype = ctypes.c_uint32
+            function.argtypes = [each for word in words.split() for each in _TYPES[word]]
+            self._functions[name] = function
+
+    def check(self, program: Given) -> None:
+        """Tests that the bytes are a program. Else `NoProgram`."""
+        status = Status(self._functions["check"](*_sized(program)))
+        if status != Status.DONE:
+            raise self._refusal(status, "check", program)
+
+    def assemble(self, source: Union[str, Given]) -> Program:
+        """The program that source text assembles to. Else `NotAssembled`, or `NoText` for bytes that are not UTF-8."""
+        text = source.encode() if isinstance(source, str) else _bytes(source)
+        status, program = self._lent("assemble", *_sized(text))
+        if program is None:
+            raise self._refusal(status, "asm", text)
+        return Program(program)
+
+    def list(self, program: Given) -> str:
+        """A program's listing, with a line feed behind each line. Else `NoProgram`."""
+        status, text = self._lent("list", *_sized(program))
+        if text is None:
+            raise self._refusal(status, "check", program)
+        return text.decode()
+
+    def replay(self, ledger: Given, block: Given) -> Verdict:
+        """The verdict on a block over the ledger before it. `NoLedger` or `NoBlock` where the bytes are none."""
+        digest, found = ctypes.create_string_buffer(32), _Difference()
+        status = Status(self._functions["replay"](*_sized(ledger, block), digest, found))
+        if status not in _VERDICTS:
+            raise self._refusal(status, "replay", ledger, block)
+        if status == Status.WRONG_OUTCOME:
+            return Verdict(status, difference=Difference(found.entry, Ending(found.ending), found.number, found.place))
+        return Verdict(status, digest.raw if status == Status.DONE else None)
+
+    def state(self, ledger: Given, block: Given, timestamp: int = _MOST_NUMBER) -> Ledger:
+        """The ledger after the calls of a block with timestamps up to this one; where none is given, after all calls. Outcomes and
+        the digest after are not compared. Else `NoLedger`, `NoBlock` or `WrongBase`."""
+        sized = _sized(ledger, block)
+        status, after = self._lent("state", *sized, _number(timestamp), guess=sized[1] + sized[3])
+        if after is None:
+            raise self._refusal(status, "replay", ledger, block)
+        return Ledger(after)
+
+    def view(self, ledger: Given, block: Given, entry: int, steps: int) -> View:
+        """What stands in the machine after so many steps of the call of an entry, counted from 1, over the ledger that it met. Else
+        `NoLedger`, `NoBlock`, `NoEntry`, `WrongBase`, `NoRun` or `Ended`."""
+        status, text = self._lent("view", *_sized(ledger, block), _number(entry), _number(steps))
+        if text is None:
+            raise self._refusal(status, "replay", ledger, block)
+        return View(text.decode())
+
+    def answer(self, words: Sequence[str], given: Given = b"") -> Answer:
+        """What the program `avm` writes for these words and this input, also a refusal. `NeedsThreads` for `propose`."""
+        if any("\0" in word for word in words):
+            raise ValueError("a word has a zero byte")
+        status, output = self._lent("answer", *_sized("\0".join(words).encode(), given))
+        if output is None:
+            raise self._refusal(status)
+        return Answer(status, output)
+
+    def _lent(self, name: str, *given: Any, guess: int = 0) -> Tuple[Status, Optional[bytes]]:
+        """Calls a function that answers bytes, with more room where the first is too little."""
+        size = max(guess, _FIRST_ROOM)
+        while True:
+            room, written = ctypes.create_string_buffer(size), _SIZE()
+            status = Status(self._functions[name](*given, room, size, written))
+            if status != Status.NO_ROOM:
+                return status, ctypes.string_at(room, written.value) if status in _ANSWERED else None
+            size = written.value
+
+    def _refusal(self, status: Status, command: str = "", *given: Given) -> Exception:
+        """What is raised for a status, with the line that the command prints for the same."""
+        if status == Status.MEMORY:
+            return MemoryError()
+        reason = self._reason(_REASONS[status], command, given) if status in _REASONS else None
+        return _REFUSALS.get(status, AvmError)(status, reason)
+
+    def _reason(self, begun: str, command: str, given: Sequence[Given]) -> Optional[str]:
+        """What the command answers to what was given, where it begins so: of longer input than commands take it says nothing."""
+        lines = _bytes(given[0]) if command == "asm" else "\n".join(_bytes(each).hex() for each in given).encode()
+        try:
+            text = self.answer([command], lines).text.rstrip("\n")
+        except MemoryError:
+            return None
+        return text if text.startswith(begun) else None
+
+
+# ---- the program
+
+
+def _found(avm: Avm, name: str) -> Tuple[bool, str]:
+    """Whether the block of a file agrees, and the verdict on it."""
+    with open(name, "rb") as file:
+        lines = file.read().decode("latin-1").replace("\r\n", "\n").split("\n")
+    try:
+        ledger, block = Ledger.from_hex(lines[0]), Block.from_hex(lines[1])
+    except (ValueError, IndexError):
+        return False, "refused"
+    try:
+        verdict = avm.replay(ledger, block)
+    except AvmError as error:
+        return False, _words(error.status.name)
+    return verdict.agrees, str(verdict)
+
+
+def main(words: Sequence[str]) -> int:
+    """The program: LIBRARY FILE.. The status is 0 where every block agrees, and else 1."""
+    if not words:
+        print("usage: avm.py LIBRARY FILE..", file=sys.stderr)
+        return 2
+    avm, agree = Avm(words[0]), True
+    for name in words[1:]:
+        agrees, text = _found(avm, name)
+        agree = agree and agrees
+        print(text)
+    return 0 if agree else 1
+
+
+if __name__ == "__main__":
+    sys.exit(main(sys.argv[1:]))
