@@ -38,7 +38,8 @@ abbrev HasRoom : Value → Schema → Type 0
 HasRoom (Uint n) left = 0 < left.uints
 HasRoom (Bytes s) left = 0 < left.bytes
 
-value_back : (v : Value) (left : Schema) (rest : List ℕ) → IsStateValue v → HasRoom v left → value_at left (value_bytes v ++ rest) ≡ Ok (v, rest)
+-- a value that there is room for is read from its bytes
+pub value_back : (v : Value) (left : Schema) (rest : List ℕ) → IsStateValue v → HasRoom v left → value_at left (value_bytes v ++ rest) ≡ Ok (v, rest)
 value_back (Uint n) left rest is room =
     let one : ltb 0 left.uints ≡ true = lt-ltb 0 left.uints room in
     then (number_at Truncated w8 (1 ∷ (u64_bytes n ++ rest))) (1, u64_bytes n ++ rest) (value_of_kind left) (Ok (Uint n, rest)) (byte_back Truncated 1 (u64_bytes n ++ rest) (omega arith))
@@ -103,7 +104,8 @@ state_back room state rest is small =
 
 -- ---- applications
 
-limited_schema_back : (most : ℕ) (s : Schema) (rest : List ℕ) → s.uints + s.bytes ≤ most → most ≤ 64 → limited_schema_at most (u8_bytes s.uints ++ (u8_bytes s.bytes ++ rest)) ≡ Ok (s, rest)
+-- a schema within a limit is read from its bytes
+pub limited_schema_back : (most : ℕ) (s : Schema) (rest : List ℕ) → s.uints + s.bytes ≤ most → most ≤ 64 → limited_schema_at most (u8_bytes s.uints ++ (u8_bytes s.bytes ++ rest)) ≡ Ok (s, rest)
 limited_schema_back most s rest few small =
     let within : leb (s.uints + s.bytes) most ≡ true = le-leb (s.uints + s.bytes) most few in
     then _ _ _ _ (schema_back Truncated s rest (omega arith) (omega arith)) (rw within refl)
@@ -118,7 +120,8 @@ program_short : (p : List ℕ) → is_ok (checked p) ≡ true → length p ≤ m
 unfolding checked
 program_short p ok = ltb-false most_program_bytes (length p) (short_if _ _ _ _ ok)
 
-program_back : (p rest : List ℕ) → is_ok (checked p) ≡ true → program_at (u16_bytes (length p) ++ (p ++ rest)) ≡ Ok (p, rest)
+-- a checked program is read from its bytes
+pub program_back : (p rest : List ℕ) → is_ok (checked p) ≡ true → program_at (u16_bytes (length p) ++ (p ++ rest)) ≡ Ok (p, rest)
 program_back p rest ok =
     let short : length p ≤ most_program_bytes = program_short p ok in
     then _ _ _ _ (string_back Truncated p rest (omega arith)) (rw ok refl)
@@ -245,7 +248,8 @@ local_states_back (((who, id), state) ∷ es) before next apps rest above sorted
 ledger_chain : (u a s rest : List ℕ) → (u ++ a ++ s) ++ rest ≡ u ++ (a ++ (s ++ rest))
 ledger_chain u a s rest = simp append_assoc
 
-next_id_back : (n : ℕ) (rest : List ℕ) → 1 ≤ n → n < 2 ^ 64 → next_id_at (u64_bytes n ++ rest) ≡ Ok (n, rest)
+-- a next id is read from its bytes
+pub next_id_back : (n : ℕ) (rest : List ℕ) → 1 ≤ n → n < 2 ^ 64 → next_id_at (u64_bytes n ++ rest) ≡ Ok (n, rest)
 next_id_back n rest some small =
     let positive : leb 1 n ≡ true = le-leb 1 n some in
     then _ _ _ _ (u64_back Truncated n rest small) (rw positive refl)

@@ -59,7 +59,8 @@ abbrev HasRoom : Value → Schema → Type 0
 HasRoom (Uint n) left = 0 < left.uints
 HasRoom (Bytes s) left = 0 < left.bytes
 
-value_kept : (left : Schema) (bytes : List ℕ) (x : Value × List ℕ) → AllBytes bytes → value_at left bytes ≡ Ok x → IsStateValue x.0 × HasRoom x.0 left
+-- a value that is read may stand in a state
+pub value_kept : (left : Schema) (bytes : List ℕ) (x : Value × List ℕ) → AllBytes bytes → value_at left bytes ≡ Ok x → IsStateValue x.0 × HasRoom x.0 left
 value_kept left bytes x all e =
     from (number_at Truncated w8 bytes) (value_of_kind left) x e (λ n en e1. at_uint n (byte_spelled Truncated bytes n all en).rest_are_bytes (eqb n.0 1 && ltb 0 left.uints) refl e1)
   where
@@ -133,7 +134,8 @@ entries_kept (suc n) before left bytes x all e =
       strings = counts.1;
     })))))
 
-state_kept : (room : Room) (bytes : List ℕ) (x : Entries × List ℕ) → AllBytes bytes → state_at room bytes ≡ Ok x → IsStateIn room x.0
+-- a state that is read is one that there is room for
+pub state_kept : (room : Room) (bytes : List ℕ) (x : Entries × List ℕ) → AllBytes bytes → state_at room bytes ≡ Ok x → IsStateIn room x.0
 state_kept room bytes x all e =
     from (number_at Truncated w8 bytes) (state_of_count room) x e (λ n en e1.
     let few : leb n.0 room.entries ≡ true = passed_rule (leb n.0 room.entries) (entries_at n.0 None room.kinds n.1) Malformed x e1 in
@@ -145,11 +147,12 @@ state_kept room bytes x all e =
 
 -- ---- applications
 
-schema_kept : (most : ℕ) (bytes : List ℕ) (x : Schema × List ℕ) → limited_schema_at most bytes ≡ Ok x → x.0.uints + x.0.bytes ≤ most
+-- a schema that is read is within the limit, and a program is checked
+pub schema_kept : (most : ℕ) (bytes : List ℕ) (x : Schema × List ℕ) → limited_schema_at most bytes ≡ Ok x → x.0.uints + x.0.bytes ≤ most
 schema_kept most bytes x e =
     from (schema_at Truncated bytes) _ x e (λ s es e1. leb-true _ most (rule_kept (λ z. leb (z.0.uints + z.0.bytes) most) s x e1).0)
 
-program_kept : (bytes : List ℕ) (x : List ℕ × List ℕ) → program_at bytes ≡ Ok x → is_ok (checked x.0) ≡ true
+pub program_kept : (bytes : List ℕ) (x : List ℕ × List ℕ) → program_at bytes ≡ Ok x → is_ok (checked x.0) ≡ true
 program_kept bytes x e = from (string_at Truncated bytes) _ x e (λ p ep e1. (rule_kept (λ z. is_ok (checked z.0)) p x e1).0)
 
 -- an id that is read is above the one before and below the next id
@@ -290,13 +293,18 @@ local_states_kept (suc n) before next apps bytes x all e =
 
 -- ---- ledgers
 
+-- a next id that is read is one
+pub next_id_kept : (bytes : List ℕ) (x : ℕ × List ℕ) → AllBytes bytes → next_id_at bytes ≡ Ok x → (1 ≤ x.0) × (x.0 < 2 ^ 64)
+next_id_kept bytes x all e =
+    from (number_at Truncated w64 bytes) _ x e (λ k ek e1.
+    let positive = rule_kept (λ z. leb 1 z.0) k x e1 in
+    (leb-true 1 x.0 positive.0, subst (λ p. p.0 < 2 ^ 64) positive.1 (u64_fits Truncated bytes k all ek)))
+
 front_kept : (bytes : List ℕ) (x : Ledger × List ℕ) → AllBytes bytes → ledger_front bytes ≡ Ok x → KeepsRules x.0 × IsCountable x.0
 front_kept bytes x all e =
     from (next_id_at bytes) _ x e (λ n en e1.
     let next = next_id_spelled bytes n all en in
-    from (number_at Truncated w64 bytes) _ n en (λ k ek t1.
-    let positive = rule_kept (λ z. leb 1 z.0) k n t1 in
-    let small : n.0 < 2 ^ 64 = subst (λ p. p.0 < 2 ^ 64) positive.1 (u64_fits Truncated bytes k all ek) in
+    let id = next_id_kept bytes n all en in
     from (number_at Truncated w32 n.1) _ x e1 (λ c ec e2.
     let count = u32_spelled Truncated n.1 c next.rest_are_bytes ec in
     from (applications_at c.0 0 n.0 c.1) _ x e2 (λ a ea e3.
@@ -310,8 +318,8 @@ front_kept bytes x all e =
     let l : Ledger = record { next_id = n.0; applications = a.0; local_states = s.0 } in
     let is : ◌≡◌ {A = Ledger × List ℕ} (l, s.1) x = same_value _ _ e5 in
     let rules : KeepsRules l = record {
-      next_id = leb-true 1 n.0 positive.0;
-      small = small;
+      next_id = id.0;
+      small = id.1;
       rising_ids = (applications_rise c.0 0 n.0 c.1 a ea).rising;
       applications = kept_apps;
       rising_accounts = (local_states_rise d.0 None n.0 a.0 d.1 s es).rising;
@@ -321,7 +329,7 @@ front_kept bytes x all e =
       applications = subst (λ m. m < 2 ^ 32) (sym apps.1) (u32_fits Truncated n.1 c next.rest_are_bytes ec);
       local_states = subst (λ m. m < 2 ^ 32) (sym locals.1) (u32_fits Truncated a.1 d apps.0.rest_are_bytes ed);
     } in
-    subst (λ p. KeepsRules p.0 × IsCountable p.0) is (rules, few)))))))
+    subst (λ p. KeepsRules p.0 × IsCountable p.0) is (rules, few))))))
 
 -- a ledger that is read keeps the rules, and four bytes count its applications and local states
 pub ledger_kept : (bytes : List ℕ) (l : Ledger) → All (λ b. b < 256) bytes → ledger_at bytes ≡ Ok l → KeepsRules l × IsCountable l

@@ -52,7 +52,8 @@ pub(crate) fn parts_of(alloc: Global, bytes: &[u8]) -> Result<Parts, LedgerError
     })
 }
 
-fn next_id_of(fields: Fields<'_>) -> Result<(u64, Fields<'_>), LedgerError>
+/// The id that the next creation takes, which is not 0.
+pub fn next_id_of(fields: Fields<'_>) -> Result<(u64, Fields<'_>), LedgerError>
     ensures { Gives (λ x. x) result (next_id_at fields.entry) }
 {
     let (next_id, rest) = fields.u64(LedgerFault::Truncated)?;
@@ -140,7 +141,7 @@ fn stored_of(
 }
 
 /// A program, checked; or that of the last application, shared, where it has the same bytes.
-fn program_of<'a>(
+pub fn program_of<'a>(
     alloc: Global,
     last: Option<&StoredProgram>,
     fields: Fields<'a>,
@@ -161,7 +162,7 @@ fn program_of<'a>(
 }
 
 /// A schema that allows at most so many entries.
-fn schema_of(most: u16, fields: Fields<'_>) -> Result<(Schema, Fields<'_>), LedgerError>
+pub fn schema_of(most: u16, fields: Fields<'_>) -> Result<(Schema, Fields<'_>), LedgerError>
     ensures { Gives (λ x. x) result (limited_schema_at most fields.entry) }
 {
     let (schema, rest) = fields.schema(LedgerFault::Truncated)?;

@@ -12,6 +12,7 @@ mod ledger;
 mod ledger_fault;
 mod ledger_reading;
 mod open_ledger;
+pub mod reading;
 pub mod reading_laws;
 mod shared_application;
 mod sorted_map;

@@ -97,6 +97,16 @@ pub fn cut_if_refused(
     appended
 }
 
+/// Appends a value behind its kind.
+pub fn put_value(bytes: &mut Vec<u8>, value: &Value) -> Result<(), AllocError>
+    ensures written { OnOk result (bytes.new.items ≡ bytes.old.items ++ value_bytes value.now) }
+    ensures unchanged { OnErr result (bytes.new.items ≡ bytes.old.items) }
+{
+    let start = bytes.len();
+    let appended = push_value(bytes, value);
+    cut_if_refused(bytes, start, appended)
+}
+
 // Where memory is refused, a part of the spelling may stand behind what was there. So it is with all that follow.
 fn push_state(bytes: &mut Vec<u8>, state: &State) -> Result<(), AllocError>
     ensures written { OnOk result (bytes.new.items ≡ bytes.old.items ++ state_bytes state.now) }

@@ -30,8 +30,8 @@ pub(crate) fn state_of(
     entries_of(alloc, count, kinds, rest)
 }
 
-/// The same, to be shared.
-pub(crate) fn shared_state_of(
+/// The state that the bytes begin with, of at most so many entries, and so many of each kind, to be shared.
+pub fn shared_state_of(
     alloc: Global,
     most: u16,
     kinds: Schema,
@@ -96,7 +96,7 @@ fn rises_from(before: Option<&[u8]>, key: &[u8]) -> bool
 }
 
 /// A value behind its kind, while there is room for one of the kind.
-fn value_of(
+pub fn value_of(
     alloc: Global,
     left: Schema,
     fields: Fields<'_>,

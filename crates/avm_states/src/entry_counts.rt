@@ -49,6 +49,16 @@ impl EntryCounts {
         self.bytes
     }
 
+    /// As many as a schema allows.
+    pub fn from_schema(schema: Schema) -> Self
+        ensures { result ≡ schema }
+    {
+        EntryCounts {
+            uints: usize::from(schema.uints),
+            bytes: usize::from(schema.bytes),
+        }
+    }
+
     /// Those of one value.
     pub fn of(value: &Value) -> EntryCounts
         ensures { result ≡ count_with value.now no_entries }

@@ -1,0 +1,5 @@
+pub mod ListReading
+pub mod ItemsBack
+pub mod ItemsSpelled
+pub mod ItemsRead
+pub mod LedgerValues
