@@ -1,4 +1,4 @@
-"""A reader of ledgers, headers, calls, outcomes and blocks that knows no more than docs/FORMATS.md says: fields, their order, widths and
+"""A reader of ledgers, items, headers, calls, outcomes and blocks that knows no more than docs/FORMATS.md says: fields, their order, widths and
 bounds come from the tables of the page; the rules between fields stand here a second time. Whether a program passes `avm check` is not
 tested further than by its version.
 
@@ -21,6 +21,13 @@ DEFINED = {
     ("application", "global schema"): ["avm_states/specs/Schemas most_global_entries"],
     ("application", "local schema"): ["avm_states/specs/Schemas most_local_entries"],
     ("local state", "state"): ["avm_states/specs/Schemas most_local_entries"],
+    ("item", "key"): ["teal_value/specs/Keys most_key_bytes"],
+    ("row", "approval program"): ["teal_code/specs/Limits most_program_bytes"],
+    ("row", "clear program"): ["teal_code/specs/Limits most_program_bytes"],
+    ("row", "global schema"): ["avm_states/specs/Schemas most_global_entries"],
+    ("row", "local schema"): ["avm_states/specs/Schemas most_local_entries"],
+    ("counts", "entries"): ["avm_states/specs/Schemas most_global_entries"],
+    ("locals", "state"): ["avm_states/specs/Schemas most_local_entries"],
     ("call", "note"): ["avm_call/specs/CallRules most_note_bytes"],
     ("call", "arguments"): ["avm_call/specs/CallRules most_arguments", "avm_call/specs/CallRules most_argument_bytes"],
     ("call", "accounts"): ["avm_call/specs/CallRules most_accounts"],
@@ -34,6 +41,13 @@ DEFINED = {
 EDGES = (
     ("ledger", "0000000000000000", "Malformed"),
     ("value", "00", "Malformed"), ("value", "01 0000000000000000", None), ("value", "02 00", None), ("value", "03", "Malformed"),
+    ("item", "00", None), ("item", "05", "Malformed"), ("item", "01 00", "Truncated"), ("items", "00000000", None),
+    ("items", "00000001 00 0000000000000000", "Malformed"), ("items", "00000001 01 0000000000000001 00", None),
+    ("items", "00000001 01 0000000000000001 02", "Malformed"), ("items", "00000001 02 0000000000000001 01 40 00", None),
+    ("items", "00000001 02 0000000000000001 01 40 01", "Malformed"), ("items", f"00000001 04 {'00' * 40} 01 11", "Malformed"),
+    ("items", f"00000001 03 {'00' * 8} 41 {'00' * 65}", "Malformed"), ("items", "00000001 03 0000000000000001 00 01 03", "Malformed"),
+    ("items", "00000002 01 0000000000000001 00 01 0000000000000001 00", "Malformed"),
+    ("items", "00000002 01 0000000000000001 00 02 0000000000000001 00", None),
     ("outcome", "00", None), ("outcome", "01", None), ("outcome", "02 00", "Field"), ("outcome", "02 01 0400", None),
     ("outcome", "02 18 0000", None), ("outcome", "02 19", "Field"), ("outcome", "02 01 0401", "Field"), ("outcome", "03 00", "Field"),
     ("outcome", "03 01", None), ("outcome", "03 04", None), ("outcome", "03 05", "Field"), ("outcome", "04 00", None),
@@ -56,7 +70,8 @@ class Row:
         self.conditions = [tuple(words.rsplit(" ", 1)) for words in conditions.split(" or of ")] if conditions else []
 
     def is_there(self, record):
-        return not self.conditions or any(record.get(field) == int(value) for field, value in self.conditions)
+        of = record.get("item") or record
+        return not self.conditions or any(of.get(field) == int(value) for field, value in self.conditions)
 
     def bounds(self):
         """Least and most of what is measured, whether that is a sum, and the rule of calls that is named."""
@@ -119,8 +134,10 @@ def before(record, field, first):
 
 
 def room_of(state):
-    """The schema of a state; of an application that is gone there is none."""
+    """The schema of a state; of an application that is gone there is none, nor of an item's."""
     owner = state["around"]
+    if "present" in owner:
+        return None
     if "global schema" in owner:
         return owner["global schema"]
     return next((app["local schema"] for app in around(owner, "applications") if app["id"] == owner["id"]), None)
@@ -132,12 +149,16 @@ def has_room(state, count):
 
 
 def has_room_for_kind(value, kind):
-    if "around" not in value:
+    if "around" not in value or "present" in value["around"]:
         return True
     state = value["around"]["around"]
     schema = room_of(state)
     room = 16 if schema is None else schema["uints" if kind == 1 else "byte strings"]
     return sum(entry["value"]["kind"] == kind for entry in state["entries"]) < room
+
+
+def named(item):
+    return tuple(item.get(field) for field in ("kind", "account", "application", "key"))
 
 
 def version(program):
@@ -160,6 +181,8 @@ RULES = {
     ("local state", "account"): lambda local, account: before(local, "account", b"") <= account,
     ("local state", "id"): lambda local, number: number < around(local, "next id")
     and (before(local, "account", b""), before(local, "id", 0)) < (local["account"], number),
+    ("row", "approval program"): is_program,
+    ("row", "clear program"): is_program,
     ("entry of a block", "timestamp"): lambda entry, timestamp: before(entry, "timestamp", 0) < timestamp,
     ("block", "magic"): lambda _, letters: letters == b"AVMB",
 }
@@ -258,6 +281,8 @@ class Reader:
                 self.judge(name, row, record, record[row.field])
         if name == "call" and near:
             self.accept(record)
+        if name == "entry of items" and any(named(entry["item"]) == named(record["item"]) for entry in record["around"]["items"]):
+            raise Fault("Malformed")
         return record
 
     def accept(self, call):
@@ -349,7 +374,7 @@ def compare():
     """How many examples, fields and lines there are, and what is wrong with them."""
     text = PAGE.read_text()
     layouts, shown, wrong, fields = tables(text), examples(text), [], 0
-    order = [name for name in layouts if not name.startswith("entry") and name not in ("application", "local state")]
+    order = [name for name in layouts if not name.startswith("entry") and name not in ("application", "local state", "row", "counts", "key value", "locals")]
     if order != list(shown):
         wrong.append(f"docs/FORMATS.md has tables of {order} and examples of {list(shown)}")
         return "none", wrong
