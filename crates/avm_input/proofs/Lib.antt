@@ -9,3 +9,4 @@ pub mod Inputs
 pub mod Written
 pub mod WrittenDigits
 pub mod LinesBehind
+pub mod CallsSoFar

@@ -8,5 +8,6 @@ pub mod CallLines
 pub mod Outcomes
 pub mod Refusals
 pub mod BlockLines
+pub mod ProposeInputs
 pub mod Shown
 pub mod BlockDigits

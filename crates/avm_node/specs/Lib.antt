@@ -1,5 +1,4 @@
 pub mod CallParts
-pub mod ProposeInputs
 pub mod ProposeShown
 pub mod ProposeCommands
 pub mod WorkerSets

@@ -12,7 +12,7 @@ use Rattle.avm_pool.specs.FaultNames.{pool_fault_name}
 use Rattle.avm_pool.specs.Proposals.{IsProposal}
 use Rattle.avm_input.specs.declared.refusals.Refusal.{Refusal}
 use Rattle.avm_input.specs.DigitLines.{digit_lines}
-use Rattle.avm_node.specs.ProposeInputs.{ProposeInput, propose_input}
+use Rattle.avm_input.specs.ProposeInputs.{ProposeInput, propose_input}
 use Rattle.avm_input.specs.Refusals.{refusal_reply}
 use Rattle.avm_input.specs.Replies.{Reply, succeeded, refused}
 

@@ -3,13 +3,12 @@
 
 ghost use Rattle.std.specs.Prelude.{◌≡◌, ◌+◌, ◌<◌, ◌^◌, length};
 ghost use Rattle.teal_value.specs.Answer.{Gives};
-ghost use Rattle.avm_input.specs.CallLines.{checked_call};
-ghost use Rattle.avm_input.specs.Lines.{line_shown, lines_shown};
+ghost use Rattle.avm_input.specs.Lines.{lines_shown};
+ghost use Rattle.avm_input.specs.ProposeInputs.{calls_on_lines};
 ghost use Rattle.avm_node.specs.CallParts.{GiveTogether};
-ghost use Rattle.avm_node.specs.ProposeInputs.{call_on_line, calls_on_lines, on_call};
 
 use avm_call::Call;
-use avm_input::{NumberedLine, Refusal, checked_call, line_bytes};
+use avm_input::{NumberedLine, Refusal, calls_on};
 use avm_pool::take_room;
 use std::alloc::Global;
 use std::thread::{Threads, join};
@@ -34,7 +33,7 @@ pub(crate) fn calls_of<R: Threads + Sync>(
     ensures { Gives (λ calls. calls.items) result (calls_on_lines 1 (lines_shown lines.now)) }
 {
     if workers < 2 || lines.len() < FEW {
-        calls_on(alloc, 1, lines)
+        calls_in_room(alloc, 1, lines)
     } else if workers < 4 {
         by_two(rt, alloc, 1, lines)
     } else {
@@ -88,12 +87,12 @@ fn by_two<R: Threads + Sync>(
             requires { number + length front.now < 2 ^ 64 }
             ensures { Gives (λ calls. calls.items) result
                 (calls_on_lines number (lines_shown front.entry.now)) }
-        { calls_on(alloc, number, front) },
+        { calls_in_room(alloc, number, front) },
         || -> Calls
             requires { behind + length back.now < 2 ^ 64 }
             ensures { Gives (λ calls. calls.items) result
                 (calls_on_lines behind (lines_shown back.entry.now)) }
-        { calls_on(alloc, behind, back) },
+        { calls_in_room(alloc, behind, back) },
     );
     together(first, second)
 }
@@ -108,30 +107,11 @@ fn together(first: Calls, second: Calls) -> Calls
     Ok(calls)
 }
 
-/// The calls of lines, numbered from this on.
-fn calls_on(alloc: Global, number: usize, lines: &[NumberedLine<'_>]) -> Calls
+/// The calls of lines, numbered from this on, by one thread, in room that it takes at once.
+fn calls_in_room(alloc: Global, number: usize, lines: &[NumberedLine<'_>]) -> Calls
     requires { number + length lines.now < 2 ^ 64 }
     ensures { Gives (λ calls. calls.items) result (calls_on_lines number (lines_shown lines.now)) }
 {
     take_room(alloc, lines.len(), CALL_ROOM);
-    let mut calls = Vec::with_capacity(alloc, lines.len())?;
-    for index in 0..lines.len() {
-        calls.push(call_on(alloc, number + index, lines[index])?)?;
-    }
-    Ok(calls)
-}
-
-/// The call of a line, whose number among the calls this is.
-fn call_on(alloc: Global, number: usize, line: NumberedLine<'_>) -> Result<Call, Failure<Refusal>>
-    ensures { Gives (λ call. call) result (call_on_line number (line_shown line.entry)) }
-{
-    let bytes = line_bytes(alloc, line.0, line.1)?;
-    numbered_call(alloc, number, bytes.as_slice())
-}
-
-/// The call of this number.
-fn numbered_call(alloc: Global, number: usize, bytes: &[u8]) -> Result<Call, Failure<Refusal>>
-    ensures { Gives (λ call. call) result (on_call number (checked_call bytes.now)) }
-{
-    checked_call(alloc, bytes).map_err(|failure| failure.map(|fault| Refusal::Call(number, fault)))
+    calls_on(alloc, number, lines)
 }

@@ -1,5 +1,5 @@
 //! What the program `avm` answers: the commands that start no thread (`avm_commands`), and `propose`, which makes a block of
-//! calls by workers in threads (`specs/ProposeInputs.antt`, `specs/ProposeCommands.antt`).
+//! calls by workers in threads (`specs/ProposeCommands.antt`).
 #![tactic(auto)]
 
 mod call_lines;

@@ -9,14 +9,13 @@ ghost use Rattle.avm_ledger.specs.Spellings.{ledger_bytes};
 ghost use Rattle.avm_input.specs.BlockLines.{on_ledger};
 ghost use Rattle.avm_input.specs.DigitLines.{digit_lines};
 ghost use Rattle.avm_input.specs.Lines.{lines_shown};
-ghost use Rattle.avm_node.specs.ProposeInputs.{header_and_calls, header_of, propose_input};
+ghost use Rattle.avm_input.specs.ProposeInputs.{header_and_calls, propose_input};
 ghost use Rattle.avm_node.specs.ProposeShown.{input_shown};
 
 use crate::call_lines::calls_of;
-use avm_block::header_codec::header_of as header_in;
 use avm_call::Call;
-use avm_input::{DigitLines, NumberedLine, Refusal, line_bytes, needed_bytes};
-use avm_ledger::{Fields, Header, Ledger, Profile};
+use avm_input::{DigitLines, NumberedLine, Refusal, header_of, line_bytes, needed_bytes};
+use avm_ledger::{Header, Ledger};
 use avm_pool::SharedBase;
 use sha2::{Digest, Sha256};
 use std::alloc::Global;
@@ -152,19 +151,4 @@ fn header_and_calls<R: Threads + Sync>(
     let header = header_of(bytes.as_slice())?;
     let calls = calls_of(rt, alloc, workers, rest)?;
     Ok((header, calls))
-}
-
-/// The header that the bytes are, of a block that may have calls of all versions.
-fn header_of(bytes: &[u8]) -> Result<Header, Failure<Refusal>>
-    ensures exact { Gives (λ header. header) result (header_of bytes.now) }
-    ensures profile { IfOk result (λ header. header.profile ≡ Three) }
-{
-    let (header, rest) = header_in(Profile::Three, Fields::new(bytes)).map_err(
-        |failure| failure.map(|_fault| Refusal::Header),
-    )?;
-    if rest.is_empty() {
-        Ok(header)
-    } else {
-        Err(Failure::Fault(Refusal::Header))
-    }
 }

@@ -20,8 +20,8 @@ use Rattle.avm_input.specs.BlockLines.{first_ledger, needed_bytes}
 use Rattle.avm_input.specs.CallLines.{checked_call}
 use Rattle.avm_input.specs.Replies.{Reply, input_refusal, succeeded}
 use Rattle.avm_input.specs.DigitLines.{DigitLine, digit_lines, line_bytes, lines_after}
+use Rattle.avm_input.specs.ProposeInputs.{call_on_line, calls_on_lines, first_header, header_of, on_call, only_header, propose_input}
 use Rattle.avm_node.specs.ProposeCommands.{IsPoolReply, IsProposeReply, IsReplyToLines}
-use Rattle.avm_node.specs.ProposeInputs.{call_on_line, calls_on_lines, first_header, header_of, on_call, only_header, propose_input}
 use Rattle.avm_rule_laws.specs.Rules.{AreBytes, IsCallOfBytes}
 use Rattle.json.specs.Json.{Json}
 use Rattle.json_documents.specs.Documents.{Document, document}

@@ -4,8 +4,8 @@ use Rattle.avm_ledger.specs.LedgerRules.{IsCountable}
 use Rattle.avm_input.specs.Answers.{input_limit}
 use Rattle.avm_input.specs.DigitLines.{digit_lines}
 use Rattle.avm_input.specs.Replies.{Reply, succeeded}
+use Rattle.avm_input.specs.ProposeInputs.{ProposeInput, propose_input}
 use Rattle.avm_node.specs.ProposeCommands.{IsPoolReply, IsProposeReply}
-use Rattle.avm_node.specs.ProposeInputs.{ProposeInput, propose_input}
 use Rattle.avm_rule_laws.specs.Rules.{AreBytes}
 use Rattle.json.specs.Json.{Json}
 use Rattle.json_documents.specs.Documents.{Document, document}

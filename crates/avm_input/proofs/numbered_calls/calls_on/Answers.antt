@@ -1,5 +1,5 @@
-use Rattle.avm_node.proofs.CallParts.{one_line_more}
-use Rattle.avm_node.proofs.call_lines.calls_on.Goals as goal
+use Rattle.avm_input.proofs.CallsSoFar.{one_line_more}
+use Rattle.avm_input.proofs.numbered_calls.calls_on.Goals as goal
 
 pub loop-index-preserved : goal.loop-index-preserved
 loop-index-preserved c =
