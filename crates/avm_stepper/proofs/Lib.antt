@@ -13,3 +13,5 @@ pub mod Copies
 pub mod Places
 pub mod Shows
 pub mod EntriesBefore
+pub mod WrittenGlobal
+pub mod WrittenLocal

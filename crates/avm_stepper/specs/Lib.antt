@@ -5,6 +5,7 @@ pub mod Stepping
 pub mod Opening
 pub mod Starting
 pub mod Changes
+pub mod WrittenStates
 pub mod Scratch
 pub mod Shown
 pub mod Laws

@@ -1,13 +1,18 @@
 //! What has changed in the states of an application.
 
-ghost use Rattle.std.specs.Prelude.{◌≡◌, ◌++◌, [], IfOk, OnOk};
+ghost use Rattle.std.specs.Prelude.{◌≡◌, ◌++◌, [], IfOk, OnOk, unwrap_or};
+ghost use Rattle.std.specs.Option.{option_copied};
 ghost use Rattle.avm_states.specs.Entries.{value_of_key};
 ghost use Rattle.avm_ledger.specs.Ledgers.{application_at};
+ghost use Rattle.avm_items.specs.LedgerItems.{put};
 ghost use Rattle.avm_call.specs.Views.{state_changes};
 ghost use Rattle.avm_stepper.specs.Changes.{change_of_key, changes_seen, gathered, global_entries, is_same_option, local_changes_along, local_seen, of_account, account_changes};
 
+use crate::prepared::{ledger_of, local_state_with};
 use crate::view::{KeyChange, LocalChange};
-use avm_ledger::OpenLedger;
+use crate::written_state::{copy_of, with_items_set};
+use avm_items::ItemMap;
+use avm_ledger::Ledger;
 use avm_states::State;
 use std::alloc::{AllocError, Global};
 use std::collections::BTreeMap;
@@ -80,26 +85,45 @@ fn key_changes(alloc: Global, before: &State, after: &State) -> Result<Vec<KeyCh
     Ok(changes)
 }
 
-/// The keys of an application's global state whose values differ between two ledgers.
-pub(crate) fn global_changes(
+/// The keys whose values differ between two states; where there is no state, there are no keys.
+fn option_changes(
     alloc: Global,
-    before: &OpenLedger,
-    after: &OpenLedger,
-    id: u64,
+    before: Option<&State>,
+    after: Option<&State>,
 ) -> Result<Vec<KeyChange>, AllocError>
-    ensures { IfOk result (λ changes. changes_seen changes.items ≡ state_changes (global_entries
-        (application_at before.now id)) (global_entries (application_at after.now id))) }
+    ensures { IfOk result (λ changes. changes_seen changes.items
+        ≡ state_changes (unwrap_or (option_copied before.entry) []) (unwrap_or (option_copied after.entry) [])) }
 {
     let none = State::new(alloc);
-    let old = match before.global_state(id) {
+    let old = match before {
         Some(state) => state,
         None => &none,
     };
-    let new = match after.global_state(id) {
+    let new = match after {
         Some(state) => state,
         None => &none,
     };
     key_changes(alloc, old, new)
+}
+
+/// The keys of an application's global state whose values differ between a ledger with items prepared and the same one
+/// with items written.
+pub(crate) fn global_changes(
+    alloc: Global,
+    ledger: &Ledger,
+    prepared: &ItemMap,
+    writes: &ItemMap,
+    id: u64,
+) -> Result<Vec<KeyChange>, AllocError>
+    ensures { IfOk result (λ changes. let before = put ledger.now prepared.now in
+        changes_seen changes.items ≡ state_changes (global_entries (application_at before id))
+        (global_entries (application_at (put before writes.now) id))) }
+{
+    // The ledger's maps are in order.
+    ledger.holds();
+    let before = with_items_set(alloc, id, copy_of(ledger.global_state(id))?, prepared)?;
+    let after = with_items_set(alloc, id, copy_of(before.as_ref())?, writes)?;
+    option_changes(alloc, before.as_ref(), after.as_ref())
 }
 
 /// Appends changes as those of an account.
@@ -126,39 +150,53 @@ fn push_all(
 fn push_account(
     alloc: Global,
     changes: &mut Vec<LocalChange>,
-    before: &OpenLedger,
+    ledger: &Ledger,
+    prepared: &ItemMap,
     id: u64,
     place: &(Address, u64),
     state: &State,
 ) -> Result<(), AllocError>
-    ensures { OnOk result (local_seen changes.new.items
-        ≡ local_seen changes.old.items ++ account_changes before.now id (place.now, state.now)) }
+    ensures { OnOk result (local_seen changes.new.items ≡ local_seen changes.old.items
+        ++ account_changes (put ledger.now prepared.now) id (place.now, state.now)) }
 {
     let (account, application) = *place;
     if application != id {
         return Ok(());
     }
-    let found = match before.local_state(&account, id) {
+    let found = match local_state_with(ledger, prepared, &account, id) {
         Some(old) => key_changes(alloc, old.get(), state)?,
         None => key_changes(alloc, &State::new(alloc), state)?,
     };
     push_all(changes, &account, found)
 }
 
-/// The keys of an application's local states whose values differ between two ledgers, of the states that the second
-/// has.
+/// The keys of an application's local states whose values differ between a ledger with items prepared and the same one
+/// with items written, of the states that the second has. Only those that were written are looked at.
 pub(crate) fn local_changes(
     alloc: Global,
-    before: &OpenLedger,
-    after: &OpenLedger,
+    ledger: &Ledger,
+    prepared: &ItemMap,
+    writes: &ItemMap,
     id: u64,
 ) -> Result<Vec<LocalChange>, AllocError>
-    ensures { IfOk result (λ changes.
-        local_seen changes.items ≡ local_changes_along before.now id after.now.local_states) }
+    ensures { IfOk result (λ changes. let before = put ledger.now prepared.now in
+        local_seen changes.items
+        ≡ local_changes_along before id (put before writes.now).local_states) }
 {
+    // The ledger's maps are in order.
+    ledger.holds();
+    let written = ledger_of(alloc, writes)?;
     let mut changes = Vec::new(alloc);
-    for (place, state) in after.local_states() {
-        push_account(alloc, &mut changes, before, id, place, state.get())?;
+    for (place, state) in written.local_states() {
+        push_account(
+            alloc,
+            &mut changes,
+            ledger,
+            prepared,
+            id,
+            place,
+            state.get(),
+        )?;
     }
     Ok(changes)
 }

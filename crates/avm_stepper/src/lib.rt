@@ -16,6 +16,7 @@ mod stepper;
 mod stepping;
 mod view;
 mod viewing;
+mod written_state;
 
 pub use faults::{OpenError, OpenFault, StepError, StepFault};
 pub use laws::ledgers_before_are_replays;

@@ -177,8 +177,8 @@ impl Stepper {
         }
     }
 
-    /// What stands where the program stands. It makes the ledger before and after what the call has written so far,
-    /// which costs as much as the ledger is large.
+    /// What stands where the program stands. It costs what the machine holds, the application's global state and what
+    /// the call has written so far; of the rest of the ledger nothing is read.
     pub fn view(&self, alloc: Global) -> Result<View<'_>, ViewError>
         ensures { IsShown self.now result }
     {

@@ -6,7 +6,6 @@ ghost use Rattle.avm_run.specs.Showing.{sight_of};
 ghost use Rattle.avm_stepper.specs.Shown.{machine_by, machine_seen, next_by, next_seen, view_by, view_seen};
 
 use crate::changes::{global_changes, local_changes};
-use crate::prepared::{ledger_with, ledger_with_both};
 use crate::scratch::scratch_places;
 use crate::view::{MachineView, Next, View};
 use avm_items::ItemMap;
@@ -56,10 +55,9 @@ pub(crate) fn view_at<'a>(
     ensures { IfOk result
         (λ view. view_seen view ≡ view_by ledger.now prepared.now fault (sight_of shown.entry)) }
 {
-    let before = ledger_with(alloc, ledger, prepared)?;
-    let after = ledger_with_both(alloc, ledger, prepared, shown.writes)?;
-    let global_changes = global_changes(alloc, &before, &after, shown.application)?;
-    let local_changes = local_changes(alloc, &before, &after, shown.application)?;
+    let id = shown.application;
+    let global_changes = global_changes(alloc, ledger, prepared, shown.writes, id)?;
+    let local_changes = local_changes(alloc, ledger, prepared, shown.writes, id)?;
     let MachineView {
         place,
         next,
