@@ -2,7 +2,7 @@
 _avm_json() {
     local word=${COMP_WORDS[COMP_CWORD]}
     if ((COMP_CWORD == 1)); then
-        mapfile -t COMPREPLY < <(compgen -W 'lines show trace' -- "$word")
+        mapfile -t COMPREPLY < <(compgen -W 'lines show run trace' -- "$word")
     elif [[ ${COMP_WORDS[1]} == trace ]]; then
         mapfile -t COMPREPLY < <(compgen -W '--entry' -- "$word")
     fi

@@ -9,5 +9,8 @@ pub mod ListedLines
 pub mod ScratchRuns
 pub mod Weights
 pub mod StateRuns
-pub mod TraceTexts
+pub mod RunTraces
+pub mod CallTraces
+pub mod FoundTraces
+pub mod FoundReplies
 pub mod EntryNumbers

@@ -25,12 +25,12 @@ line_first (b ∷ bs) begun lt = elim (b == 10) as (λ t. (b == 10) ≡ t → li
       ∙ sym (ap₂ (λ line rest. (begun ++ line) ∷ lines_behind [] rest) front back))
 ] refl
 
--- where no line feed stands, no line ends
-pub no_line : (s begun : List ℕ) → position_or_len (λ b. b == 10) s ≡ length s → lines_behind begun s ≡ []
-no_line [] begun e = refl
-no_line (b ∷ bs) begun e = elim (b == 10) as (λ t. (b == 10) ≡ t → lines_behind begun (b ∷ bs) ≡ []) [
+-- where no line feed stands, all of it is the last part
+pub last_line : (s begun : List ℕ) → position_or_len (λ b. b == 10) s ≡ length s → lines_behind begun s ≡ (begun ++ s) ∷ []
+last_line [] begun e = ap (λ line. line ∷ []) (sym (append-nil begun))
+last_line (b ∷ bs) begun e = elim (b == 10) as (λ t. (b == 10) ≡ t → lines_behind begun (b ∷ bs) ≡ (begun ++ (b ∷ bs)) ∷ []) [
   | true ↦ λ h. absurd (omega (arith, rw h at e))
-  | false ↦ λ h. rw h (no_line bs (begun ++ (b ∷ [])) (omega (arith, rw h at e)))
+  | false ↦ λ h. rw h (last_line bs (begun ++ (b ∷ [])) (omega (arith, rw h at e)) ∙ ap (λ line. line ∷ []) (append_assoc begun (b ∷ []) bs))
 ] refl
 
 -- ---- written
@@ -47,6 +47,8 @@ line_written all old new rest line behind left wrote is more lt =
     ap (λ ts. ts ++ line_items behind) wrote.is ∙ append_assoc old (json_tokens (text line)) (line_items behind)
     ∙ ap (λ ls. old ++ items_tokens (items_of (map text ls))) (sym lines) ∙ left
 
--- no line is left
-pub lines_written : (all old : List Token) (rest : List ℕ) → old ++ line_items rest ≡ all → position_or_len (λ b. b == 10) rest ≡ length rest → old ++ (end_array ∷ []) ≡ all
-lines_written all old rest left none = ap (λ ls. old ++ items_tokens (items_of (map text ls))) (sym (no_line rest [] none)) ∙ left
+-- the last part is written, and the array is closed
+pub lines_written : (all old new closed : List Token) (rest : List ℕ) → old ++ line_items rest ≡ all → position_or_len (λ b. b == 10) rest ≡ length rest → Adds old new (json_tokens (text rest)) → Adds new closed (end_array ∷ []) → closed ≡ all
+lines_written all old new closed rest left none wrote ends =
+    ends.is ∙ ap (λ ts. ts ++ end_array ∷ []) wrote.is ∙ append_assoc old (json_tokens (text rest)) (end_array ∷ [])
+    ∙ ap (λ ls. old ++ items_tokens (items_of (map text ls))) (sym (last_line rest [] none)) ∙ left

@@ -5,9 +5,9 @@ use Rattle.teal_check.specs.WellFormed.{WellFormed}
 use Rattle.teal_dis.specs.Listing.{listing}
 use Rattle.json_views.specs.Documents.{array_of, text}
 
--- the lines of a text behind what has come of one already; each is ended by a line feed
+-- the parts of a text between its line feeds, behind what has come of one already; what ends with one has an empty last part
 abbrev pub lines_behind : List ℕ → List ℕ → List (List ℕ)
-lines_behind begun [] = []
+lines_behind begun [] = begun ∷ []
 lines_behind begun (b ∷ bs) = if b == 10 then begun ∷ lines_behind [] bs else lines_behind (begun ++ (b ∷ [])) bs
 
 abbrev pub lines_of : List ℕ → List (List ℕ)

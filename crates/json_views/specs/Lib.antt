@@ -12,8 +12,11 @@ pub mod Show
 pub mod MachineStates
 pub mod Changes
 pub mod Disassembly
+pub mod Weights
 pub mod Traces
+pub mod CallTraces
 pub mod TraceReplies
+pub mod Runs
 pub mod ValueTokens
 pub mod StateRuns
 pub mod Commands

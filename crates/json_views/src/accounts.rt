@@ -8,14 +8,15 @@ ghost use Rattle.json_views.specs.ShownLedgers.{shown_accounts};
 
 use crate::by_account::{close, turn_to};
 use crate::states::put_state;
-use crate::writing::{begin_array, begin_object, end_array, end_object, put_name, put_uint_member};
+use crate::writing::{
+    Writer, begin_array, begin_object, end_array, end_object, put_name, put_uint_member,
+};
 use avm_ledger::Ledger;
 use avm_states::State;
-use json::Pretty;
 use std::alloc::{AllocError, Global};
 
 /// The array of the accounts that have local states in a ledger, by rising address.
-pub fn put_accounts(alloc: Global, out: &mut Pretty, ledger: &Ledger) -> Result<(), AllocError>
+pub fn put_accounts(alloc: Global, out: &mut Writer, ledger: &Ledger) -> Result<(), AllocError>
     ensures { OnOk result (Adds out.old out.new (json_tokens (shown_accounts ledger.now))) }
 {
     begin_array(out)?;
@@ -30,7 +31,7 @@ pub fn put_accounts(alloc: Global, out: &mut Pretty, ledger: &Ledger) -> Result<
     end_array(out)
 }
 
-fn put_local(alloc: Global, out: &mut Pretty, id: u64, state: &State) -> Result<(), AllocError>
+fn put_local(alloc: Global, out: &mut Writer, id: u64, state: &State) -> Result<(), AllocError>
     ensures { OnOk result (Adds out.old out.new (json_tokens (shown_local (id, state.now)))) }
 {
     begin_object(out)?;

@@ -8,16 +8,15 @@ ghost use Rattle.json_views.specs.ShownLedgers.{shown_applications};
 
 use crate::states::put_state;
 use crate::writing::{
-    begin_array, begin_object, end_array, end_object, put_address_member, put_base64_member,
-    put_name, put_uint_member,
+    Writer, begin_array, begin_object, end_array, end_object, put_address_member,
+    put_base64_member, put_name, put_uint_member,
 };
 use avm_ledger::{Ledger, StoredApplication};
 use avm_states::Schema;
-use json::Pretty;
 use std::alloc::{AllocError, Global};
 
 /// The array of a ledger's applications, by rising id.
-pub fn put_applications(alloc: Global, out: &mut Pretty, ledger: &Ledger) -> Result<(), AllocError>
+pub fn put_applications(alloc: Global, out: &mut Writer, ledger: &Ledger) -> Result<(), AllocError>
     ensures { OnOk result (Adds out.old out.new (json_tokens (shown_applications ledger.now))) }
 {
     begin_array(out)?;
@@ -29,7 +28,7 @@ pub fn put_applications(alloc: Global, out: &mut Pretty, ledger: &Ledger) -> Res
 
 fn put_application(
     alloc: Global,
-    out: &mut Pretty,
+    out: &mut Writer,
     id: u64,
     application: &StoredApplication,
 ) -> Result<(), AllocError>
@@ -45,7 +44,7 @@ fn put_application(
 
 fn put_params(
     alloc: Global,
-    out: &mut Pretty,
+    out: &mut Writer,
     application: &StoredApplication,
 ) -> Result<(), AllocError>
     ensures { OnOk result (Adds out.old out.new (json_tokens (shown_params application.now))) }
@@ -64,7 +63,7 @@ fn put_params(
     end_object(out)
 }
 
-fn put_schema(out: &mut Pretty, schema: Schema) -> Result<(), AllocError>
+fn put_schema(out: &mut Writer, schema: Schema) -> Result<(), AllocError>
     ensures { OnOk result (Adds out.old out.new (json_tokens (shown_schema schema))) }
 {
     begin_object(out)?;

@@ -14,14 +14,13 @@ use crate::accounts::put_accounts;
 use crate::applications::put_applications;
 use crate::call::put_call;
 use crate::writing::{
-    begin_array, begin_object, end_array, end_object, put_digits_member, put_name, put_text_member,
-    put_uint_member,
+    Writer, begin_array, begin_object, end_array, end_object, put_digits_member, put_name,
+    put_text_member, put_uint_member,
 };
 use avm_block::{Block, BlockError, Entry, decode};
 use avm_input::outcome_text;
 use avm_ledger::{Header, Profile};
 use avm_replay::Base;
-use json::Pretty;
 use std::alloc::{AllocError, Global};
 use std::marker::Model;
 
@@ -81,7 +80,7 @@ fn last_digest(bytes: &[u8], block: &Block) -> [u8; 32]
 /// The document of a ledger and a block.
 pub fn put_both(
     alloc: Global,
-    out: &mut Pretty,
+    out: &mut Writer,
     base: &Base,
     block: &DigestedBlock,
 ) -> Result<(), AllocError>
@@ -103,7 +102,7 @@ pub fn put_both(
 
 fn put_digests(
     alloc: Global,
-    out: &mut Pretty,
+    out: &mut Writer,
     base: &Base,
     block: &DigestedBlock,
 ) -> Result<(), AllocError>
@@ -118,7 +117,7 @@ fn put_digests(
 }
 
 /// The members of a header, and the next id of the ledger among them, since members are by rising name.
-fn put_header(out: &mut Pretty, header: &Header, next_id: u64) -> Result<(), AllocError>
+fn put_header(out: &mut Writer, header: &Header, next_id: u64) -> Result<(), AllocError>
     ensures { OnOk result
         (Adds out.old out.new (member_tokens (header_members header.now next_id))) }
 {
@@ -140,7 +139,7 @@ fn profile_number(profile: Profile) -> u64
     }
 }
 
-fn put_entries(alloc: Global, out: &mut Pretty, entries: &[Entry]) -> Result<(), AllocError>
+fn put_entries(alloc: Global, out: &mut Writer, entries: &[Entry]) -> Result<(), AllocError>
     ensures { OnOk result
         (Adds out.old out.new (json_tokens (array_of shown_block_entry entries.now))) }
 {
@@ -151,7 +150,7 @@ fn put_entries(alloc: Global, out: &mut Pretty, entries: &[Entry]) -> Result<(),
     end_array(out)
 }
 
-fn put_entry(alloc: Global, out: &mut Pretty, entry: &Entry) -> Result<(), AllocError>
+fn put_entry(alloc: Global, out: &mut Writer, entry: &Entry) -> Result<(), AllocError>
     ensures { OnOk result (Adds out.old out.new (json_tokens (shown_block_entry entry.now))) }
 {
     let outcome = outcome_text(alloc, entry.outcome)?;

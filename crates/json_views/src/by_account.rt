@@ -8,9 +8,8 @@ ghost use Rattle.json_views.specs.Writing.{Adds};
 ghost use Rattle.json_views.specs.AccountTokens.{closing_tokens, opening_tokens, turning_tokens};
 
 use crate::writing::{
-    begin_array, begin_object, end_array, end_object, put_address_member, put_name,
+    Writer, begin_array, begin_object, end_array, end_object, put_address_member, put_name,
 };
-use json::Pretty;
 use std::alloc::{AllocError, Global};
 use teal_value::Address;
 
@@ -18,7 +17,7 @@ use teal_value::Address;
 /// belongs to it is the member of a name.
 pub fn turn_to(
     alloc: Global,
-    out: &mut Pretty,
+    out: &mut Writer,
     name: &str,
     current: Option<Address>,
     who: Address,
@@ -42,7 +41,7 @@ fn is_same(before: &Address, who: &Address) -> bool
 }
 
 /// Closes the current account, if there is one.
-pub fn close(out: &mut Pretty, current: Option<Address>) -> Result<(), AllocError>
+pub fn close(out: &mut Writer, current: Option<Address>) -> Result<(), AllocError>
     ensures { OnOk result (Adds out.old out.new (closing_tokens current)) }
 {
     match current {
@@ -54,7 +53,7 @@ pub fn close(out: &mut Pretty, current: Option<Address>) -> Result<(), AllocErro
 /// All of an account up to what belongs to it.
 fn begin_account(
     alloc: Global,
-    out: &mut Pretty,
+    out: &mut Writer,
     name: &str,
     who: &Address,
 ) -> Result<(), AllocError>
@@ -66,7 +65,7 @@ fn begin_account(
     begin_array(out)
 }
 
-fn end_account(out: &mut Pretty) -> Result<(), AllocError>
+fn end_account(out: &mut Writer) -> Result<(), AllocError>
     ensures { OnOk result (Adds out.old out.new (end_array ∷ end_object ∷ [])) }
 {
     end_array(out)?;

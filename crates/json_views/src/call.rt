@@ -8,17 +8,16 @@ ghost use Rattle.json_views.specs.Documents.{address, array_of, base64, uint};
 ghost use Rattle.json_views.specs.ShownCalls.{application_members, are_zeros, array_if_any, authority_if_any, bytes_if_any, lease_if_any, schema_if_any, sender_members, shown_call, target_members, term_members, uint_if_any};
 
 use crate::writing::{
-    begin_array, begin_object, end_array, end_object, put_address, put_address_member, put_base64,
-    put_base64_member, put_name, put_text_member, put_uint, put_uint_member,
+    Writer, begin_array, begin_object, end_array, end_object, put_address, put_address_member,
+    put_base64, put_base64_member, put_name, put_text_member, put_uint, put_uint_member,
 };
 use avm_items::CallData;
 use avm_states::Schema;
-use json::Pretty;
 use std::alloc::{AllocError, Global};
 use teal_value::{Address, ByteString};
 
 /// A call, as the object of its members.
-pub fn put_call(alloc: Global, out: &mut Pretty, call: &CallData) -> Result<(), AllocError>
+pub fn put_call(alloc: Global, out: &mut Writer, call: &CallData) -> Result<(), AllocError>
     ensures { OnOk result (Adds out.old out.new (json_tokens (shown_call call.now))) }
 {
     begin_object(out)?;
@@ -30,7 +29,7 @@ pub fn put_call(alloc: Global, out: &mut Pretty, call: &CallData) -> Result<(), 
 }
 
 /// The members of what a call is made with, and the approval program that it brings.
-fn put_target(alloc: Global, out: &mut Pretty, call: &CallData) -> Result<(), AllocError>
+fn put_target(alloc: Global, out: &mut Writer, call: &CallData) -> Result<(), AllocError>
     ensures { OnOk result (AddsMembers out.old out.new (target_members call.now)) }
 {
     put_bytes_list(alloc, out, "apaa", call.arguments.as_slice())?;
@@ -41,7 +40,7 @@ fn put_target(alloc: Global, out: &mut Pretty, call: &CallData) -> Result<(), Al
 }
 
 /// The members of the application and its schemas, and the clear state program that a call brings.
-fn put_application(alloc: Global, out: &mut Pretty, call: &CallData) -> Result<(), AllocError>
+fn put_application(alloc: Global, out: &mut Writer, call: &CallData) -> Result<(), AllocError>
     ensures { OnOk result (AddsMembers out.old out.new (application_members call.now)) }
 {
     put_schema_if_any(out, "apgs", call.global_schema)?;
@@ -51,7 +50,7 @@ fn put_application(alloc: Global, out: &mut Pretty, call: &CallData) -> Result<(
 }
 
 /// The members of fee, rounds, lease, note and new authority.
-fn put_terms(alloc: Global, out: &mut Pretty, call: &CallData) -> Result<(), AllocError>
+fn put_terms(alloc: Global, out: &mut Writer, call: &CallData) -> Result<(), AllocError>
     ensures { OnOk result (AddsMembers out.old out.new (term_members call.now)) }
 {
     put_uint_if_any(out, "fee", call.fee)?;
@@ -62,14 +61,14 @@ fn put_terms(alloc: Global, out: &mut Pretty, call: &CallData) -> Result<(), All
     put_authority(alloc, out, &call.rekey_to)
 }
 
-fn put_sender(alloc: Global, out: &mut Pretty, sender: &Address) -> Result<(), AllocError>
+fn put_sender(alloc: Global, out: &mut Writer, sender: &Address) -> Result<(), AllocError>
     ensures { OnOk result (AddsMembers out.old out.new (sender_members sender.now)) }
 {
     put_address_member(alloc, out, "snd", sender)?;
     put_text_member(out, "type", "appl")
 }
 
-fn put_uint_if_any(out: &mut Pretty, name: &str, number: u64) -> Result<(), AllocError>
+fn put_uint_if_any(out: &mut Writer, name: &str, number: u64) -> Result<(), AllocError>
     ensures { OnOk result (AddsMembers out.old out.new (uint_if_any name.now number)) }
 {
     if number == 0 {
@@ -80,7 +79,7 @@ fn put_uint_if_any(out: &mut Pretty, name: &str, number: u64) -> Result<(), Allo
 
 fn put_bytes_if_any(
     alloc: Global,
-    out: &mut Pretty,
+    out: &mut Writer,
     name: &str,
     bytes: &[u8],
 ) -> Result<(), AllocError>
@@ -92,7 +91,7 @@ fn put_bytes_if_any(
     put_base64_member(alloc, out, name, bytes)
 }
 
-fn put_lease(alloc: Global, out: &mut Pretty, lease: &[u8; 32]) -> Result<(), AllocError>
+fn put_lease(alloc: Global, out: &mut Writer, lease: &[u8; 32]) -> Result<(), AllocError>
     ensures { OnOk result (AddsMembers out.old out.new (lease_if_any lease.now)) }
 {
     if are_zeros(lease) {
@@ -101,7 +100,7 @@ fn put_lease(alloc: Global, out: &mut Pretty, lease: &[u8; 32]) -> Result<(), Al
     put_base64_member(alloc, out, "lx", lease)
 }
 
-fn put_authority(alloc: Global, out: &mut Pretty, who: &Address) -> Result<(), AllocError>
+fn put_authority(alloc: Global, out: &mut Writer, who: &Address) -> Result<(), AllocError>
     ensures { OnOk result (AddsMembers out.old out.new (authority_if_any who.now)) }
 {
     if are_zeros(&who.0) {
@@ -117,7 +116,7 @@ fn are_zeros(bytes: &[u8]) -> bool
 }
 
 /// A schema that is not empty, and of it the numbers that are not 0.
-fn put_schema_if_any(out: &mut Pretty, name: &str, schema: Schema) -> Result<(), AllocError>
+fn put_schema_if_any(out: &mut Writer, name: &str, schema: Schema) -> Result<(), AllocError>
     ensures { OnOk result (AddsMembers out.old out.new (schema_if_any name.now schema)) }
 {
     let bytes = u64::from(schema.bytes);
@@ -135,7 +134,7 @@ fn put_schema_if_any(out: &mut Pretty, name: &str, schema: Schema) -> Result<(),
 /// Byte strings, if there are any.
 fn put_bytes_list(
     alloc: Global,
-    out: &mut Pretty,
+    out: &mut Writer,
     name: &str,
     strings: &[ByteString],
 ) -> Result<(), AllocError>
@@ -150,7 +149,7 @@ fn put_bytes_list(
 
 fn put_bytes_items(
     alloc: Global,
-    out: &mut Pretty,
+    out: &mut Writer,
     strings: &[ByteString],
 ) -> Result<(), AllocError>
     ensures { OnOk result (Adds out.old out.new (json_tokens (array_of base64 strings.now))) }
@@ -165,7 +164,7 @@ fn put_bytes_items(
 /// Addresses, if there are any.
 fn put_address_list(
     alloc: Global,
-    out: &mut Pretty,
+    out: &mut Writer,
     name: &str,
     addresses: &[Address],
 ) -> Result<(), AllocError>
@@ -181,7 +180,7 @@ fn put_address_list(
 
 fn put_address_items(
     alloc: Global,
-    out: &mut Pretty,
+    out: &mut Writer,
     addresses: &[Address],
 ) -> Result<(), AllocError>
     ensures { OnOk result (Adds out.old out.new (json_tokens (array_of address addresses.now))) }
@@ -194,7 +193,7 @@ fn put_address_items(
 }
 
 /// Numbers, if there are any.
-fn put_uint_list(out: &mut Pretty, name: &str, numbers: &[u64]) -> Result<(), AllocError>
+fn put_uint_list(out: &mut Writer, name: &str, numbers: &[u64]) -> Result<(), AllocError>
     ensures { OnOk result (AddsMembers out.old out.new (array_if_any name.now uint numbers.now)) }
 {
     if numbers.is_empty() {
@@ -204,7 +203,7 @@ fn put_uint_list(out: &mut Pretty, name: &str, numbers: &[u64]) -> Result<(), Al
     put_uint_items(out, numbers)
 }
 
-fn put_uint_items(out: &mut Pretty, numbers: &[u64]) -> Result<(), AllocError>
+fn put_uint_items(out: &mut Writer, numbers: &[u64]) -> Result<(), AllocError>
     ensures { OnOk result (Adds out.old out.new (json_tokens (array_of uint numbers.now))) }
 {
     begin_array(out)?;

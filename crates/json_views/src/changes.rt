@@ -8,10 +8,10 @@ ghost use Rattle.json_views.specs.Changes.{shown_change, shown_delta, shown_glob
 
 use crate::by_account::{close, turn_to};
 use crate::writing::{
-    begin_array, begin_object, end_array, end_object, put_base64_member, put_name, put_uint_member,
+    Writer, begin_array, begin_object, end_array, end_object, put_base64_member, put_name,
+    put_uint_member,
 };
 use avm_stepper::{KeyChange, LocalChange};
-use json::Pretty;
 use std::alloc::{AllocError, Global};
 use teal_value::{StateKey, Value};
 
@@ -27,7 +27,7 @@ const DELETE: u64 = 3;
 /// The changes of the global state, by rising key.
 pub(crate) fn put_global_delta(
     alloc: Global,
-    out: &mut Pretty,
+    out: &mut Writer,
     changes: &[KeyChange],
 ) -> Result<(), AllocError>
     ensures { OnOk result
@@ -43,7 +43,7 @@ pub(crate) fn put_global_delta(
 /// The changes of local states, an object for each account, by rising address and key.
 pub(crate) fn put_local_deltas(
     alloc: Global,
-    out: &mut Pretty,
+    out: &mut Writer,
     changes: &[LocalChange],
 ) -> Result<(), AllocError>
     ensures { OnOk result
@@ -63,7 +63,7 @@ pub(crate) fn put_local_deltas(
 
 fn put_change(
     alloc: Global,
-    out: &mut Pretty,
+    out: &mut Writer,
     key: &StateKey,
     now: &Option<Value>,
 ) -> Result<(), AllocError>
@@ -77,7 +77,7 @@ fn put_change(
     end_object(out)
 }
 
-fn put_delta(alloc: Global, out: &mut Pretty, now: &Option<Value>) -> Result<(), AllocError>
+fn put_delta(alloc: Global, out: &mut Writer, now: &Option<Value>) -> Result<(), AllocError>
     ensures { OnOk result (Adds out.old out.new (json_tokens (shown_delta now.now))) }
 {
     begin_object(out)?;

@@ -7,6 +7,7 @@ ghost use Rattle.avm_input.specs.Shown.{reply_shown};
 ghost use Rattle.avm_input.specs.CommandLine.{u64_of};
 ghost use Rattle.json_views.specs.Commands.{IsJsonReply, command_in, command_named, trace_of, usage_reply};
 
+use crate::run::run_reply;
 use crate::show::show_reply;
 use crate::trace_replies::trace_reply;
 use avm_input::{FAILED, INPUT_LIMIT, Reply, USAGE, input_refusal, read_input, write_reply};
@@ -16,7 +17,7 @@ use json_documents::lines_reply;
 use std::alloc::{AllocError, Global};
 use std::io::{self, Read, Write};
 
-const USAGE_TEXT: &str = "usage: avm_json lines|show|trace\n";
+const USAGE_TEXT: &str = "usage: avm_json lines|show|run|trace [--entry N]\n";
 
 /// A command of the program.
 #[derive(Clone, Copy, Debug, PartialEq, Eq)]
@@ -25,8 +26,10 @@ pub enum JsonCommand {
     Lines,
     /// Shows a ledger, or a ledger and a block, as a document.
     Show,
-    /// Shows what each instruction of an entry's call did. Entries are numbered from 1.
-    Trace(u64),
+    /// Makes the calls of a document, and shows what each of them did.
+    Run,
+    /// Shows what each call of a block did, or the call of an entry. Entries are numbered from 1.
+    Trace(Option<u64>),
 }
 
 /// Executes the command that the words after the program's name are, and gives the exit status.
@@ -94,6 +97,8 @@ fn command_named(word: &str) -> Option<JsonCommand>
     match word {
         "lines" => Some(JsonCommand::Lines),
         "show" => Some(JsonCommand::Show),
+        "run" => Some(JsonCommand::Run),
+        "trace" => Some(JsonCommand::Trace(None)),
         _ => None,
     }
 }
@@ -105,7 +110,7 @@ fn trace_of(word: &str, option: &str, number: &str) -> Option<JsonCommand>
     if word != "trace" || option != "--entry" {
         return None;
     }
-    Some(JsonCommand::Trace(number_in(number)?))
+    Some(JsonCommand::Trace(Some(number_in(number)?)))
 }
 
 /// The number below 2^64 that decimal digits write, behind a plus or none.
@@ -144,6 +149,7 @@ fn command_reply<O: Op>(
     match command {
         JsonCommand::Lines => lines_reply(alloc, input.as_slice()),
         JsonCommand::Show => show_reply(alloc, input.as_slice()),
+        JsonCommand::Run => run_reply(alloc, input.as_slice(), ops),
         JsonCommand::Trace(entry) => trace_reply(alloc, entry, input, ops),
     }
 }

@@ -5,16 +5,15 @@ ghost use Rattle.json.specs.Tree.{json_tokens};
 ghost use Rattle.json_views.specs.Writing.{Adds};
 ghost use Rattle.json_views.specs.Disassembly.{shown_disassembly, shown_lines};
 
-use crate::writing::{begin_array, end_array, put_text};
-use json::Pretty;
+use crate::writing::{Writer, begin_array, end_array, put_text};
 use std::alloc::{AllocError, Global};
 use teal_check::Program;
 use teal_dis::list;
 
-/// The listing of a program, an item a line.
+/// The listing of a program, an item a line, and an empty item behind its last line feed: the line of the program's end.
 pub(crate) fn put_disassembly(
     alloc: Global,
-    out: &mut Pretty,
+    out: &mut Writer,
     program: &Program,
 ) -> Result<(), AllocError>
     ensures { OnOk result (Adds out.old out.new (json_tokens (shown_disassembly program.now))) }
@@ -23,8 +22,8 @@ pub(crate) fn put_disassembly(
     put_lines(out, listing.as_str())
 }
 
-/// The lines of a text that are ended by a line feed.
-fn put_lines(out: &mut Pretty, text: &str) -> Result<(), AllocError>
+/// The parts of a text between its line feeds.
+fn put_lines(out: &mut Writer, text: &str) -> Result<(), AllocError>
     ensures { OnOk result (Adds out.old out.new (json_tokens (shown_lines text.now))) }
 {
     begin_array(out)?;
@@ -33,5 +32,6 @@ fn put_lines(out: &mut Pretty, text: &str) -> Result<(), AllocError>
         put_text(out, line)?;
         rest = behind;
     }
+    put_text(out, rest)?;
     end_array(out)
 }

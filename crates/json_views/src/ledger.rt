@@ -7,13 +7,14 @@ ghost use Rattle.json_views.specs.ShownLedgers.{shown_ledger};
 
 use crate::accounts::put_accounts;
 use crate::applications::put_applications;
-use crate::writing::{begin_object, end_object, put_digits_member, put_name, put_uint_member};
+use crate::writing::{
+    Writer, begin_object, end_object, put_digits_member, put_name, put_uint_member,
+};
 use avm_replay::Base;
-use json::Pretty;
 use std::alloc::{AllocError, Global};
 
 /// The document of a ledger.
-pub fn put_ledger(alloc: Global, out: &mut Pretty, base: &Base) -> Result<(), AllocError>
+pub fn put_ledger(alloc: Global, out: &mut Writer, base: &Base) -> Result<(), AllocError>
     ensures { OnOk result (Adds out.old out.new (json_tokens (shown_ledger base.now))) }
 {
     let ledger = base.ledger();

@@ -4,10 +4,10 @@
 //! What a ledger is shown as stands in `specs/ShownLedgers.antt`, and a block in `specs/ShownBlocks.antt`, over the parts in
 //! the other files of `specs/`. Documents are written token by token, so that no second form of a ledger stands in memory.
 //!
-//! What each instruction of an entry's call did is a document too, in the words of dry-run responses: what `avm_json trace`
-//! answers (`specs/TraceReplies.antt`). What a trace is stands in `specs/Traces.antt`. Its states are those that the debugger
-//! shows (`avm_stepper`), from before the first instruction to the fault or the end. They are written one after another, and
-//! none is kept.
+//! What calls do is a document too, in the words of dry-run responses: what `avm_json run` answers for the calls of a document
+//! (`specs/Runs.antt`), and `avm_json trace` for those of a block (`specs/TraceReplies.antt`). What the trace of a call is stands in
+//! `specs/Traces.antt`. Its states are those that the debugger shows (`avm_stepper`), from before the first instruction to the
+//! fault or the end. They are written one after another, and none is kept.
 //!
 //! The commands of the program `avm_json` stand here too (`commands`), and not in the program: a program is dear to prove, and its
 //! must-fail edits would prove it again.
@@ -18,22 +18,24 @@ mod applications;
 mod block;
 pub mod by_account;
 mod call;
+mod call_trace;
 mod changes;
 mod commands;
 mod disassembly;
 mod ledger;
 mod machine;
 mod refusal;
+mod run;
 mod show;
 mod states;
 mod trace;
 mod trace_replies;
 mod trace_states;
-mod weight;
 pub mod writing;
 
 pub use commands::{JsonCommand, answer};
 pub use refusal::TraceRefusal;
+pub use run::run_reply;
 pub use show::show_reply;
 pub use states::put_value;
 pub use trace_replies::trace_reply;

@@ -14,10 +14,10 @@ ghost use Rattle.json_views.specs.ValueTokens.{value_tokens};
 
 use crate::states::put_value;
 use crate::writing::{
-    begin_array, begin_object, end_array, end_object, put_name, put_text_member, put_uint_member,
+    Writer, begin_array, begin_object, end_array, end_object, put_name, put_text_member,
+    put_uint_member,
 };
 use avm_stepper::{MachineView, Next, ScratchPlace};
-use json::Pretty;
 use std::alloc::{AllocError, Global};
 use teal_check::Program;
 use teal_value::Value;
@@ -25,7 +25,7 @@ use teal_value::Value;
 /// What the machine holds, by the lines of the program's listing.
 pub(crate) fn put_state(
     alloc: Global,
-    out: &mut Pretty,
+    out: &mut Writer,
     program: &Program,
     lines: &[u16],
     view: &MachineView<'_>,
@@ -59,7 +59,7 @@ fn line_at(program: &Program, lines: &[u16], place: u16) -> u16
 }
 
 /// The fault of the instruction that stands there, if it has faulted.
-fn put_error(out: &mut Pretty, next: &Next<'_>) -> Result<(), AllocError>
+fn put_error(out: &mut Writer, next: &Next<'_>) -> Result<(), AllocError>
     ensures { OnOk result
         (Adds out.old out.new (member_tokens (error_members (next_seen next.now)))) }
 {
@@ -71,7 +71,7 @@ fn put_error(out: &mut Pretty, next: &Next<'_>) -> Result<(), AllocError>
 }
 
 /// The array of values.
-fn put_values(alloc: Global, out: &mut Pretty, values: &[Value]) -> Result<(), AllocError>
+fn put_values(alloc: Global, out: &mut Writer, values: &[Value]) -> Result<(), AllocError>
     ensures { OnOk result
         (Adds out.old out.new (json_tokens (array_of shown_value values.now))) }
 {
@@ -83,7 +83,7 @@ fn put_values(alloc: Global, out: &mut Pretty, values: &[Value]) -> Result<(), A
 }
 
 /// The array of a scratch space up to the last place that is not the uint 0.
-fn put_scratch(alloc: Global, out: &mut Pretty, places: &[ScratchPlace]) -> Result<(), AllocError>
+fn put_scratch(alloc: Global, out: &mut Writer, places: &[ScratchPlace]) -> Result<(), AllocError>
     ensures { OnOk result (Adds out.old out.new
         (json_tokens (array_of shown_value (filled 0 (places_seen places.now))))) }
 {
@@ -99,7 +99,7 @@ fn put_scratch(alloc: Global, out: &mut Pretty, places: &[ScratchPlace]) -> Resu
 }
 
 /// The uint 0 at each place from one on and below another.
-fn put_zeros(alloc: Global, out: &mut Pretty, from: u16, to: u16) -> Result<(), AllocError>
+fn put_zeros(alloc: Global, out: &mut Writer, from: u16, to: u16) -> Result<(), AllocError>
     ensures { OnOk result
         (Adds out.old out.new (value_tokens (replicate (to - from) (Uint 0)))) }
 {

@@ -11,10 +11,9 @@ ghost use Rattle.json_views.specs.Writing.{Adds};
 
 use crate::block::{DigestedBlock, put_both};
 use crate::ledger::put_ledger;
-use crate::writing::document_text;
+use crate::writing::{Writer, document_text};
 use avm_input::{DONE, DigitLines, Refusal, Reply, next_base, refusal_reply};
 use avm_replay::Base;
-use json::Pretty;
 use std::alloc::{AllocError, Global};
 use teal_value::Failure;
 
@@ -37,7 +36,7 @@ fn document_reply(
 ) -> Result<Reply, AllocError>
     ensures { IfOk result (λ reply. reply_shown reply ≡ shown_reply (Ok (base.now, block.now))) }
 {
-    let mut out = Pretty::new(alloc);
+    let mut out = Writer::new(alloc);
     put_document(alloc, &mut out, base, block)?;
     let text = document_text(out)?;
     Ok(Reply {
@@ -48,7 +47,7 @@ fn document_reply(
 
 fn put_document(
     alloc: Global,
-    out: &mut Pretty,
+    out: &mut Writer,
     base: &Base,
     block: &Option<DigestedBlock>,
 ) -> Result<(), AllocError>

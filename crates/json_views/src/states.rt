@@ -6,11 +6,10 @@ ghost use Rattle.json_views.specs.Writing.{Adds};
 ghost use Rattle.json_views.specs.States.{shown_entry, shown_state, shown_value};
 
 use crate::writing::{
-    begin_array, begin_object, end_array, end_object, put_base64_member, put_name, put_text_member,
-    put_uint_member,
+    Writer, begin_array, begin_object, end_array, end_object, put_base64_member, put_name,
+    put_text_member, put_uint_member,
 };
 use avm_states::State;
-use json::Pretty;
 use std::alloc::{AllocError, Global};
 use teal_value::{StateKey, Value};
 
@@ -21,7 +20,7 @@ const BYTE_STRING: u64 = 1;
 const UINT: u64 = 2;
 
 /// A state: the array of its entries by rising key.
-pub fn put_state(alloc: Global, out: &mut Pretty, state: &State) -> Result<(), AllocError>
+pub fn put_state(alloc: Global, out: &mut Writer, state: &State) -> Result<(), AllocError>
     ensures { OnOk result (Adds out.old out.new (json_tokens (shown_state state.now))) }
 {
     begin_array(out)?;
@@ -33,7 +32,7 @@ pub fn put_state(alloc: Global, out: &mut Pretty, state: &State) -> Result<(), A
 
 fn put_entry(
     alloc: Global,
-    out: &mut Pretty,
+    out: &mut Writer,
     key: &StateKey,
     value: &Value,
 ) -> Result<(), AllocError>
@@ -47,7 +46,7 @@ fn put_entry(
 }
 
 /// A value: its type, and its bytes or its number, each beside an empty other one.
-pub fn put_value(alloc: Global, out: &mut Pretty, value: &Value) -> Result<(), AllocError>
+pub fn put_value(alloc: Global, out: &mut Writer, value: &Value) -> Result<(), AllocError>
     ensures { OnOk result (Adds out.old out.new (json_tokens (shown_value value.now))) }
 {
     begin_object(out)?;

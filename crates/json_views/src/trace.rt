@@ -1,42 +1,33 @@
-//! The trace of an entry's call.
+//! The traces of the calls of a block, or of one of its entries.
 
-ghost use Rattle.std.specs.Prelude.{◌≡◌, ◌∷◌, [], IfErr, IfOk, OnOk, string_bytes};
-ghost use Rattle.json.specs.Tree.{json_tokens};
+ghost use Rattle.std.specs.Prelude.{◌≡◌, IfErr, IfOk, OnOk, Some, map, string_bytes};
+ghost use Rattle.avm_ledger.specs.Spellings.{ledger_digest};
 ghost use Rattle.avm_stepper.specs.Opening.{IsOpened};
-ghost use Rattle.avm_input.specs.Outcomes.{outcome_text};
-ghost use Rattle.json_views.specs.Documents.{member_tokens, text};
-ghost use Rattle.json_views.specs.Writing.{Adds};
-ghost use Rattle.json_views.specs.StateRuns.{AddsEnd, AddsRun, FindsText, IsAtStart, IsProgramIn, IsStartOf, IsStatesFailure, IsTraceFailure, IsTraceRefused, IsTraceText};
-ghost use Rattle.json_views.specs.Traces.{program_name, shown_messages, verdict_word};
+ghost use Rattle.json_views.specs.CallTraces.{AddsTraces, FindsRefusal, FindsText, IsTextFailure, IsTextWithin, IsTracesFailure, array_tokens, response_tokens};
+ghost use Rattle.json_views.specs.StateRuns.{AddsTrace, IsStartOver, IsTraceFailure};
+ghost use Rattle.json_views.specs.Traces.{FindsBlock, FindsEntry};
 
-use crate::changes::{put_global_delta, put_local_deltas};
-use crate::disassembly::put_disassembly;
+use crate::call_trace::{Ending, Traced, put_call_trace, put_run_trace};
 use crate::refusal::TraceRefusal;
-use crate::trace_states::{TEXT_LIMIT, put_states};
 use crate::writing::{
-    begin_array, begin_object, document_text, end_array, end_object, put_name, put_text,
+    TEXT_LIMIT, Writer, begin_array, begin_object, document_text, end_array, end_object, put_name,
     put_text_member,
 };
 use avm_block::{Block, Entry};
-use avm_call::Outcome;
-use avm_input::outcome_text;
-use avm_items::Completion;
-use avm_ledger::{Header, Ledger};
+use avm_ledger::Ledger;
 use avm_ops::Op;
+use avm_replay::Base;
 use avm_run::{Executions, FullOps, RunContext, call_plain};
-use avm_stepper::{Stepper, entry_of};
-use json::Pretty;
-use std::alloc::{AllocError, Global};
+use avm_stepper::{OpenFault, Stepper, entry_of};
+use std::alloc::Global;
 use std::marker::Brand;
 use std::sync::ledger;
 use std::sync::ledger::Blank;
-use teal_check::Program;
-use teal_dis::line_numbers;
 use teal_value::Failure;
 
 /// The text of the trace of a block's entry over the ledger before the block, or why there is none. Entries are numbered
 /// from 1.
-pub(crate) fn trace_found<O: Op>(
+pub(crate) fn entry_trace<O: Op>(
     alloc: Global,
     ledger: &Ledger,
     block: &Block,
@@ -44,19 +35,21 @@ pub(crate) fn trace_found<O: Op>(
     ops: &FullOps<O>,
 ) -> Result<String, Failure<TraceRefusal>>
     ensures found { IfOk result
-        (λ text. FindsText (ledger.now, block.now) number (string_bytes text)) }
-    ensures refused { IfErr result (IsTraceRefused ledger.now block.now number) }
+        (λ text. FindsText (FindsEntry (ledger.now, block.now) number) (string_bytes text)) }
+    ensures refused { IfErr result (FindsRefusal (FindsEntry (ledger.now, block.now) number)) }
 {
     let mut stepper = opened(alloc, ledger, block, number, ops)?;
     let Some(entry) = entry_of(block.entries(), number) else {
         unreachable!()
     };
-    let blank = Blank::new(2);
-    let text = trace_text::<Brand, O>(alloc, &mut stepper, entry, block.header(), ops, blank)?;
-    if text.len() as u64 > TEXT_LIMIT {
-        return Err(Failure::Fault(TraceRefusal::TooLong));
-    }
-    Ok(text)
+    let context = RunContext {
+        alloc,
+        ops,
+        header: block.header(),
+    };
+    let mut out = Writer::new(alloc);
+    put_entry_trace::<Brand, O>(&context, &mut out, &mut stepper, entry, Blank::new(2))?;
+    text_within(out)
 }
 
 /// The call of an entry, before the first instruction of its program.
@@ -68,7 +61,7 @@ fn opened<O: Op>(
     ops: &FullOps<O>,
 ) -> Result<Stepper, Failure<TraceRefusal>>
     ensures opened { IfOk result (λ stepper. IsOpened ledger.now block.now number stepper) }
-    ensures refused { IfErr result (IsTraceRefused ledger.now block.now number) }
+    ensures refused { IfErr result (FindsRefusal (FindsEntry (ledger.now, block.now) number)) }
 {
     match Stepper::open_block(alloc, ledger, block, number, ops) {
         Ok(stepper) => Ok(stepper),
@@ -77,127 +70,130 @@ fn opened<O: Op>(
     }
 }
 
-/// The text of the trace of an entry's call, from before its first instruction.
-fn trace_text<L: ledger::Ledger, O: Op>(
-    alloc: Global,
+/// Writes the trace of an entry's call, by a stepper before its first instruction.
+fn put_entry_trace<L: ledger::Ledger, O: Op>(
+    context: &RunContext<'_, O>,
+    out: &mut Writer,
     stepper: &mut Stepper,
     entry: &Entry,
-    header: &Header,
-    ops: &FullOps<O>,
     blank: Blank,
-) -> Result<String, Failure<TraceRefusal>>
-    requires blank { (blank.name ≡ L.name) × (blank.parts ≡ L.parts) × (blank.parts ≡ 2) }
-    requires start { IsStartOf stepper.old entry.now.call header.now }
-    ensures text { IfOk result
-        (λ text. IsTraceText stepper.old entry.now.outcome (string_bytes text)) }
-    ensures refused { IfErr result (IsTraceFailure stepper.old entry.now.outcome) }
-{
-    let context = RunContext { alloc, ops, header };
-    let mut executions = Executions::<L>::new(blank);
-    let (outcome, _after) = call_plain(&context, stepper.ledger(), &entry.call, &mut executions)?;
-    let mut out = Pretty::new(alloc);
-    begin_object(&mut out)?;
-    put_name(&mut out, "app-call-messages")?;
-    put_messages(&mut out, entry.call.fields().completion, outcome)?;
-    put_run(alloc, &mut out, stepper, ops)?;
-    put_end(alloc, &mut out, stepper, outcome, entry.outcome)?;
-    Ok(document_text(out)?)
-}
-
-/// Which program runs, and whether its call is approved.
-fn put_messages(
-    out: &mut Pretty,
-    completion: Completion,
-    outcome: Outcome,
-) -> Result<(), AllocError>
-    ensures { OnOk result (Adds out.old out.new (json_tokens (shown_messages completion outcome))) }
-{
-    begin_array(out)?;
-    put_text(out, program_name(completion))?;
-    put_text(out, verdict_word(outcome))?;
-    end_array(out)
-}
-
-fn program_name(completion: Completion) -> &'static str
-    ensures { result.now ≡ program_name completion }
-{
-    match completion {
-        Completion::ClearState => "ClearStateProgram",
-        _ => "ApprovalProgram",
-    }
-}
-
-fn verdict_word(outcome: Outcome) -> &'static str
-    ensures { result.now ≡ verdict_word outcome }
-{
-    match outcome {
-        Outcome::Approved => "PASS",
-        _ => "REJECT",
-    }
-}
-
-/// The states of the program, and its listing.
-fn put_run<O: Op>(
-    alloc: Global,
-    out: &mut Pretty,
-    stepper: &mut Stepper,
-    ops: &FullOps<O>,
 ) -> Result<(), Failure<TraceRefusal>>
-    requires start { IsAtStart stepper.old }
-    ensures written { OnOk result (AddsRun stepper.old stepper.new out.old out.new) }
-    ensures refused { IfErr result (IsStatesFailure stepper.old) }
+    requires blank { (blank.name ≡ L.name) × (blank.parts ≡ L.parts) × (blank.parts ≡ 2) }
+    requires start { IsStartOver stepper.old entry.now.call context.now.header.now }
+    ensures written { OnOk result
+        (AddsTrace stepper.old (Some entry.now.outcome) out.old out.new) }
+    ensures refused { IfErr result
+        (IsTraceFailure stepper.old (Some entry.now.outcome) out.old) }
 {
-    let program = program_of(stepper)?;
-    let lines = line_numbers(alloc, &program)?;
-    put_name(out, "app-call-trace")?;
-    put_states(alloc, out, &program, &lines, stepper, ops)?;
-    put_name(out, "disassembly")?;
-    put_disassembly(alloc, out, &program)?;
+    let mut executions = Executions::<L>::new(blank);
+    let (found, _after) = call_plain(context, stepper.ledger(), &entry.call, &mut executions)?;
+    let ending = Ending {
+        found,
+        recorded: Some(entry.outcome),
+    };
+    put_run_trace(
+        context.alloc,
+        out,
+        stepper,
+        &entry.call,
+        ending,
+        context.ops,
+    )
+}
+
+/// The text of the traces of all calls of a block over the ledger before it, or why there is none.
+pub(crate) fn block_trace<O: Op>(
+    alloc: Global,
+    base: Base,
+    block: &Block,
+    ops: &FullOps<O>,
+) -> Result<String, Failure<TraceRefusal>>
+    ensures found { IfOk result
+        (λ text. FindsText (FindsBlock (base, block.now)) (string_bytes text)) }
+    ensures refused { IfErr result (FindsRefusal (FindsBlock (base, block.now))) }
+{
+    let ledger = ledger_under(base, block)?;
+    let context = RunContext {
+        alloc,
+        ops,
+        header: block.header(),
+    };
+    let mut out = Writer::new(alloc);
+    begin_object(&mut out)?;
+    let blank = Blank::new(2);
+    put_response::<Brand, Entry, O>(&context, &mut out, ledger, block.entries(), blank)?;
+    text_within(out)
+}
+
+/// The ledger before a block, unless the block stands over another one.
+fn ledger_under(base: Base, block: &Block) -> Result<Ledger, Failure<TraceRefusal>>
+    ensures same { IfOk result (λ _. block.now.base ≡ ledger_digest base) }
+    ensures ledger { IfOk result (λ ledger. ledger ≡ base) }
+    ensures refused { IfErr result (FindsRefusal (FindsBlock (base, block.now))) }
+{
+    if *base.digest() != *block.base() {
+        return Err(Failure::Fault(TraceRefusal::Opening(OpenFault::WrongBase)));
+    }
+    Ok(base.into_ledger())
+}
+
+/// Writes the members of a response that has the traces of these calls, and closes it. Each call is made over the ledger that the
+/// one before left.
+pub(crate) fn put_response<L: ledger::Ledger, T: Traced, O: Op>(
+    context: &RunContext<'_, O>,
+    out: &mut Writer,
+    ledger: Ledger,
+    calls: &[T],
+    blank: Blank,
+) -> Result<(), Failure<TraceRefusal>>
+    requires blank { (blank.name ≡ L.name) × (blank.parts ≡ L.parts) × (blank.parts ≡ 2) }
+    ensures written { OnOk result (AddsTraces response_tokens ledger context.now.header.now
+        (map T.recorded calls.now) out.old out.new) }
+    ensures refused { IfErr result (IsTracesFailure response_tokens ledger context.now.header.now
+        (map T.recorded calls.now) out.old) }
+{
+    let mut executions = Executions::<L>::new(blank);
+    put_text_member(out, "error", "")?;
+    put_text_member(out, "protocol-version", "")?;
+    put_name(out, "txns")?;
+    put_call_traces(context, out, ledger, calls, &mut executions)?;
+    end_object(out)?;
     Ok(())
 }
 
-/// The program that a stepper runs.
-fn program_of(stepper: &Stepper) -> Result<Program, AllocError>
-    ensures { IfOk result (λ program. IsProgramIn stepper.now program) }
+/// Writes the array of the traces of calls.
+fn put_call_traces<L: ledger::Ledger, T: Traced, O: Op>(
+    context: &RunContext<'_, O>,
+    out: &mut Writer,
+    ledger: Ledger,
+    calls: &[T],
+    executions: &mut Executions<L>,
+) -> Result<(), Failure<TraceRefusal>>
+    ensures written { OnOk result (AddsTraces array_tokens ledger context.now.header.now
+        (map T.recorded calls.now) out.old out.new) }
+    ensures refused { IfErr result (IsTracesFailure array_tokens ledger context.now.header.now
+        (map T.recorded calls.now) out.old) }
 {
-    match stepper.program() {
-        Some(program) => program.clone(),
-        None => Err(AllocError),
+    let mut ledger = ledger;
+    begin_array(out)?;
+    for traced in calls {
+        ledger = put_call_trace(context, out, ledger, traced, executions)?;
+        if out.is_too_long() {
+            return Err(Failure::Fault(TraceRefusal::TooLong));
+        }
     }
+    end_array(out)?;
+    Ok(())
 }
 
-/// What the program has changed, how its call ends, and how its entry says that it ended.
-fn put_end(
-    alloc: Global,
-    out: &mut Pretty,
-    stepper: &Stepper,
-    found: Outcome,
-    recorded: Outcome,
-) -> Result<(), AllocError>
-    ensures { OnOk result (AddsEnd stepper.now found recorded out.old out.new) }
+/// The text of a document, unless it is too long.
+pub(crate) fn text_within(out: Writer) -> Result<String, Failure<TraceRefusal>>
+    ensures text { IfOk result (λ text. IsTextWithin out (string_bytes text)) }
+    ensures refused { IfErr result (IsTextFailure out) }
 {
-    let view = match stepper.view(alloc) {
-        Ok(view) => view,
-        Err(_) => return Err(AllocError),
-    };
-    put_name(out, "global-delta")?;
-    put_global_delta(alloc, out, &view.global_changes)?;
-    put_name(out, "local-deltas")?;
-    put_local_deltas(alloc, out, &view.local_changes)?;
-    put_outcome(alloc, out, "outcome", found)?;
-    put_outcome(alloc, out, "recorded-outcome", recorded)?;
-    end_object(out)
-}
-
-fn put_outcome(
-    alloc: Global,
-    out: &mut Pretty,
-    name: &str,
-    outcome: Outcome,
-) -> Result<(), AllocError>
-    ensures { OnOk result
-        (Adds out.old out.new (member_tokens ((name.now, text (outcome_text outcome)) ∷ []))) }
-{
-    let words = outcome_text(alloc, outcome)?;
-    put_text_member(out, name, words.as_str())
+    let text = document_text(out)?;
+    if text.len() as u64 > TEXT_LIMIT {
+        return Err(Failure::Fault(TraceRefusal::TooLong));
+    }
+    Ok(text)
 }

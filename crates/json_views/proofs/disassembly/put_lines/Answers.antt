@@ -14,4 +14,4 @@ pub returns : goal.returns
 returns c =
     let none = c.in_default.ensures.byte (omega arith) (λ w o found. found) in
     last c.end_array.result c.end_array.ensures
-    (λ ends. record { is = ends.is ∙ lines_written _ c.loop-line.out c.loop-line.rest.now c.loop-line.invariant.1 none })
+    (λ ends. record { is = lines_written _ c.loop-line.out c.put_text-2.new.out c.end_array.new.out c.loop-line.rest.now c.loop-line.invariant.1 none c.in_ok-put_text-2.ensures ends })

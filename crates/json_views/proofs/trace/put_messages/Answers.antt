@@ -1,7 +1,0 @@
-use Rattle.json_views.proofs.Steps.{last, ◌then◌}
-use Rattle.json_views.proofs.trace.put_messages.Goals as goal
-
-pub returns : goal.returns
-returns c =
-    last c.end_array.result c.end_array.ensures
-    (λ ends. c.in_ok-begin_array.ensures then (rw c.program_name.ensures at c.in_ok-put_text.ensures) then (rw c.verdict_word.ensures at c.in_ok-put_text-2.ensures) then ends)
