@@ -5,7 +5,7 @@
    that it is given, unless memory is refused. What is said below of statuses, of answers and of what is written is proved, by
    the contracts of crates/avm_c/src/lib.rt, which cite the definitions of the commands of the program `avm`.
 
-   docs/FORMATS.md has the bytes of ledgers and of blocks, field by field.
+   docs/FORMATS.md has the bytes of ledgers, items, headers, calls and blocks, field by field.
 
    What a caller owes
    - Bytes are a pointer and then their number. No pointer is null, also of no bytes and of no room. An empty std::vector or Go
@@ -21,7 +21,7 @@
 
    How an answer is lent room
    - A function that answers bytes takes room for them, and a place for their number, `written`.
-   - AVM_DONE (of avm_c_answer: 0, 1 and 2): the answer stands at the beginning of the room, `written` is how many bytes it
+   - AVM_DONE (of avm_c_answer: 0, 1 and 2; of avm_c_attempt AVM_NEEDS too): the answer stands at the beginning of the room, `written` is how many bytes it
      has, and the room behind them is as it was.
    - AVM_NO_ROOM: the answer is longer than the room. `written` is how many bytes are wanted, and the room is as it was. A call
      with room for no bytes thus asks for the size.
@@ -54,7 +54,11 @@ enum avm_status {
     AVM_WRONG_STATE = 13,   /* All calls end as the block says, and the ledger after them has another digest. */
     AVM_NO_ENTRY = 14,      /* The block has no entry of this number. */
     AVM_NO_RUN = 15,        /* No program runs in the entry's call: it is refused, or clears what is left of a gone application. */
-    AVM_ENDED = 16          /* The program ends before so many steps. */
+    AVM_ENDED = 16,         /* The program ends before so many steps. */
+    AVM_NEEDS = 17,         /* The call looks at an item that is not known: it was written. Of avm_c_attempt alone, as those below. */
+    AVM_NO_HEADER = 18,     /* The bytes are no header. */
+    AVM_NO_CALL = 19,       /* The header's bytes are one, the call's are no call, or break a rule of calls. */
+    AVM_NO_ITEMS = 20       /* The header's and the call's bytes are one, the others are no items with their values. */
 };
 
 /* How a call ends. */
@@ -104,6 +108,23 @@ enum avm_why {
     AVM_WHY_IDS_END = 4     /* No id is left for a creation. */
 };
 
+/* Why bytes are no call: the numbers that stand in `struct avm_end` with AVM_NO_CALL. First faults of the bytes, then rules of calls. */
+enum avm_call_fault {
+    AVM_CALL_FIELD = 1,            /* A field breaks a limit. */
+    AVM_CALL_TRUNCATED = 2,        /* The bytes end inside a field. */
+    AVM_CALL_REST = 3,             /* Bytes follow the last field. */
+    AVM_CALL_ACCOUNTS = 17,        /* More than 4 accounts. */
+    AVM_CALL_ARGS = 18,            /* More than 16 arguments. */
+    AVM_CALL_ARG_BYTES = 19,       /* Arguments of more than 2048 bytes in all. */
+    AVM_CALL_FOREIGN = 20,         /* More than 2 foreign applications. */
+    AVM_CALL_PROGRAMS_MISSING = 21,/* A creation or an update lacks a program. */
+    AVM_CALL_PROGRAMS_GIVEN = 22,  /* Another call brings a program. */
+    AVM_CALL_SCHEMA_SIZE = 23,     /* A schema is too large, or stands in a call that creates nothing. */
+    AVM_CALL_CLEAR_ON_CREATE = 24, /* A creation clears state. */
+    AVM_CALL_PROGRAM = 25,         /* A program breaks a rule of programs. */
+    AVM_CALL_NOTE = 26             /* A note of more than 1024 bytes. */
+};
+
 /* Which rule of programs bytes break, and what is wrong with source text. No function of this version gives these numbers;
    avm_c_answer prints the names, with the words `check` and `asm`. For AVM_RULE_CODE it prints the name of the fault of reading. */
 enum avm_rule {
@@ -143,6 +164,13 @@ struct avm_difference {
     uint32_t place;  /* in bytes from the program's beginning */
 };
 
+/* How a call ends. Fields of which an ending says nothing are 0. */
+struct avm_end {
+    uint32_t ending; /* one of enum avm_ending */
+    uint32_t number; /* of enum avm_fault where a program faulted, of enum avm_why where the call was refused */
+    uint32_t place;  /* in bytes from the program's beginning */
+};
+
 /* Whether the bytes are a program: AVM_DONE, AVM_NO_PROGRAM or AVM_MEMORY. avm_c_answer with the word `check` names the rule. */
 uint32_t avm_c_check(const uint8_t *program, size_t program_len);
 
@@ -176,6 +204,29 @@ uint32_t avm_c_view(const uint8_t *ledger, size_t ledger_len, const uint8_t *blo
    16 MiB is refused by every command. */
 uint32_t avm_c_answer(const uint8_t *words, size_t words_len, const uint8_t *input, size_t input_len, uint8_t *room,
                       size_t room_len, size_t *written);
+
+/* A call over items of a ledger that the caller keeps: how it ends and what it writes, or the first item that it looks at and that
+   is not known. The bytes are a header of 40 bytes, a call, and items with their values, in any order and each once. Programs of
+   version 3 may run. AVM_DONE, AVM_NEEDS, AVM_NO_HEADER, AVM_NO_CALL, AVM_NO_ITEMS, AVM_NO_ROOM or AVM_MEMORY.
+
+   - AVM_NEEDS: the answer is one item, of at most 74 bytes. Look it up, and call again with it among the known ones, absent where
+     you have none.
+   - AVM_DONE: `end` says how the call ends, and the answer is items with their new values, by rising item: what the call changes.
+     Nothing is written unless it is approved, or clears a local state. Each item that is written as absent is to be deleted, and
+     with an application all keys and the counts of its global state; no item says that of them.
+   - `end` is written wherever memory is not refused, also with AVM_NO_ROOM. Its fields are 0 where the call has not ended, but for
+     the `number` of AVM_NO_CALL, which is one of enum avm_call_fault.
+
+   Each call of this function runs from the beginning. A call that guesses all items, as the sender's local state, the application,
+   its counts, and the keys of the last call of the same program, needs one; each further one repeats the run. Known items that the
+   call does not look at do no harm: they are read and not used.
+
+   On every ledger that has the known items the call ends so, and changes this; keys and counts of an application that is gone there
+   may be known as anything. Each value is tested by itself: a state has at most 16 entries, counts are at most 64 together, keys and
+   byte values at most 64 bytes, programs pass `check`. What two items say together, as a state over the schema of its application
+   or counts over the keys, is the caller's to keep. */
+uint32_t avm_c_attempt(const uint8_t *header, size_t header_len, const uint8_t *call, size_t call_len, const uint8_t *known,
+                       size_t known_len, uint8_t *room, size_t room_len, size_t *written, struct avm_end *end);
 
 #ifdef __cplusplus
 }

@@ -9,8 +9,9 @@
     verdict = avm.replay(ledger, block)
     print(verdict)                                 # agrees 4fa5..
     after = avm.state(ledger, block, timestamp=3)  # the ledger in the middle of the block
+    attempt = avm.attempt(header, call, known)     # a call over items that you keep yourself
 
-`Avm` has the seven functions of include/avm.h, which says what each promises. Programs, ledgers and blocks are given as `bytes`
+`Avm` has the eight functions of include/avm.h, which says what each promises. Programs, ledgers and blocks are given as `bytes`
 or as `Program`, `Ledger` and `Block`; docs/FORMATS.md has their layouts. What a function refuses is raised: an `AvmError` of the
 class for its status, and `MemoryError` where memory was refused. Several threads may use one `Avm` at once, and run side by side;
 each has 512 KiB of stack left for it (`threading.stack_size`).
@@ -29,9 +30,9 @@ from pathlib import Path
 from typing import Any, Callable, Dict, List, Optional, Sequence, Tuple, Type, TypeVar, Union
 
 __all__ = [
-    "Answer", "AsmFault", "Avm", "AvmError", "Block", "Difference", "Ended", "Ending", "Fault", "Given", "Ledger", "NeedsThreads",
-    "NoBlock", "NoEntry", "NoLedger", "NoProgram", "NoRun", "NoText", "NotAssembled", "Program", "Rule", "Spelled", "Status",
-    "Verdict", "View", "Why", "WrongBase", "WrongOutcome", "WrongState",
+    "Answer", "AsmFault", "Attempt", "Avm", "AvmError", "Block", "CallFault", "Difference", "End", "Ended", "Ending", "Fault", "Given",
+    "Ledger", "NeedsThreads", "NoBlock", "NoCall", "NoEntry", "NoHeader", "NoItems", "NoLedger", "NoProgram", "NoRun", "NoText",
+    "NotAssembled", "Program", "Rule", "Spelled", "Status", "Verdict", "View", "Why", "WrongBase", "WrongOutcome", "WrongState",
 ]  # fmt: skip
 
 
@@ -62,6 +63,10 @@ class Status(enum.IntEnum):
     NO_ENTRY = 14
     NO_RUN = 15
     ENDED = 16
+    NEEDS = 17
+    NO_HEADER = 18
+    NO_CALL = 19
+    NO_ITEMS = 20
 
 
 class Ending(enum.IntEnum):
@@ -117,6 +122,24 @@ class Why(enum.IntEnum):
     AlreadyIn = 2
     NotIn = 3
     IdsEnd = 4
+
+
+class CallFault(enum.IntEnum):
+    """Why bytes are no call (`enum avm_call_fault`)."""
+
+    Field = 1
+    Truncated = 2
+    Rest = 3
+    Accounts = 17
+    Args = 18
+    ArgBytes = 19
+    Foreign = 20
+    ProgramsMissing = 21
+    ProgramsGiven = 22
+    SchemaSize = 23
+    ClearOnCreate = 24
+    Program = 25
+    Note = 26
 
 
 class Rule(enum.IntEnum):
@@ -196,15 +219,9 @@ class Block(Spelled):
 Given = Union[bytes, bytearray, memoryview, Spelled]
 
 
-@dataclass(frozen=True)
-class Difference:
-    """The first entry of a block whose call ends otherwise than the entry says, and how it ends.
+class _HasEnding:
+    """Something with the numbers of an ending. Of an ending that has none they are 0."""
 
-    `entry` is the entry's number, counted from 1. `number` is that of the fault or of the reason, and `place` that of the faulting
-    instruction, in bytes from the program's beginning; of an ending that has none they are 0.
-    """
-
-    entry: int
     ending: Ending
     number: int
     place: int
@@ -221,7 +238,7 @@ class Difference:
 
     @property
     def named(self) -> str:
-        """As `avm replay` prints it: the entry's number and the ending, with the name of the fault or of the reason."""
+        """As commands print it: the ending, with the name of the fault or of the reason, behind the number of the entry, if any."""
         found = self.fault or self.why
         return self._with(found.name if found else "")
 
@@ -229,13 +246,61 @@ class Difference:
     def _faulted(self) -> bool:
         return self.ending in (Ending.FAULTED, Ending.CLEARED_FAULTED)
 
+    @property
+    def _entry(self) -> str:
+        return ""
+
     def _with(self, number: str) -> str:
         place = str(self.place) if self._faulted else ""
-        return " ".join(word for word in (str(self.entry), self.ending.words, number, place) if word)
+        return " ".join(word for word in (self._entry, self.ending.words, number, place) if word)
 
     def __str__(self) -> str:
         """As `named`, with numbers."""
         return self._with(str(self.number or ""))
+
+
+@dataclass(frozen=True)
+class Difference(_HasEnding):
+    """The first entry of a block whose call ends otherwise than the entry says, and how it ends.
+
+    `entry` is the entry's number, counted from 1. `number` is that of the fault or of the reason, and `place` that of the faulting
+    instruction, in bytes from the program's beginning; of an ending that has none they are 0.
+    """
+
+    entry: int
+    ending: Ending
+    number: int
+    place: int
+
+    __str__ = _HasEnding.__str__
+
+    @property
+    def _entry(self) -> str:
+        return str(self.entry)
+
+
+@dataclass(frozen=True)
+class End(_HasEnding):
+    """How a call ends. `number` and `place` are as those of a `Difference`."""
+
+    ending: Ending
+    number: int
+    place: int
+
+    __str__ = _HasEnding.__str__
+
+
+@dataclass(frozen=True)
+class Attempt:
+    """What a call over known items comes to: the item that it `needs`, or how it ends and the items with their values that it writes.
+
+    docs/FORMATS.md has the bytes of both. An item that is written as absent is to be deleted, and with an application all keys and the
+    counts of its global state.
+    """
+
+    needs: Optional[bytes] = None
+    end: Optional[End] = None
+    writes: Optional[bytes] = None
 
 
 @dataclass(frozen=True)
@@ -358,6 +423,22 @@ class NoBlock(AvmError):
     """The ledger's bytes are one, the block's are no block. `kind` is a fault of docs/FORMATS.md."""
 
 
+class NoHeader(AvmError):
+    """The bytes are no header."""
+
+
+class NoCall(AvmError):
+    """The bytes are no call, or one that breaks a rule of calls, as `fault` tells."""
+
+    def __init__(self, status: Status, reason: Optional[str] = None, fault: Optional[CallFault] = None) -> None:
+        super().__init__(status, reason, fault)
+        self.fault = fault
+
+
+class NoItems(AvmError):
+    """The bytes are no items with their values. What is refused is told by docs/FORMATS.md."""
+
+
 class WrongBase(AvmError):
     """The block stands over another ledger."""
 
@@ -403,6 +484,9 @@ _REFUSALS: Dict[Status, Type[AvmError]] = {
     Status.NO_ENTRY: NoEntry,
     Status.NO_RUN: NoRun,
     Status.ENDED: Ended,
+    Status.NO_HEADER: NoHeader,
+    Status.NO_CALL: NoCall,
+    Status.NO_ITEMS: NoItems,
 }
 # How the command's line begins that says why.
 _REASONS = {
@@ -422,6 +506,12 @@ class _Difference(ctypes.Structure):
     _fields_ = [("entry", ctypes.c_uint64), ("ending", ctypes.c_uint32), ("number", ctypes.c_uint32), ("place", ctypes.c_uint32)]
 
 
+class _End(ctypes.Structure):
+    """`struct avm_end`."""
+
+    _fields_ = [("ending", ctypes.c_uint32), ("number", ctypes.c_uint32), ("place", ctypes.c_uint32)]
+
+
 # How the functions are called, after the words for bytes, numbers and lent room.
 _FUNCTIONS = {
     "check": "bytes",
@@ -431,6 +521,7 @@ _FUNCTIONS = {
     "state": "bytes bytes number room",
     "view": "bytes bytes number number room",
     "answer": "bytes bytes room",
+    "attempt": "bytes bytes bytes room end",
 }
 _SIZE = ctypes.c_size_t
 _TYPES: Dict[str, Tuple[Any, ...]] = {
@@ -439,9 +530,10 @@ _TYPES: Dict[str, Tuple[Any, ...]] = {
     "number": (ctypes.c_uint64,),
     "digest": (ctypes.c_char_p,),
     "difference": (ctypes.POINTER(_Difference),),
+    "end": (ctypes.POINTER(_End),),
 }
 _VERDICTS = (Status.DONE, Status.WRONG_BASE, Status.WRONG_OUTCOME, Status.WRONG_STATE)
-_ANSWERED = (Status.DONE, Status.REFUSED, Status.USAGE)
+_ANSWERED = (Status.DONE, Status.REFUSED, Status.USAGE, Status.NEEDS)
 _FIRST_ROOM = 4096
 _MOST_NUMBER = 2**64 - 1
 
@@ -547,12 +639,27 @@ class Avm:
             raise self._refusal(status)
         return Answer(status, output)
 
-    def _lent(self, name: str, *given: Any, guess: int = 0) -> Tuple[Status, Optional[bytes]]:
+    def attempt(self, header: Given, call: Given, known: Given = bytes(4)) -> Attempt:
+        """A call over items that are known, in the layouts of docs/FORMATS.md: the first item that it looks at and that is not among
+        them, or how it ends and what it writes. It runs from its beginning each time. What two known items say together is for the
+        caller to keep. Else `NoHeader`, `NoCall` or `NoItems`."""
+        end = _End()
+        status, told = self._lent("attempt", *_sized(header, call, known), behind=(end,))
+        if status == Status.NO_CALL:
+            fault = CallFault(end.number)
+            raise NoCall(status, f"no call {fault.name}", fault)
+        if told is None:
+            raise self._refusal(status)
+        if status == Status.NEEDS:
+            return Attempt(needs=told)
+        return Attempt(end=End(Ending(end.ending), end.number, end.place), writes=told)
+
+    def _lent(self, name: str, *given: Any, guess: int = 0, behind: Sequence[Any] = ()) -> Tuple[Status, Optional[bytes]]:
         """Calls a function that answers bytes, with more room where the first is too little."""
         size = max(guess, _FIRST_ROOM)
         while True:
             room, written = ctypes.create_string_buffer(size), _SIZE()
-            status = Status(self._functions[name](*given, room, size, written))
+            status = Status(self._functions[name](*given, room, size, written, *behind))
             if status != Status.NO_ROOM:
                 return status, ctypes.string_at(room, written.value) if status in _ANSWERED else None
             size = written.value

@@ -14,6 +14,7 @@ import avm  # noqa: E402
 ENUMS = (
     ("avm_status", "AVM_", avm.Status, "Status", "avm_c/src/statuses.rt"),
     ("avm_fault", "AVM_FAULT_", avm.Fault, "Fault", "teal_value/src/fault.rt"),
+    ("avm_call_fault", "AVM_CALL_", avm.CallFault, "CallFault", "avm_call/src/call_fault.rt"),
     ("avm_why", "AVM_WHY_", avm.Why, "Why", "avm_call/src/outcome.rt"),
     ("avm_rule", "AVM_RULE_", avm.Rule, "CheckFault", "teal_check/src/fault.rt"),
     ("avm_asm_fault", "AVM_ASM_", avm.AsmFault, "AsmFaultKind", "teal_source/src/fault.rt"),
@@ -40,6 +41,15 @@ def in_code(file, enum):
     return {} if wrong else numbered or numbers
 
 
+def of_calls(file, enum):
+    """The faults of a call's bytes by their numbers in avm_c, and the broken rules, which stand behind them."""
+    told = (TOP / "crates/avm_c/src/attempts.rt").read_text()
+    rules = dict(re.findall(rf"\b{enum}::(\w+)(?:\(_fault\))? => (\d+),", (TOP / "crates" / file).read_text()))
+    numbers = {name: int(number) for name, number in re.findall(r"\bCallDataFault::(\w+)\) => (\d+),", told)}
+    behind = int(re.search(r"=> (\d+) \+ u32::from\(fault\.number\(\)\)", told)[1])
+    return {**numbers, **{name: behind + int(number) for name, number in rules.items()}}
+
+
 def in_header(enum, prefix):
     """Each name's number, without the prefix; a comment has to stand beside it."""
     body = (TOP / "include/avm.h").read_text().split(f"enum {enum} {{\n")[1].split("};")[0]
@@ -50,7 +60,7 @@ def compare():
     """How many names there are, and what is wrong with their numbers."""
     count, wrong = 0, []
     for enum, prefix, python, code, file in ENUMS:
-        numbers = in_code(file, code)
+        numbers = of_calls(file, code) if code == "CallFault" else in_code(file, code)
         count += len(python)
         if not numbers:
             wrong.append(f"{file} is not understood: {code}")

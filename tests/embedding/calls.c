@@ -2,7 +2,7 @@
 
 #include <string.h>
 
-const char *const function_names[FUNCTIONS] = {"check", "assemble", "list", "replay", "state", "view", "answer"};
+const char *const function_names[FUNCTIONS] = {"check", "assemble", "list", "replay", "state", "view", "answer", "attempt"};
 
 void clear(struct answer *answer) {
     memset(answer, MARK, sizeof *answer);
@@ -24,5 +24,9 @@ void make(const struct call *call, struct answer *answer, size_t room) {
             avm_c_view(first, length, second, other, call->entry, call->number, answer->room, room, &answer->written);
         break;
     case ANSWER: answer->status = avm_c_answer(first, length, second, other, answer->room, room, &answer->written); break;
+    case ATTEMPT:
+        answer->status = avm_c_attempt(first, length, second, other, call->third.at, call->third.length, answer->room, room,
+                                       &answer->written, &answer->end);
+        break;
     }
 }

@@ -4,27 +4,30 @@
 
 #include "avm.h"
 
-enum function { CHECK, ASSEMBLE, LIST, REPLAY, STATE, VIEW, ANSWER };
+enum function { CHECK, ASSEMBLE, LIST, REPLAY, STATE, VIEW, ANSWER, ATTEMPT };
 
 struct bytes {
     uint8_t *at;
     size_t length;
 };
 
-/* One call: of a program or a text the first bytes, of a ledger and a block both, of words and an input both. */
+/* One call: of a program or a text the first bytes, of a ledger and a block both, of words and an input both, of a header, a call and
+   items all three. */
 struct call {
     enum function function;
     struct bytes first, second;
     uint64_t entry, number; /* the entry and the steps of a view; the timestamp of a state */
+    struct bytes third;
 };
 
-enum { FUNCTIONS = ANSWER + 1, ROOM = 1 << 16, MARK = 0xA5 };
+enum { FUNCTIONS = ATTEMPT + 1, ROOM = 1 << 16, MARK = 0xA5 };
 
 struct answer {
     uint32_t status;
     size_t written;
     uint8_t digest[32];
     struct avm_difference difference;
+    struct avm_end end;
     uint8_t room[ROOM];
 };
 

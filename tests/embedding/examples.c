@@ -43,7 +43,7 @@ static struct bytes line_of(struct bytes text, size_t *place) {
 
 static struct call *add(struct call *calls, size_t *count, enum function function, struct bytes first, struct bytes second) {
     if (*count == MOST_CALLS) fail("more than there is room for", "calls");
-    struct call call = {function, first, second, 0, 0};
+    struct call call = {function, first, second, 0, 0, {NULL, 0}};
     calls[*count] = call;
     return &calls[(*count)++];
 }
@@ -78,6 +78,55 @@ static void add_views(struct call *calls, size_t *count, struct bytes ledger, st
     }
 }
 
+static size_t number_at(struct bytes bytes, size_t place, size_t size) {
+    size_t number = 0;
+    for (size_t i = 0; i < size; i++) number = number << 8 | bytes.at[place + i];
+    return number;
+}
+
+/* The place behind so many byte strings, each behind its length of two bytes. */
+static size_t behind_strings(struct bytes bytes, size_t place, size_t count) {
+    while (count--) place += 2 + number_at(bytes, place, 2);
+    return place;
+}
+
+/* The place behind the call that begins there. */
+static size_t behind_call(struct bytes block, size_t place) {
+    place = behind_strings(block, place + 32 + 3 * 8, 1) + 32 + 32 + 8 + 1;
+    place = behind_strings(block, place + 1, block.at[place]);
+    place += 1 + 32 * (size_t)block.at[place];
+    place += 1 + 8 * (size_t)block.at[place];
+    return behind_strings(block, place, 2) + 4;
+}
+
+/* The value of an item that nothing is known of, behind the item: the next id 1, or that it is absent. */
+static size_t put_value(uint8_t *at, uint8_t kind) {
+    memset(at, 0, 8);
+    if (kind != 0) return 1;
+    at[7] = 1;
+    return 8;
+}
+
+/* The first call of a block of format 2: over no items, and then over each item that it asks for, to its end. */
+static void add_attempts(struct call *calls, size_t *count, struct bytes block) {
+    static struct answer answer;
+    enum { HEADER = 4 + 2 + 32, CALL = HEADER + 40 + 4 + 8, MOST_KNOWN = 1 << 10 };
+    if (number_at(block, 4, 2) != 0x0203 || number_at(block, HEADER + 40, 4) == 0) return;
+    uint8_t known[MOST_KNOWN] = {0};
+    size_t length = 4;
+    do {
+        struct call *call = add(calls, count, ATTEMPT, copy_of(block.at + HEADER, 40), copy_of(block.at + CALL, behind_call(block, CALL) - CALL));
+        call->third = copy_of(known, length);
+        make(call, &answer, ROOM);
+        if (answer.status != AVM_DONE && answer.status != AVM_NEEDS) fail("is not attempted", "a call of examples/");
+        if (length + answer.written + 8 > sizeof known) fail("asks for many items", "a call of examples/");
+        memcpy(known + length, answer.room, answer.written);
+        length += answer.written;
+        length += put_value(known + length, answer.room[0]);
+        known[3]++;
+    } while (answer.status == AVM_NEEDS);
+}
+
 static void add_block(struct call *calls, size_t *count, struct bytes text) {
     size_t place = 0;
     struct bytes ledger = line_of(text, &place), block = line_of(text, &place);
@@ -85,6 +134,7 @@ static void add_block(struct call *calls, size_t *count, struct bytes text) {
     add(calls, count, STATE, ledger, block)->number = 0;
     add(calls, count, STATE, ledger, block)->number = UINT64_MAX;
     add_views(calls, count, ledger, block);
+    add_attempts(calls, count, block);
     add_answer(calls, count, "replay", 6, text);
     add_answer(calls, count, "state\0--at\0" "3", 12, text);
     add_answer(calls, count, "debug\0--entry\0" "3\0--steps\0" "9", 25, text);

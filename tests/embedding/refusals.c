@@ -89,7 +89,7 @@ int main(int words, char **names) {
     printf("refusals:");
     for (int i = 0; i < FUNCTIONS; i++) {
         if (made[i] == 0 || numbers[i] == 0) fail("no allocation", function_names[i]);
-        printf(" %s %ld in %ld calls%s", function_names[i], numbers[i], made[i], i < ANSWER ? "," : "\n");
+        printf(" %s %ld in %ld calls%s", function_names[i], numbers[i], made[i], i < FUNCTIONS - 1 ? "," : "\n");
     }
     return 0;
 }

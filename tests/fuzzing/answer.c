@@ -28,7 +28,7 @@ static struct bytes digits_of(unsigned command, struct bytes rest, const struct 
 /* The answer of a program's command is the function's. */
 static void compare_program(unsigned command, struct bytes program, const struct answer *found) {
     static struct answer answer;
-    struct call call = {CHECK, program, bytes_of("", 0), 0, 0};
+    struct call call = {CHECK, program, bytes_of("", 0), 0, 0, {NULL, 0}};
     uint32_t status = command == 1 ? listed(program, &answer) : called(call, &answer);
     demand((found->status == AVM_DONE) == (status == AVM_DONE), "a command on a program says otherwise");
     bool is_listing = command == 1 && status == AVM_DONE;

@@ -11,7 +11,7 @@ static void look_at_program(struct bytes bytes) {
     static struct program program;
     static uint8_t digits[2 * MOST_BYTES + 1];
     static const char refusal[] = "refused check Cost\n";
-    struct call call = {CHECK, bytes, bytes_of("", 0), 0, 0};
+    struct call call = {CHECK, bytes, bytes_of("", 0), 0, 0, {NULL, 0}};
     demand(bytes.length <= MOST_BYTES, "a program of more than 1024 bytes");
     demand(read_program(bytes, &program), "what was assembled breaks a rule");
     note_program(&program);
@@ -31,12 +31,12 @@ size_t LLVMFuzzerMutate(uint8_t *at, size_t length, size_t room);
 size_t LLVMFuzzerCustomMutator(uint8_t *data, size_t size, size_t room, unsigned int seed) {
     static struct answer made, text;
     static uint8_t program[MOST_BYTES];
-    struct call assemble = {ASSEMBLE, bytes_of(data, size), bytes_of("", 0), 0, 0};
+    struct call assemble = {ASSEMBLE, bytes_of(data, size), bytes_of("", 0), 0, 0, {NULL, 0}};
     if (seed % 4) return LLVMFuzzerMutate(data, size, room);
     make(&assemble, &made, ROOM);
     if (made.status != AVM_DONE) return LLVMFuzzerMutate(data, size, room);
     memcpy(program, made.room, made.written);
-    struct call list = {LIST, bytes_of(program, mutate_program(program, made.written, sizeof program, seed)), bytes_of("", 0), 0, 0};
+    struct call list = {LIST, bytes_of(program, mutate_program(program, made.written, sizeof program, seed)), bytes_of("", 0), 0, 0, {NULL, 0}};
     make(&list, &text, ROOM);
     if (text.status != AVM_DONE || text.written > room) return LLVMFuzzerMutate(data, size, room);
     memcpy(data, text.room, text.written);

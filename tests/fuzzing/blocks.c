@@ -194,17 +194,17 @@ struct bytes empty_block(struct bytes ledger, uint8_t *room) {
 }
 
 uint32_t replayed(struct bytes ledger, struct bytes block, struct answer *answer) {
-    struct call call = {REPLAY, ledger, block, 0, 0};
+    struct call call = {REPLAY, ledger, block, 0, 0, {NULL, 0}};
     return called(call, answer);
 }
 
 uint32_t state_at(struct bytes ledger, struct bytes block, uint64_t timestamp, struct answer *answer) {
-    struct call call = {STATE, ledger, block, 0, timestamp};
+    struct call call = {STATE, ledger, block, 0, timestamp, {NULL, 0}};
     return called(call, answer);
 }
 
 uint32_t viewed(struct bytes ledger, struct bytes block, uint64_t entry, uint64_t steps, struct answer *answer) {
-    struct call call = {VIEW, ledger, block, entry, steps};
+    struct call call = {VIEW, ledger, block, entry, steps, {NULL, 0}};
     return called(call, answer);
 }
 

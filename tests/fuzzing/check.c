@@ -12,7 +12,7 @@ int LLVMFuzzerTestOneInput(const uint8_t *at, size_t length) {
     char wanted[64];
     if (length > 2 * MOST_BYTES) return 0;
     struct bytes bytes = bytes_of(at, length), words = bytes_of("check", 5);
-    struct call call = {CHECK, bytes, bytes_of("", 0), 0, 0};
+    struct call call = {CHECK, bytes, bytes_of("", 0), 0, 0, {NULL, 0}};
     bool is_program = read_program(bytes, &program) && program.cost <= MOST_COST;
     uint32_t status = called(call, &answer);
     demand(status == AVM_DONE || status == AVM_NO_PROGRAM, "check has another status");

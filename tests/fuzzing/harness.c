@@ -76,7 +76,8 @@ bool are_same(struct bytes one, struct bytes other) {
 }
 
 static bool has_text(const struct call *call, uint32_t status) {
-    return status == AVM_DONE || (call->function == ANSWER && (status == AVM_REFUSED || status == AVM_USAGE));
+    return status == AVM_DONE || (call->function == ANSWER && (status == AVM_REFUSED || status == AVM_USAGE)) ||
+           (call->function == ATTEMPT && status == AVM_NEEDS);
 }
 
 static bool is_lent_room(const struct call *call) {
@@ -94,6 +95,7 @@ static void look_at_marks(const struct call *call, const struct answer *answer, 
     bool agrees = call->function == REPLAY && status == AVM_DONE, differs = call->function == REPLAY && status == AVM_WRONG_OUTCOME;
     demand(agrees || is_marked(answer->digest, sizeof answer->digest), "a digest was written");
     demand(differs || is_marked(&answer->difference, sizeof answer->difference), "a difference was written");
+    demand((call->function == ATTEMPT && status != AVM_MEMORY) || is_marked(&answer->end, sizeof answer->end), "an end was written");
     if (!is_lent_room(call)) {
         demand(is_marked(answer->room, sizeof answer->room), "something was written where nothing is lent");
         return;
@@ -163,7 +165,7 @@ static void note_name(const struct answer *answer) {
 }
 
 uint32_t asked(struct bytes words, struct bytes input, struct answer *answer) {
-    struct call call = {ANSWER, words, input, 0, 0};
+    struct call call = {ANSWER, words, input, 0, 0, {NULL, 0}};
     uint32_t status = called(call, answer);
     if (status == AVM_REFUSED) note_name(answer);
     return status;

@@ -6,7 +6,7 @@ int LLVMFuzzerTestOneInput(const uint8_t *at, size_t length) {
     static struct program program;
     if (length > 2 * MOST_BYTES) return 0;
     struct bytes bytes = bytes_of(at, length);
-    struct call call = {CHECK, bytes, bytes_of("", 0), 0, 0};
+    struct call call = {CHECK, bytes, bytes_of("", 0), 0, 0, {NULL, 0}};
     uint32_t checked = called(call, &answer), status = listed(bytes, &answer);
     demand(status == AVM_DONE || status == AVM_NO_PROGRAM, "list has another status");
     demand(checked == status, "what check says of the bytes is not what list says");

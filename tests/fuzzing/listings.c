@@ -3,12 +3,12 @@
 #include <string.h>
 
 uint32_t assembled(struct bytes text, struct answer *answer) {
-    struct call call = {ASSEMBLE, text, bytes_of("", 0), 0, 0};
+    struct call call = {ASSEMBLE, text, bytes_of("", 0), 0, 0, {NULL, 0}};
     return called(call, answer);
 }
 
 uint32_t listed(struct bytes program, struct answer *answer) {
-    struct call call = {LIST, program, bytes_of("", 0), 0, 0};
+    struct call call = {LIST, program, bytes_of("", 0), 0, 0, {NULL, 0}};
     return called(call, answer);
 }
 

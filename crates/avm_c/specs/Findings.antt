@@ -1,12 +1,8 @@
 -- What a replay finds, and what of it C is told.
 use Rattle.std.specs.Prelude.{◌≡◌, ◌⊎◌, ℕ, List, Result, Ok, Err}
-use Rattle.teal_value.specs.FaultNumbers.{fault_number}
 use Rattle.avm_ledger.specs.Ledgers.{Ledger}
 use Rattle.avm_ledger.specs.Spellings.{ledger_digest}
-use Rattle.avm_call.specs.declared.outcome.Cause.TheVariants as cause
 use Rattle.avm_call.specs.declared.outcome.Outcome.{Outcome}
-use Rattle.avm_call.specs.declared.outcome.Outcome.TheVariants as outcome
-use Rattle.avm_call.specs.OutcomeSpelling.{why_number}
 use Rattle.avm_block.specs.Blocks.{Block}
 use Rattle.avm_replay.specs.declared.verdict.Verdict.{Verdict}
 use Rattle.avm_replay.specs.declared.verdict.Verdict.TheVariants as verdict
@@ -16,17 +12,17 @@ use Rattle.avm_c.specs.declared.findings.Finding.{Finding}
 use Rattle.avm_c.specs.declared.findings.Finding.TheVariants as finding
 use Rattle.avm_c.specs.declared.statuses.Status.{Status}
 use Rattle.avm_c.specs.declared.statuses.Status.TheVariants as status
+use Rattle.avm_c.specs.Ends.{end_of}
 use Rattle.avm_c.specs.Statuses.{status_number}
 
--- how the call of an entry ends, in numbers: its kind, the fault or the reason in the bytes of outcomes, the place
+-- how the call of an entry ends
 abbrev pub difference_of : ℕ → Outcome → Difference
-difference_of entry outcome.Approved = record { entry = entry; ending = 0; number = 0; place = 0 }
-difference_of entry outcome.Rejected = record { entry = entry; ending = 1; number = 0; place = 0 }
-difference_of entry (outcome.Faulted f place) = record { entry = entry; ending = 2; number = fault_number f; place = place }
-difference_of entry (outcome.Refused w) = record { entry = entry; ending = 3; number = why_number w; place = 0 }
-difference_of entry (outcome.ClearedAnyway cause.Gone) = record { entry = entry; ending = 4; number = 0; place = 0 }
-difference_of entry (outcome.ClearedAnyway cause.Rejected) = record { entry = entry; ending = 5; number = 0; place = 0 }
-difference_of entry (outcome.ClearedAnyway (cause.Faulted f place)) = record { entry = entry; ending = 6; number = fault_number f; place = place }
+difference_of entry found = record {
+  entry = entry;
+  ending = (end_of found).ending;
+  number = (end_of found).number;
+  place = (end_of found).place;
+}
 
 -- what a verdict says
 abbrev pub finding_of : Verdict → Finding

@@ -3,6 +3,8 @@ pub mod Answers
 pub mod Shown
 pub mod Programs
 pub mod BlockAnswers
+pub mod Ends
 pub mod Findings
 pub mod ViewAnswers
 pub mod WordAnswers
+pub mod Attempts

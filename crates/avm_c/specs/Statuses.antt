@@ -21,3 +21,7 @@ status_number status.WrongState = 13
 status_number status.NoEntry = 14
 status_number status.NoRun = 15
 status_number status.Ended = 16
+status_number status.Needs = 17
+status_number status.NoHeader = 18
+status_number status.NoCall = 19
+status_number status.NoItems = 20

@@ -1,12 +1,11 @@
 //! What a replay finds, as C is told it.
 
 ghost use Rattle.std.specs.Prelude.{◌≡◌};
-ghost use Rattle.teal_value.specs.FaultNumbers.{fault_number};
 ghost use Rattle.avm_c.specs.Findings.{IsWrittenFinding, difference_of};
 
+use crate::ends::end_of;
 use crate::statuses::Status;
-use avm_call::{Cause, Outcome};
-use teal_value::Fault;
+use avm_call::Outcome;
 
 /// The first entry of a block whose call ends otherwise than the entry says, and how it ends: `struct avm_difference`.
 #[repr(C)]
@@ -54,45 +53,11 @@ pub fn write_finding(finding: Finding, digest: &mut [u8; 32], difference: &mut D
 pub fn difference_of(entry: usize, found: Outcome) -> Difference
     ensures { result ≡ difference_of entry found }
 {
-    match found {
-        Outcome::Approved => plain(entry, 0),
-        Outcome::Rejected => plain(entry, 1),
-        Outcome::Faulted(fault, place) => faulted(entry, 2, fault, place),
-        Outcome::Refused(why) => Difference {
-            entry: entry as u64,
-            ending: 3,
-            number: u32::from(why.number()),
-            place: 0,
-        },
-        Outcome::ClearedAnyway(Cause::Gone) => plain(entry, 4),
-        Outcome::ClearedAnyway(Cause::Rejected) => plain(entry, 5),
-        Outcome::ClearedAnyway(Cause::Faulted(fault, place)) => faulted(entry, 6, fault, place),
-    }
-}
-
-fn plain(entry: usize, ending: u32) -> Difference
-    ensures { result ≡ record { entry = entry; ending = ending; number = 0; place = 0 } }
-{
+    let end = end_of(found);
     Difference {
         entry: entry as u64,
-        ending,
-        number: 0,
-        place: 0,
-    }
-}
-
-fn faulted(entry: usize, ending: u32, fault: Fault, place: u16) -> Difference
-    ensures { result ≡ record {
-      entry = entry;
-      ending = ending;
-      number = fault_number fault;
-      place = place;
-    } }
-{
-    Difference {
-        entry: entry as u64,
-        ending,
-        number: u32::from(fault.number()),
-        place: u32::from(place),
+        ending: end.ending,
+        number: end.number,
+        place: end.place,
     }
 }

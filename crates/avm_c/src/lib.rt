@@ -6,7 +6,9 @@
 #![tactic(auto)]
 
 mod answers;
+mod attempts;
 mod blocks;
+mod ends;
 mod findings;
 mod programs;
 mod questions;
@@ -18,6 +20,7 @@ ghost use Rattle.std.specs.Prelude.{◌≡◌, ◌≢◌};
 ghost use Rattle.teal_check.specs.WellFormed.{checked};
 ghost use Rattle.avm_c.specs.declared.statuses.Status.TheVariants as status;
 ghost use Rattle.avm_c.specs.Answers.{IsAnswered};
+ghost use Rattle.avm_c.specs.Attempts.{IsToldOf, asked_of};
 ghost use Rattle.avm_c.specs.BlockAnswers.{ledger_and_block, state_answer_at};
 ghost use Rattle.avm_c.specs.Findings.{IsFound};
 ghost use Rattle.avm_c.specs.Programs.{assembled_answer, check_status, listed_answer};
@@ -26,7 +29,9 @@ ghost use Rattle.avm_c.specs.ViewAnswers.{IsViewAnswer};
 ghost use Rattle.avm_c.specs.WordAnswers.{IsCommandAnswer, command_of};
 
 use crate::answers::{place, place_nothing};
+use crate::attempts::CallOver;
 use crate::blocks::{Replay, State};
+use crate::ends::End;
 use crate::findings::{Difference, write_finding};
 use crate::programs::{assembled_answer, listed_answer};
 use crate::questions::ask;
@@ -168,6 +173,37 @@ pub extern "C" fn avm_c_answer(
 {
     match ask(alloc, &Command { words, input }) {
         Ok(answer) => place(&answer, room, written),
+        Err(_) => place_nothing(written),
+    }
+}
+
+/// A call over items that the caller knows: how it ends and what it writes, or the first item that it looks at and that is not
+/// known.
+#[unsafe(no_mangle)]
+pub extern "C" fn avm_c_attempt(
+    alloc: Global,
+    header: &[u8],
+    call: &[u8],
+    known: &[u8],
+    room: &mut [u8],
+    written: &mut usize,
+    end: &mut End,
+) -> u32
+    ensures { IsToldOf (asked_of header.now call.now known.now)
+        room.old room.new end.old end.new written.new result }
+{
+    match ask(
+        alloc,
+        &CallOver {
+            header,
+            call,
+            known,
+        },
+    ) {
+        Ok(attempted) => {
+            *end = attempted.end;
+            place(&attempted.answer, room, written)
+        }
         Err(_) => place_nothing(written),
     }
 }

@@ -41,6 +41,14 @@ pub enum Status {
     NoRun,
     /// The program ends before so many steps.
     Ended,
+    /// The call asks for an item that is not known, and the answer is that item.
+    Needs,
+    /// The bytes are no header.
+    NoHeader,
+    /// The bytes are no call, or one that breaks a rule of calls.
+    NoCall,
+    /// The bytes are no list of items with their values.
+    NoItems,
 }
 
 impl Status {
@@ -66,6 +74,10 @@ impl Status {
             Status::NoEntry => 14,
             Status::NoRun => 15,
             Status::Ended => 16,
+            Status::Needs => 17,
+            Status::NoHeader => 18,
+            Status::NoCall => 19,
+            Status::NoItems => 20,
         }
     }
 }

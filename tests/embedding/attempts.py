@@ -1,0 +1,167 @@
+#!/usr/bin/env python3
+"""attempts.py LIBRARY: makes the calls of the blocks of examples/ one by one over a table of items, as a node with a database would.
+
+For each call items are looked up as avm_c_attempt asks for them, from none known on; what it writes is put into the table. How the
+call ends is what the block says, and the table then has the items of the ledger that avm_c_state gives at that timestamp. A call
+that knows all items that were asked for, or all items of the table, needs no more and ends the same. Which bytes an item, a value and
+a call are is read from the tables of docs/FORMATS.md.
+"""
+
+import ctypes
+import re
+import sys
+from pathlib import Path
+
+TOP = Path(__file__).resolve().parent.parent.parent
+sys.path[:0] = [str(TOP / "python"), str(TOP / "tests")]
+import avm  # noqa: E402
+import formats  # noqa: E402
+
+LAYOUTS = formats.tables(formats.PAGE.read_text())
+ABSENT = b"\0"
+
+
+def spelled_as(spelling, value):
+    link = re.match(r"\[(.*?)\]", spelling)
+    if link:
+        return spell(link[1], value)
+    if spelling.endswith(" + n"):
+        return len(value).to_bytes(int(spelling[0]), "big") + value
+    return value if isinstance(value, bytes) else value.to_bytes(int(spelling), "big")
+
+
+def spell(name, record):
+    """The bytes of a record, by its table."""
+    parts = []
+    for row in LAYOUTS[name]:
+        if not row.is_there(record):
+            continue
+        size, _, one = row.spelled.partition(" + each ")
+        values = record[row.field] if one else [record[row.field]]
+        parts += [len(values).to_bytes(int(size), "big")] if one else []
+        parts += [spelled_as(one or row.spelled, value) for value in values]
+    return b"".join(parts)
+
+
+def entry_of(item, **value):
+    """The bytes of an item and those of its value."""
+    name = spell("item", item)
+    return name, spell("entry of items", {"item": item, **{field.replace("_", " "): of for field, of in value.items()}})[len(name) :]
+
+
+def table_of(ledger):
+    """The items of a ledger."""
+    record, _ = formats.read(LAYOUTS, "ledger", ledger)
+    table = dict([entry_of({"kind": 0}, next_id=record["next id"])])
+    for app in record["applications"]:
+        entries = app["global state"]["entries"]
+        kinds = [entry["value"]["kind"] for entry in entries]
+        counts = {"uints": kinds.count(1), "byte strings": kinds.count(2)}
+        named = {"application": app["id"]}
+        table.update([entry_of({"kind": 1, **named}, row={"present": 1, **app}),
+                      entry_of({"kind": 2, **named}, counts={"present": 1, "entries": counts})])  # fmt: skip
+        table.update(entry_of({"kind": 3, **named, "key": entry["key"]}, key_value={"present": 1, "value": entry["value"]}) for entry in entries)
+    for local in record["local states"]:
+        item = {"kind": 4, "account": local["account"], "application": local["id"]}
+        table.update([entry_of(item, local_state={"present": 1, "state": local["state"]})])
+    return table
+
+
+def items(entries):
+    return len(entries).to_bytes(4, "big") + b"".join(item + value for item, value in entries.items())
+
+
+def put(table, writes):
+    """Puts what a call writes into the table. An application that goes takes its keys and counts with it."""
+    for entry in formats.read(LAYOUTS, "items", writes)[0]["items"]:
+        item, value = entry_of(entry["item"], **{field.replace(" ", "_"): of for field, of in entry.items() if field not in ("item", "around", "before")})
+        if value == ABSENT and entry["item"]["kind"] > 0:
+            table.pop(item, None)
+            if entry["item"]["kind"] == 1:
+                for other in [other for other in table if other[0] in (2, 3) and other[1:9] == item[1:9]]:
+                    del table[other]
+        else:
+            table[item] = value
+
+
+def attempted(machine, header, call, table):
+    """The end of a call whose items are looked up as it asks for them, what it writes, and what it asked for."""
+    known = {}
+    while True:
+        attempt = machine.attempt(header, call, items(known))
+        if attempt.needs is None:
+            return attempt, known
+        assert attempt.needs not in known, "it asks for a known item"
+        known[attempt.needs] = table.get(attempt.needs, ABSENT)
+
+
+def ends_as(end, outcome):
+    """Whether a call ends as the outcome says."""
+    kind, cause = outcome["kind"], outcome.get("cause")
+    ending = avm.Ending(kind if cause is None else 4 + cause)
+    return (end.ending, end.number, end.place) == (ending, outcome.get("fault", outcome.get("why", 0)), outcome.get("place", 0))
+
+
+def replay(machine, path):
+    """Makes the calls of a block; how many calls there are, and how many items they asked for."""
+    ledger, block = (bytes.fromhex(line) for line in path.read_text().split())
+    record, _ = formats.read(LAYOUTS, "block", block)
+    header, table, asked = spell("header", record["header"]), table_of(ledger), 0
+    for entry in record["entries"]:
+        call = spell("call", entry["call"])
+        attempt, known = attempted(machine, header, call, table)
+        assert ends_as(attempt.end, entry["outcome"]), f"{path}, {entry['timestamp']}: ends {attempt.end}"
+        for more in (known, {**table, **known}):
+            assert machine.attempt(header, call, items(more)) == attempt, f"{path}, {entry['timestamp']}: another end over more items"
+        put(table, attempt.writes)
+        after = machine.state(ledger, block, entry["timestamp"]).spelled
+        assert table == table_of(after), f"{path}, {entry['timestamp']}: the table is not the ledger after the call"
+        asked += len(known)
+    return len(record["entries"]), asked
+
+
+def refusal(machine, header, call, known):
+    try:
+        machine.attempt(header, call, known)
+    except avm.NoCall as error:
+        return error.fault
+    except avm.AvmError as error:
+        return error.status
+    return None
+
+
+def refusals(machine):
+    """Bytes that are none, and rooms of every size."""
+    page = formats.examples(formats.PAGE.read_text())
+    header, call, known = (page[name][0] for name in ("header", "call", "items"))
+    record, _ = formats.read(LAYOUTS, "call", call)
+    many = spell("call", {**record, "accounts": [bytes(32)] * 5})
+    no_items = avm.Status.NO_ITEMS
+    for given, wanted in (
+        ((header[1:], call, known), avm.Status.NO_HEADER), ((header + b"\0", call[1:], known), avm.Status.NO_HEADER),
+        ((header, call[:-1], known), avm.CallFault.Truncated), ((header, call + b"\0", b""), avm.CallFault.Rest),
+        ((header, many, b""), avm.CallFault.Accounts), ((header, call, b""), no_items), ((header, call, known[:-1]), no_items),
+        ((header, call, known + b"\0"), no_items), ((header, call, bytes.fromhex("00000002") + known[4:29] * 2), no_items),
+    ):  # fmt: skip
+        assert refusal(machine, *given) == wanted, f"{refusal(machine, *given)} and not {wanted}"
+    wanted = machine.attempt(header, call).needs
+    for size in range(len(wanted) + 2):
+        room, written, end = ctypes.create_string_buffer(b"\x77" * 80, 80), ctypes.c_size_t(), avm._End(7, 7, 7)
+        status = machine._functions["attempt"](*avm._sized(header, call, bytes(4)), room, size, written, end)
+        fits = size >= len(wanted)
+        assert status == (avm.Status.NEEDS if fits else avm.Status.NO_ROOM) and written.value == len(wanted)
+        assert room.raw == (wanted if fits else b"").ljust(80, b"\x77") and (end.ending, end.number, end.place) == (0, 0, 0)
+
+
+def main(library):
+    machine, calls, asked = avm.Avm(library), 0, 0
+    paths = sorted((TOP / "examples").glob("*/*.block"))
+    for path in paths:
+        made, looked_up = replay(machine, path)
+        calls, asked = calls + made, asked + looked_up
+    refusals(machine)
+    print(f"attempts: {calls} calls of {len(paths)} blocks over a table of items, which asked for {asked}")
+
+
+if __name__ == "__main__":
+    main(sys.argv[1])
