@@ -210,7 +210,7 @@ uint32_t avm_c_answer(const uint8_t *words, size_t words_len, const uint8_t *inp
    version 3 may run. AVM_DONE, AVM_NEEDS, AVM_NO_HEADER, AVM_NO_CALL, AVM_NO_ITEMS, AVM_NO_ROOM or AVM_MEMORY.
 
    - AVM_NEEDS: the answer is one item, of at most 74 bytes. Look it up, and call again with it among the known ones, absent where
-     you have none.
+     you have none. The next id alone is always a number: 1 in an empty ledger.
    - AVM_DONE: `end` says how the call ends, and the answer is items with their new values, by rising item: what the call changes.
      Nothing is written unless it is approved, or clears a local state. Each item that is written as absent is to be deleted, and
      with an application all keys and the counts of its global state; no item says that of them.
