@@ -1,13 +1,15 @@
 -- Accounts, of which the local states count.
-use Rattle.std.specs.Prelude.{ℕ, [], codes, Result}
+use Rattle.std.specs.Prelude.{ℕ, Bool, [], codes, Result}
 use Rattle.teal_value.specs.Answer.{◌>>=◌}
 use Rattle.teal_value.specs.declared.address.Address.{Address}
 use Rattle.avm_ledger.specs.LedgerReader.{local_room}
 use Rattle.avm_ledger.specs.Ledgers.{Ledger, application_at}
 use Rattle.json.specs.Json.{Json}
 use Rattle.json_documents.specs.Faults.{Fault}
-use Rattle.json_documents.specs.Members.{known, needed, optional}
+use Rattle.json_documents.specs.Members.{needed, optional}
+use Rattle.json_documents.specs.Deleted.{still_known}
 use Rattle.json_documents.specs.Arrays.{each}
+use Rattle.json_documents.specs.Placeholders.{unless_placeholder}
 use Rattle.json_documents.specs.Plain.{address}
 use Rattle.json_documents.specs.Drafts.{add_local_state}
 use Rattle.json_documents.specs.Ids.{id_below}
@@ -17,14 +19,14 @@ use Rattle.json_documents.specs.Tables.{account_names, local_names}
 -- an account's local state of an application, which may be gone
 abbrev pub local : ℕ → Address → Ledger → Json → Result Ledger Fault
 local end who l j = do
-  _ ← known local_names j
+  _ ← still_known local_names j
   id ← needed (codes "id") (id_below end) j
   entries ← optional (codes "key-value") (state (local_room (application_at l id))) [] j
   add_local_state l who id entries
 
--- an account, beside those before it
-abbrev pub account : ℕ → Ledger → Json → Result Ledger Fault
-account end l j = do
-  _ ← known account_names j
+-- an account, beside those before it, in a document that has placeholders or not
+abbrev pub account : Bool → ℕ → Ledger → Json → Result Ledger Fault
+account there end l j = do
+  _ ← still_known account_names j
   who ← needed (codes "address") address j
-  optional (codes "apps-local-state") (each (local end who) l) l j
+  optional (codes "apps-local-state") (each (unless_placeholder there (local end who)) l) l j

@@ -10,6 +10,7 @@ use Rattle.avm_ledger.specs.Ledgers.{Ledger}
 use Rattle.json.specs.Json.{Json}
 use Rattle.json_documents.specs.Faults.{Fault}
 use Rattle.json_documents.specs.Members.{known, needed, optional}
+use Rattle.json_documents.specs.Deleted.{still_known}
 use Rattle.json_documents.specs.Plain.{address}
 use Rattle.json_documents.specs.declared.sources.SourceField.TheVariants as field
 use Rattle.json_documents.specs.Drafts.{add_application}
@@ -51,7 +52,7 @@ params sources id j = do
 -- an application with an id below this end, beside those before it
 abbrev pub application : ℕ → Sources → Ledger → Json → Result Ledger Fault
 application end sources l j = do
-  _ ← known application_names j
+  _ ← still_known application_names j
   id ← needed (codes "id") (id_below end) j
   app ← needed (codes "params") (params sources id) j
   add_application l id app

@@ -1,11 +1,12 @@
 -- The elements of an array, one after another.
-use Rattle.std.specs.Prelude.{ℕ, ◌+◌, Option, Some, None, Result, Ok, Err}
+use Rattle.std.specs.Prelude.{ℕ, ◌+◌, List, Option, option_and_then, Result, Ok}
 use Rattle.teal_value.specs.Answer.{◌>>=◌}
 use Rattle.json.specs.Json.{Json, Items, no_items, item}
 use Rattle.json.specs.Find.{as_array}
 use Rattle.json_documents.specs.declared.what.What.TheVariants.{NotArray}
 use Rattle.json_documents.specs.Steps.{at_index}
 use Rattle.json_documents.specs.Faults.{Fault, in_step, or_else_fault}
+use Rattle.json_documents.specs.Members.{member}
 
 -- each element in turn is added to what was gathered before it, from an index on
 unfoldable pub gathered : {A : Type 0} → (A → Json → Result A Fault) → ℕ → A → Items → Result A Fault
@@ -18,3 +19,7 @@ elements j = or_else_fault (as_array j) NotArray
 -- each element of an array
 abbrev pub each : {A : Type 0} → (A → Json → Result A Fault) → A → Json → Result A Fault
 each one start j = elements j >>= λ js. gathered one 0 start js
+
+-- the elements of the array that is the member of a name
+abbrev pub items_in : List ℕ → Json → Option Items
+items_in name j = option_and_then as_array (member name j)

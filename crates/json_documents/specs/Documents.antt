@@ -1,5 +1,5 @@
 -- A document: a ledger, a header, and calls.
-use Rattle.std.specs.Prelude.{ℕ, List, [], length, codes, Option, Some, None, Result, Ok}
+use Rattle.std.specs.Prelude.{ℕ, Bool, List, [], length, codes, Option, None, Result, Ok}
 use Rattle.teal_value.specs.Answer.{◌>>=◌}
 use Rattle.avm_ledger.specs.declared.header.Header.{Header}
 use Rattle.avm_ledger.specs.declared.header.Profile.TheVariants.{Three}
@@ -9,11 +9,12 @@ use Rattle.json.specs.Json.{Json}
 use Rattle.json_documents.specs.Faults.{Fault}
 use Rattle.json_documents.specs.Members.{known, optional}
 use Rattle.json_documents.specs.Arrays.{each}
+use Rattle.json_documents.specs.Placeholders.{has_placeholders, unless_placeholder}
 use Rattle.json_documents.specs.Plain.{uint}
 use Rattle.json_documents.specs.Accounts.{account}
 use Rattle.json_documents.specs.Applications.{application}
 use Rattle.json_documents.specs.Ids.{end_of_ids, first_next_id, next_id}
-use Rattle.json_documents.specs.Sources.{Sources, no_sources, targets, with_source}
+use Rattle.json_documents.specs.Sources.{Sources, no_sources, source, targets}
 use Rattle.json_documents.specs.Tables.{document_names}
 use Rattle.json_documents.specs.Transactions.{transactions}
 
@@ -47,18 +48,31 @@ front j = do
 abbrev pub bare_ledger : Option ℕ → Ledger
 bare_ledger next = record empty_ledger { next_id = first_next_id next }
 
-abbrev pub ledger : Option ℕ → Sources → Json → Result Ledger Fault
-ledger next sources j = do
-  l ← optional (codes "apps") (each (application (end_of_ids next) sources) (bare_ledger next)) (bare_ledger next) j
-  optional (codes "accounts") (each (account (end_of_ids next)) l) l j
+-- the programs of a document's sources, which has placeholders or not
+abbrev pub all_sources : Bool → Json → Result Sources Fault
+all_sources there j = optional (codes "sources") (each (source there) no_sources) no_sources j
 
--- what a document says, or its first fault: names first, then member by member, and at last the targets of sources
-abbrev pub document : Json → Result Document Fault
-document j = do
-  _ ← known document_names j
+-- its applications
+abbrev pub applications : Bool → Option ℕ → Sources → Json → Result Ledger Fault
+applications there next sources j =
+    optional (codes "apps") (each (unless_placeholder there (application (end_of_ids next) sources)) (bare_ledger next)) (bare_ledger next) j
+
+-- and its accounts' local states
+abbrev pub ledger : Bool → Option ℕ → Sources → Json → Result Ledger Fault
+ledger there next sources j = do
+  l ← applications there next sources j
+  optional (codes "accounts") (each (account there (end_of_ids next)) l) l j
+
+-- what a document's members say, one by one, and at last the targets of sources
+abbrev pub members : Bool → Json → Result Document Fault
+members there j = do
   f ← front j
-  sources ← optional (codes "sources") (each with_source no_sources) no_sources j
-  l ← ledger f.next_id sources j
+  sources ← all_sources there j
+  l ← ledger there f.next_id sources j
   calls ← optional (codes "txns") (transactions sources) [] j
   _ ← targets sources l (length calls)
   Ok (record { ledger = l; header = f.header; calls = calls })
+
+-- what a document says, or its first fault: names first
+abbrev pub document : Json → Result Document Fault
+document j = known document_names j >>= λ _. members (has_placeholders j) j

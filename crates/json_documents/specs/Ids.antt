@@ -1,10 +1,9 @@
 -- Ids of applications.
-use Rattle.std.specs.Prelude.{ℕ, ◌-◌, ◌^◌, ◌&&◌, nat_le, nat_lt, if◌then◌else◌, codes, Option, Some, None, Result, Ok, Err}
+use Rattle.std.specs.Prelude.{ℕ, ◌-◌, ◌^◌, ◌&&◌, nat_le, nat_lt, if◌then◌else◌, Option, Some, None, Result, Ok, Err}
 use Rattle.teal_value.specs.Answer.{◌>>=◌}
 use Rattle.json.specs.Json.{Json}
 use Rattle.json_documents.specs.declared.what.What.TheVariants.{IdRange}
 use Rattle.json_documents.specs.Faults.{Fault, here}
-use Rattle.json_documents.specs.Members.{optional}
 use Rattle.json_documents.specs.Plain.{uint}
 
 abbrev pub in_range : ℕ → ℕ → Result ℕ Fault

@@ -1,13 +1,16 @@
 pub mod Accounts
 pub mod Applications
 pub mod Arrays
+pub mod Deleted
 pub mod Documents
 pub mod Drafts
 pub mod FaultNames
 pub mod Faults
+pub mod Groups
 pub mod Ids
 pub mod Lines
 pub mod Members
+pub mod Placeholders
 pub mod Plain
 pub mod Programs
 pub mod Reading

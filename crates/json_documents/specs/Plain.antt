@@ -1,5 +1,5 @@
 -- Plain values: numbers, texts, bytes and addresses.
-use Rattle.std.specs.Prelude.{ℕ, Bool, ◌==◌, ◌&&◌, nat_lt, if◌then◌else◌, slice_index, List, length, Option, Some, None, option_and_then, Result, Ok, Err}
+use Rattle.std.specs.Prelude.{ℕ, Bool, ◌==◌, ◌&&◌, nat_lt, if◌then◌else◌, slice_index, List, length, Option, None, option_and_then, Result, Ok, Err}
 use Rattle.std.specs.Result.{result_ok}
 use Rattle.base64.specs.Engines.{standard}
 use Rattle.base64.specs.GeneralPurpose.{decode_of}
@@ -10,9 +10,9 @@ use Rattle.teal_value.specs.declared.address_spelling.AddressFault.{AddressFault
 use Rattle.teal_value.specs.declared.address_spelling.AddressFault.TheVariants as address_fault
 use Rattle.teal_text.specs.Numbers.{number_of}
 use Rattle.json.specs.Json.{Json}
-use Rattle.json.specs.Find.{as_number, as_str}
+use Rattle.json.specs.Find.{as_bool, as_number, as_str}
 use Rattle.json_documents.specs.declared.what.What.{What}
-use Rattle.json_documents.specs.declared.what.What.TheVariants.{NotUint, NotText, BadBase64, BadAddress, BadChecksum}
+use Rattle.json_documents.specs.declared.what.What.TheVariants.{NotUint, NotBool, NotText, BadBase64, BadAddress, BadChecksum}
 use Rattle.json_documents.specs.Faults.{Fault, here, or_else_fault}
 
 -- zeros stand in front, behind which source text has numbers of another base
@@ -24,8 +24,14 @@ abbrev pub decimal_of : List ℕ → Option ℕ
 decimal_of digits = if has_zero_in_front digits then None else number_of digits
 
 -- a number below 2^64, without sign, point and exponent
+abbrev pub uint_of : Json → Option ℕ
+uint_of j = option_and_then decimal_of (as_number j)
+
 abbrev pub uint : Json → Result ℕ Fault
-uint j = or_else_fault (option_and_then decimal_of (as_number j)) NotUint
+uint j = or_else_fault (uint_of j) NotUint
+
+abbrev pub boolean : Json → Result Bool Fault
+boolean j = or_else_fault (as_bool j) NotBool
 
 abbrev pub text : Json → Result (List ℕ) Fault
 text j = or_else_fault (as_str j) NotText

@@ -1,5 +1,6 @@
 -- Programs as source text, which stand apart from the applications and the transactions that they are for.
-use Rattle.std.specs.Prelude.{ℕ, ◌+◌, Bool, nat_lt, if◌then◌else◌, List, [], ◌∷◌, ◌++◌, codes, Option, is_some, Result, Ok, Err}
+use Rattle.std.specs.Prelude.{ℕ, ◌+◌, Bool, true, nat_lt, if◌then◌else◌, List, [], ◌∷◌, ◌++◌, codes, Option, Some, None, is_some, Result, Ok, Err}
+use Rattle.std.specs.Option.{option_map_or}
 use Rattle.std.specs.Ordering.{nat_cmp}
 use Rattle.std.specs.Map.{lookup}
 use Rattle.std.specs.Str.{bytes_eq}
@@ -11,6 +12,7 @@ use Rattle.json_documents.specs.declared.what.What.TheVariants as what
 use Rattle.json_documents.specs.Steps.{at_name, at_index}
 use Rattle.json_documents.specs.Faults.{Fault, here, in_step}
 use Rattle.json_documents.specs.Members.{known, needed, optional}
+use Rattle.json_documents.specs.Placeholders.{is_source_of_placeholder}
 use Rattle.json_documents.specs.Plain.{text, uint}
 use Rattle.json_documents.specs.declared.sources.SourceField.{SourceField}
 use Rattle.json_documents.specs.declared.sources.SourceField.TheVariants as field
@@ -25,9 +27,9 @@ Programs = List (ℕ × List ℕ)
 abbrev pub Place : Type 0
 Place = SourceField × ℕ
 
--- the places in the order of the document, and the programs for each field
+-- the places in the order of the document, none for what is passed over, and the programs for each field
 pub record Sources : Type 0 where
-  pub places : List Place
+  pub places : List (Option Place)
   pub approvals : Programs
   pub clears : Programs
   pub call_approvals : Programs
@@ -49,10 +51,10 @@ program_at s field.CallApproval n = program_for s.call_approvals n
 program_at s field.CallClear n = program_for s.call_clears n
 
 abbrev pub with_source_at : Sources → SourceField → ℕ → List ℕ → Sources
-with_source_at s field.Approval n code = record s { places = s.places ++ (field.Approval, n) ∷ []; approvals = with_program s.approvals n code }
-with_source_at s field.Clear n code = record s { places = s.places ++ (field.Clear, n) ∷ []; clears = with_program s.clears n code }
-with_source_at s field.CallApproval n code = record s { places = s.places ++ (field.CallApproval, n) ∷ []; call_approvals = with_program s.call_approvals n code }
-with_source_at s field.CallClear n code = record s { places = s.places ++ (field.CallClear, n) ∷ []; call_clears = with_program s.call_clears n code }
+with_source_at s field.Approval n code = record s { places = s.places ++ Some (field.Approval, n) ∷ []; approvals = with_program s.approvals n code }
+with_source_at s field.Clear n code = record s { places = s.places ++ Some (field.Clear, n) ∷ []; clears = with_program s.clears n code }
+with_source_at s field.CallApproval n code = record s { places = s.places ++ Some (field.CallApproval, n) ∷ []; call_approvals = with_program s.call_approvals n code }
+with_source_at s field.CallClear n code = record s { places = s.places ++ Some (field.CallClear, n) ∷ []; call_clears = with_program s.call_clears n code }
 
 abbrev pub field_named : List ℕ → Result SourceField Fault
 field_named name =
@@ -86,6 +88,14 @@ with_source s j = do
   txn ← optional (codes "txn-index") uint 0 j
   only_source s for (index_of for app txn) source
 
+-- what is passed over has no place
+abbrev pub with_none : Sources → Sources
+with_none s = record s { places = s.places ++ None ∷ [] }
+
+-- a source of a document that has placeholders or not
+abbrev pub source : Bool → Sources → Json → Result Sources Fault
+source there s j = if is_source_of_placeholder there j then Ok (with_none s) else with_source s j
+
 -- ---- their targets
 
 -- whether a place is one of the ledger's applications or of so many calls
@@ -95,10 +105,14 @@ is_there l calls (field.Clear, n) = is_some (application_at l n)
 is_there l calls (field.CallApproval, n) = nat_lt n calls
 is_there l calls (field.CallClear, n) = nat_lt n calls
 
+-- what has no place needs none
+abbrev pub has_target : Ledger → ℕ → Option Place → Bool
+has_target l calls p = option_map_or (is_there l calls) p true
+
 -- the first source from an index on whose target is not in the document is refused
-unfoldable pub targets_from : ℕ → Ledger → ℕ → List Place → Result (Unit {0}) Fault
+unfoldable pub targets_from : ℕ → Ledger → ℕ → List (Option Place) → Result (Unit {0}) Fault
 targets_from i l calls [] = Ok tt
-targets_from i l calls (p ∷ ps) = if is_there l calls p then targets_from (i + 1) l calls ps else in_step (at_index i) (Err (here what.NoTarget))
+targets_from i l calls (p ∷ ps) = if has_target l calls p then targets_from (i + 1) l calls ps else in_step (at_index i) (Err (here what.NoTarget))
 
 abbrev pub targets : Sources → Ledger → ℕ → Result (Unit {0}) Fault
 targets s l calls = in_step (at_name (codes "sources")) (targets_from 0 l calls s.places)

@@ -1,5 +1,5 @@
 -- States: arrays of keys with their values.
-use Rattle.std.specs.Prelude.{ℕ, Bool, true, false, ◌==◌, ◌&&◌, nat_le, if◌then◌else◌, List, [], ◌∷◌, length, codes, is_some, Result, Ok, Err}
+use Rattle.std.specs.Prelude.{ℕ, Bool, true, false, ◌==◌, ◌&&◌, nat_le, if◌then◌else◌, List, [], length, codes, is_some, Result, Ok, Err}
 use Rattle.teal_value.specs.Answer.{◌>>=◌}
 use Rattle.teal_value.specs.Keys.{most_key_bytes}
 use Rattle.teal_value.specs.declared.value.Value.{Value}
@@ -10,7 +10,7 @@ use Rattle.avm_ledger.specs.LedgerReader.{Room}
 use Rattle.json.specs.Json.{Json}
 use Rattle.json_documents.specs.declared.what.What.TheVariants as what
 use Rattle.json_documents.specs.Steps.{at_name}
-use Rattle.json_documents.specs.Faults.{Fault, here, further, in_step}
+use Rattle.json_documents.specs.Faults.{Fault, here, in_step}
 use Rattle.json_documents.specs.Members.{known, needed, optional}
 use Rattle.json_documents.specs.Arrays.{each}
 use Rattle.json_documents.specs.Plain.{bytes, uint}

@@ -1,4 +1,5 @@
--- The names of each object's members: those that are read, and those of the ecosystem's form of which this machine has none.
+-- The names of each object's members: those that are read, and those of the ecosystem's forms of which this machine has none, a dry-run
+-- request's (`DryrunRequest` of go-algorand) and what indexers add (the schemas of Algorand's indexer API).
 use Rattle.std.specs.Prelude.{ℕ, List, [], ◌∷◌, codes}
 
 abbrev pub document_names : List (List ℕ)
@@ -7,7 +8,7 @@ document_names =
     ∷ codes "next-id" ∷ codes "profile" ∷ codes "protocol-version" ∷ codes "round" ∷ codes "sources" ∷ codes "txns" ∷ []
 
 abbrev pub application_names : List (List ℕ)
-application_names = codes "id" ∷ codes "params" ∷ []
+application_names = codes "created-at-round" ∷ codes "deleted" ∷ codes "deleted-at-round" ∷ codes "id" ∷ codes "params" ∷ []
 
 abbrev pub params_names : List (List ℕ)
 params_names =
@@ -23,14 +24,16 @@ value_names = codes "bytes" ∷ codes "type" ∷ codes "uint" ∷ []
 abbrev pub account_names : List (List ℕ)
 account_names =
     codes "address" ∷ codes "amount" ∷ codes "amount-without-pending-rewards" ∷ codes "apps-local-state" ∷ codes "apps-total-extra-pages"
-    ∷ codes "apps-total-schema" ∷ codes "assets" ∷ codes "auth-addr" ∷ codes "created-apps" ∷ codes "created-assets"
-    ∷ codes "incentive-eligible" ∷ codes "last-heartbeat" ∷ codes "last-proposed" ∷ codes "min-balance" ∷ codes "participation"
+    ∷ codes "apps-total-schema" ∷ codes "assets" ∷ codes "auth-addr" ∷ codes "closed-at-round" ∷ codes "created-apps"
+    ∷ codes "created-assets" ∷ codes "created-at-round" ∷ codes "deleted" ∷ codes "incentive-eligible" ∷ codes "last-heartbeat"
+    ∷ codes "last-proposed" ∷ codes "min-balance" ∷ codes "participation"
     ∷ codes "pending-rewards" ∷ codes "reward-base" ∷ codes "rewards" ∷ codes "round" ∷ codes "sig-type" ∷ codes "status"
     ∷ codes "total-apps-opted-in" ∷ codes "total-assets-opted-in" ∷ codes "total-box-bytes" ∷ codes "total-boxes"
     ∷ codes "total-created-apps" ∷ codes "total-created-assets" ∷ []
 
 abbrev pub local_names : List (List ℕ)
-local_names = codes "id" ∷ codes "key-value" ∷ codes "schema" ∷ []
+local_names =
+    codes "closed-out-at-round" ∷ codes "deleted" ∷ codes "id" ∷ codes "key-value" ∷ codes "opted-in-at-round" ∷ codes "schema" ∷ []
 
 abbrev pub signed_names : List (List ℕ)
 signed_names =

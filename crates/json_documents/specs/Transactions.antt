@@ -3,7 +3,6 @@ use Rattle.std.specs.Prelude.{ℕ, ◌==◌, if◌then◌else◌, List, [], ◌�
 use Rattle.std.specs.Str.{bytes_eq}
 use Rattle.teal_value.specs.Answer.{◌>>=◌}
 use Rattle.teal_value.specs.declared.address.Address.{Address}
-use Rattle.avm_states.specs.declared.schema.Schema.{Schema}
 use Rattle.avm_states.specs.Schemas.{most_global_entries, most_local_entries, no_entries}
 use Rattle.avm_items.specs.declared.call_data.Completion.{Completion}
 use Rattle.avm_items.specs.declared.call_data.Completion.TheVariants as completion
@@ -16,14 +15,14 @@ use Rattle.json.specs.Json.{Json}
 use Rattle.json.specs.Find.{as_object, at}
 use Rattle.json_documents.specs.declared.what.What.{What}
 use Rattle.json_documents.specs.declared.what.What.TheVariants as what
-use Rattle.json_documents.specs.Steps.{at_name}
-use Rattle.json_documents.specs.Faults.{Fault, here, in_step}
-use Rattle.json_documents.specs.Members.{known, member, needed, optional}
+use Rattle.json_documents.specs.Faults.{Fault, here}
+use Rattle.json_documents.specs.Members.{known, needed, optional}
 use Rattle.json_documents.specs.Arrays.{each}
 use Rattle.json_documents.specs.Plain.{address, bytes, text, uint}
 use Rattle.json_documents.specs.declared.sources.SourceField.TheVariants as field
 use Rattle.json_documents.specs.declared.call_parts.Target.{Target}
 use Rattle.json_documents.specs.declared.call_parts.Terms.{Terms}
+use Rattle.json_documents.specs.Groups.{Groups, group, with_group}
 use Rattle.json_documents.specs.Programs.{given_or}
 use Rattle.json_documents.specs.Schemas.{schema}
 use Rattle.json_documents.specs.Sources.{Sources, program_at}
@@ -155,30 +154,40 @@ checked_call c = unless_broken c (call_fault c)
 
 -- ---- transactions
 
--- a transaction that is in no group
-abbrev pub ungrouped : Json → Result (Unit {0}) Fault
-ungrouped j = if is_some (member (codes "grp") j) then in_step (at_name (codes "grp")) (Err (here what.Group)) else Ok tt
+-- the group, if any, of a call of an application that is in a group with none before it; this is tested before the names
+abbrev pub lone_call : Groups → Json → Result (Option (List ℕ)) Fault
+lone_call groups j =
+    if is_some (as_object j) then (needed (codes "type") call_type j >>= λ _. optional (codes "grp") (group groups) None j) else Err (here what.NotObject)
 
--- a call of an application that is in no group; this is tested before the names
-abbrev pub lone_call : Json → Result (Unit {0}) Fault
-lone_call j =
-    if is_some (as_object j) then (needed (codes "type") call_type j >>= λ _. ungrouped j) else Err (here what.NotObject)
-
--- the transaction with this index
-abbrev pub transaction : Sources → ℕ → Json → Result CallData Fault
-transaction sources i j = do
-  _ ← lone_call j
+-- the call of the transaction with this index, behind others with these groups, and its own group
+abbrev pub transaction : Sources → Groups → ℕ → Json → Result (CallData × Option (List ℕ)) Fault
+transaction sources groups i j = do
+  own ← lone_call groups j
   _ ← known transaction_names j
   of ← target sources i j
   by ← terms j
-  checked_call (fields of by)
+  call ← checked_call (fields of by)
+  Ok (call, own)
+
+-- the calls of transactions, and their groups
+pub record Batch : Type 0 where
+  pub calls : List CallData
+  pub groups : Groups
+
+abbrev pub empty_batch : Batch
+empty_batch = record { calls = []; groups = [] }
+
+abbrev pub with_call : Batch → CallData → Option (List ℕ) → Batch
+with_call b call own = record { calls = b.calls ++ call ∷ []; groups = with_group b.groups own }
 
 -- a transaction with its signatures, behind those before it
-abbrev pub with_signed : Sources → List CallData → Json → Result (List CallData) Fault
-with_signed sources calls j = do
+abbrev pub with_signed : Sources → Batch → Json → Result Batch Fault
+with_signed sources so_far j = do
   _ ← known signed_names j
-  c ← needed (codes "txn") (transaction sources (length calls)) j
-  Ok (calls ++ c ∷ [])
+  t ← needed (codes "txn") (transaction sources so_far.groups (length so_far.calls)) j
+  Ok (with_call so_far t.0 t.1)
 
+-- the calls of all transactions
 abbrev pub transactions : Sources → Json → Result (List CallData) Fault
-transactions sources j = if is_some (at most_calls j) then Err (here what.TooMany) else each (with_signed sources) [] j
+transactions sources j =
+    if is_some (at most_calls j) then Err (here what.TooMany) else (each (with_signed sources) empty_batch j >>= λ b. Ok b.calls)

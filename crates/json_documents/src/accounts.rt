@@ -11,10 +11,12 @@ ghost use Rattle.json_documents.specs.Drafts.{add_local_state};
 ghost use Rattle.json_documents.specs.States.{state};
 
 use crate::arrays::{Gather, optional_each};
+use crate::deleted::still_known;
 use crate::fault::{Fault, FieldError};
 use crate::ids::{Id, IdForm};
 use crate::ledger_draft::{ApplicationDraft, LedgerDraft};
-use crate::members::{known, needed};
+use crate::members::needed;
+use crate::placeholders::is_placeholder;
 use crate::plain::PlainAddress;
 use crate::states::{StateForm, optional_state};
 use crate::tables::{ACCOUNT, LOCAL};
@@ -24,9 +26,10 @@ use json::Value;
 use std::alloc::Global;
 use teal_value::Address;
 
-/// The local states of an account, of applications with ids below this end.
+/// The local states of an account, of applications with ids below this end, in a document that has placeholders or not.
 #[derive(Clone, Copy)]
 struct LocalStates {
+    placeholders: bool,
     end: u64,
     who: Address,
 }
@@ -35,8 +38,9 @@ impl Gather for LocalStates {
     type Gathered = LedgerDraft;
 
     ghost use Rattle.json_documents.specs.Accounts.{local};
+    ghost use Rattle.json_documents.specs.Placeholders.{unless_placeholder};
 
-    ghost adding = { λ a. local a.end a.who };
+    ghost adding = { λ a. unless_placeholder a.placeholders (local a.end a.who) };
 
     fn add(
         &self,
@@ -44,7 +48,10 @@ impl Gather for LocalStates {
         so_far: LedgerDraft,
         element: &Value<'_>,
     ) -> Result<LedgerDraft, FieldError> {
-        known(alloc, &LOCAL, element)?;
+        if is_placeholder(self.placeholders, element) {
+            return Ok(so_far);
+        }
+        still_known(alloc, &LOCAL, element)?;
         let id = needed(alloc, &IdForm { end: self.end }, element, "id")?;
         let state = key_values(alloc, &so_far, id, element)?;
         add_local_state(alloc, so_far, self.who, id, state)
@@ -92,9 +99,10 @@ fn add_local_state(
     }
 }
 
-/// Accounts with local states of applications with ids below this end.
+/// Accounts with local states of applications with ids below this end, in a document that has placeholders or not.
 #[derive(Clone, Copy)]
 pub(crate) struct Accounts {
+    pub placeholders: bool,
     pub end: u64,
 }
 
@@ -103,7 +111,7 @@ impl Gather for Accounts {
 
     ghost use Rattle.json_documents.specs.Accounts.{account};
 
-    ghost adding = { λ a. account a.end };
+    ghost adding = { λ a. account a.placeholders a.end };
 
     fn add(
         &self,
@@ -111,9 +119,13 @@ impl Gather for Accounts {
         so_far: LedgerDraft,
         element: &Value<'_>,
     ) -> Result<LedgerDraft, FieldError> {
-        known(alloc, &ACCOUNT, element)?;
+        still_known(alloc, &ACCOUNT, element)?;
         let who = needed(alloc, &PlainAddress, element, "address")?;
-        let locals = LocalStates { end: self.end, who };
+        let locals = LocalStates {
+            placeholders: self.placeholders,
+            end: self.end,
+            who,
+        };
         optional_each(alloc, &locals, so_far, element, "apps-local-state")
     }
 }

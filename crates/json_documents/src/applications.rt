@@ -7,7 +7,7 @@ ghost use Rattle.json.specs.Value.{value_view};
 ghost use Rattle.json_documents.specs.Members.{needed, optional};
 ghost use Rattle.json_documents.specs.declared.sources.SourceField.TheVariants as field;
 ghost use Rattle.avm_states.specs.Schemas.{no_entries};
-ghost use Rattle.json_documents.specs.Applications.{limits};
+ghost use Rattle.json_documents.specs.Applications.{application, limits, params};
 ghost use Rattle.json_documents.specs.Drafts.{add_application};
 ghost use Rattle.json_documents.specs.Programs.{given_or, program};
 ghost use Rattle.json_documents.specs.Schemas.{schema};
@@ -16,10 +16,12 @@ ghost use Rattle.json_documents.specs.Sources.{program_at};
 ghost use Rattle.json_documents.specs.States.{state};
 
 use crate::arrays::Gather;
+use crate::deleted::still_known;
 use crate::fault::{Fault, FieldError};
 use crate::ids::{Id, IdForm};
 use crate::ledger_draft::{ApplicationDraft, LedgerDraft};
 use crate::members::{Form, known, needed, optional};
+use crate::placeholders::is_placeholder;
 use crate::plain::PlainAddress;
 use crate::programs::ProgramForm;
 use crate::schemas::{NO_ENTRIES, SchemaForm};
@@ -131,9 +133,10 @@ fn global_state(alloc: Global, schema: Schema, params: &Value<'_>) -> Result<Sta
     optional_state(alloc, within, params, "global-state")
 }
 
-/// Applications with ids below this end, beside one another.
+/// Applications with ids below this end, beside one another, in a document that has placeholders or not.
 #[derive(Clone, Copy)]
 pub(crate) struct Applications<'s> {
+    pub placeholders: bool,
     pub end: u64,
     pub sources: &'s Sources,
 }
@@ -142,8 +145,9 @@ impl Gather for Applications<'_> {
     type Gathered = LedgerDraft;
 
     ghost use Rattle.json_documents.specs.Applications.{application};
+    ghost use Rattle.json_documents.specs.Placeholders.{unless_placeholder};
 
-    ghost adding = { λ a. application a.end a.sources.now };
+    ghost adding = { λ a. unless_placeholder a.placeholders (application a.end a.sources.now) };
 
     fn add(
         &self,
@@ -151,14 +155,46 @@ impl Gather for Applications<'_> {
         so_far: LedgerDraft,
         element: &Value<'_>,
     ) -> Result<LedgerDraft, FieldError> {
-        known(alloc, &APPLICATION, element)?;
+        if is_placeholder(self.placeholders, element) {
+            Ok(so_far)
+        } else {
+            self.add_one(alloc, so_far, element)
+        }
+    }
+}
+
+impl Applications<'_> {
+    /// Adds an application.
+    fn add_one(
+        &self,
+        alloc: Global,
+        so_far: LedgerDraft,
+        element: &Value<'_>,
+    ) -> Result<LedgerDraft, FieldError>
+        ensures { Gives (λ l. l) result
+            (application self.now.end self.now.sources.now so_far (value_view element.now)) }
+    {
+        still_known(alloc, &APPLICATION, element)?;
         let id = needed(alloc, &IdForm { end: self.end }, element, "id")?;
+        let application = self.params(alloc, id, element)?;
+        add_application(alloc, so_far, id, application)
+    }
+
+    /// What the application of this id is made with.
+    fn params(
+        &self,
+        alloc: Global,
+        id: Id,
+        element: &Value<'_>,
+    ) -> Result<ApplicationDraft, FieldError>
+        ensures { Gives (λ a. a) result
+            (needed (codes "params") (params self.now.sources.now id) (value_view element.now)) }
+    {
         let params = ParamsForm {
             sources: self.sources,
             id: id.number(),
         };
-        let application = needed(alloc, &params, element, "params")?;
-        add_application(alloc, so_far, id, application)
+        needed(alloc, &params, element, "params")
     }
 }
 

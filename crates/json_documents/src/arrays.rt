@@ -5,7 +5,7 @@ ghost use Rattle.std.specs.Option.{option_map};
 ghost use Rattle.json.specs.Find.{as_array};
 ghost use Rattle.teal_value.specs.Answer.{Gives};
 ghost use Rattle.json.specs.Value.{items_view, value_view};
-ghost use Rattle.json_documents.specs.Arrays.{each, gathered};
+ghost use Rattle.json_documents.specs.Arrays.{each, gathered, items_in};
 ghost use Rattle.json_documents.specs.Members.{optional};
 
 use crate::fault::{Fault, FieldError, in_item, in_member};
@@ -42,6 +42,17 @@ fn array_of<'v, 'a>(value: &'v Value<'a>) -> Option<&'v [Value<'a>]>
     match value {
         Value::Array(items) => Some(items.as_slice()),
         _ => None,
+    }
+}
+
+/// The elements of the array that is the member of this name.
+pub(crate) fn items_in<'v, 'a>(object: &'v Value<'a>, name: &str) -> Option<&'v [Value<'a>]>
+    ensures { option_map (λ items. items_view items.now) result
+        ≡ items_in name.now (value_view object.now) }
+{
+    match member(object, name) {
+        Some(value) => array_of(value),
+        None => None,
     }
 }
 

@@ -1,25 +1,24 @@
 //! A document: a ledger, a header, and calls.
 
-ghost use Rattle.std.specs.Prelude.{◌≡◌, codes};
+ghost use Rattle.std.specs.Prelude.{◌≡◌};
 ghost use Rattle.teal_value.specs.Answer.{Gives};
 ghost use Rattle.json.specs.Value.{value_view};
-ghost use Rattle.json_documents.specs.Arrays.{each};
-ghost use Rattle.json_documents.specs.Members.{optional};
-ghost use Rattle.json_documents.specs.Documents.{document, front, ledger};
+ghost use Rattle.json_documents.specs.Documents.{all_sources, applications, document, front, ledger, members};
 ghost use Rattle.json_documents.specs.Shown.{document_shown, front_shown};
-ghost use Rattle.json_documents.specs.Sources.{no_sources, with_source};
 
 use crate::accounts::Accounts;
 use crate::applications::Applications;
 use crate::arrays::optional_each;
+use crate::calls::Calls;
 use crate::fault::FieldError;
 use crate::ids::{NextIdForm, end_of_ids, first_next_id};
 use crate::ledger_draft::LedgerDraft;
 use crate::members::{known, optional};
+use crate::placeholders::has_placeholders;
 use crate::plain::Uint;
 use crate::sources::{SourceTexts, Sources};
 use crate::tables::DOCUMENT;
-use crate::transactions::{Calls, TransactionsForm};
+use crate::transactions::TransactionsForm;
 use avm_ledger::{Header, Profile};
 use json::Value;
 use std::alloc::Global;
@@ -44,9 +43,16 @@ pub(crate) fn document_of(alloc: Global, value: &Value<'_>) -> Result<Document, 
     ensures { Gives document_shown result (document (value_view value.now)) }
 {
     known(alloc, &DOCUMENT, value)?;
+    members(alloc, has_placeholders(value), value)
+}
+
+/// What its members say, and at last whether the targets of sources are there.
+fn members(alloc: Global, placeholders: bool, value: &Value<'_>) -> Result<Document, FieldError>
+    ensures { Gives document_shown result (members placeholders (value_view value.now)) }
+{
     let front = front_of(alloc, value)?;
-    let sources = all_sources(alloc, value)?;
-    let ledger = ledger(alloc, front.next_id, &sources, value)?;
+    let sources = all_sources(alloc, placeholders, value)?;
+    let ledger = ledger(alloc, placeholders, front.next_id, &sources, value)?;
     let form = TransactionsForm { sources: &sources };
     let calls = optional(alloc, &form, Calls::new(alloc), value, "txns")?;
     sources.targets(alloc, &ledger, calls.len())?;
@@ -79,25 +85,48 @@ fn front_of(alloc: Global, value: &Value<'_>) -> Result<Front, FieldError>
 }
 
 /// The programs that stand as source text.
-fn all_sources(alloc: Global, value: &Value<'_>) -> Result<Sources, FieldError>
-    ensures { Gives (λ s. s) result (optional (codes "sources")
-        (each with_source no_sources) no_sources (value_view value.now)) }
+fn all_sources(alloc: Global, placeholders: bool, value: &Value<'_>) -> Result<Sources, FieldError>
+    ensures { Gives (λ s. s) result (all_sources placeholders (value_view value.now)) }
 {
-    optional_each(alloc, &SourceTexts, Sources::new(alloc), value, "sources")
+    let texts = SourceTexts { placeholders };
+    optional_each(alloc, &texts, Sources::new(alloc), value, "sources")
 }
 
 /// The applications and the local states of accounts.
 fn ledger(
     alloc: Global,
+    placeholders: bool,
     next_id: Option<u64>,
     sources: &Sources,
     value: &Value<'_>,
 ) -> Result<LedgerDraft, FieldError>
-    ensures { Gives (λ l. l) result (ledger next_id sources.now (value_view value.now)) }
+    ensures { Gives (λ l. l) result (ledger placeholders next_id sources.now
+        (value_view value.now)) }
 {
-    let end = end_of_ids(next_id);
+    let ledger = applications(alloc, placeholders, next_id, sources, value)?;
+    let accounts = Accounts {
+        placeholders,
+        end: end_of_ids(next_id),
+    };
+    optional_each(alloc, &accounts, ledger, value, "accounts")
+}
+
+/// The applications alone.
+fn applications(
+    alloc: Global,
+    placeholders: bool,
+    next_id: Option<u64>,
+    sources: &Sources,
+    value: &Value<'_>,
+) -> Result<LedgerDraft, FieldError>
+    ensures { Gives (λ l. l) result (applications placeholders next_id sources.now
+        (value_view value.now)) }
+{
     let bare = LedgerDraft::new(alloc, first_next_id(next_id));
-    let applications = Applications { end, sources };
-    let ledger = optional_each(alloc, &applications, bare, value, "apps")?;
-    optional_each(alloc, &Accounts { end }, ledger, value, "accounts")
+    let applications = Applications {
+        placeholders,
+        end: end_of_ids(next_id),
+        sources,
+    };
+    optional_each(alloc, &applications, bare, value, "apps")
 }

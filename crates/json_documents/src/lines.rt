@@ -5,8 +5,8 @@ ghost use Rattle.std.specs.List.{flat_map};
 ghost use Rattle.json_documents.specs.Lines.{call_line, line, lines_text};
 ghost use Rattle.json_documents.specs.Shown.{document_shown};
 
+use crate::calls::SharedCall;
 use crate::document::Document;
-use crate::transactions::SharedCall;
 use avm_block::header_codec::put_header;
 use avm_call_codec::CallCodec;
 use avm_input::digit_line;

@@ -3,7 +3,7 @@
 ghost use Rattle.std.specs.Prelude.{◌≡◌};
 ghost use Rattle.teal_value.specs.Answer.{Gives};
 ghost use Rattle.json.specs.Value.{value_view};
-ghost use Rattle.json_documents.specs.Plain.{address, address_what, base64, bytes, decimal_of, text, uint};
+ghost use Rattle.json_documents.specs.Plain.{address, address_what, base64, boolean, bytes, decimal_of, text, uint, uint_of};
 
 use crate::fault::{Fault, FieldError};
 use crate::members::Form;
@@ -89,12 +89,19 @@ impl Form for PlainAddress {
 fn uint_of(alloc: Global, value: &Value<'_>) -> Result<u64, FieldError>
     ensures { Gives (λ n. n) result (uint (value_view value.now)) }
 {
-    let Some(digits) = value.as_number() else {
-        return Err(Fault::here(alloc, What::NotUint));
-    };
-    match decimal_of(digits) {
+    match number_of(value) {
         Some(number) => Ok(number),
         None => Err(Fault::here(alloc, What::NotUint)),
+    }
+}
+
+/// The number that a value is, if it is one.
+pub(crate) fn number_of(value: &Value<'_>) -> Option<u64>
+    ensures { result ≡ uint_of (value_view value.now) }
+{
+    match value.as_number() {
+        Some(digits) => decimal_of(digits),
+        None => None,
     }
 }
 
@@ -107,6 +114,16 @@ fn decimal_of(digits: &str) -> Option<u64>
         return None;
     }
     number_of_word(bytes)
+}
+
+/// The value that has to be `true` or `false`.
+pub(crate) fn boolean_of(alloc: Global, value: &Value<'_>) -> Result<bool, FieldError>
+    ensures { Gives (λ b. b) result (boolean (value_view value.now)) }
+{
+    match value.as_bool() {
+        Some(boolean) => Ok(boolean),
+        None => Err(Fault::here(alloc, What::NotBool)),
+    }
 }
 
 /// The text of a value that has to be a string.

@@ -3,12 +3,13 @@
 ghost use Rattle.std.specs.Prelude.{◌≡◌, IfOk};
 ghost use Rattle.std.specs.Option.{option_copied};
 ghost use Rattle.teal_value.specs.Answer.{Gives};
-ghost use Rattle.json_documents.specs.Sources.{field_named, index_of, is_there, no_sources, only_source, program_at, targets, targets_from, with_source_at};
+ghost use Rattle.json_documents.specs.Sources.{field_named, has_target, index_of, is_there, no_sources, only_source, program_at, targets, targets_from, with_none, with_source_at};
 
 use crate::arrays::Gather;
 use crate::fault::{Fault, FieldError, in_item, in_member};
 use crate::ledger_draft::LedgerDraft;
 use crate::members::{Form, known, needed, optional};
+use crate::placeholders::is_source_of_placeholder;
 use crate::plain::{PlainText, Uint, text_of};
 use crate::programs::program_of_source;
 use crate::tables::SOURCE;
@@ -61,9 +62,10 @@ fn field_named(alloc: Global, name: &str) -> Result<SourceField, FieldError>
     }
 }
 
-/// The programs of sources, found by what they are for, and what each is for in the order of the document.
+/// The programs of sources, found by what they are for, and what each is for in the order of the document; nothing, where it is
+/// passed over.
 pub(crate) struct Sources {
-    places: Vec<(SourceField, u64)>,
+    places: Vec<Option<(SourceField, u64)>>,
     approvals: BTreeMap<u64, ByteString>,
     clears: BTreeMap<u64, ByteString>,
     call_approvals: BTreeMap<u64, ByteString>,
@@ -123,13 +125,22 @@ impl Sources {
         ensures { IfOk result (λ s. s ≡ with_source_at self field index code) }
     {
         let mut sources = self;
-        sources.places.push((field, index))?;
+        sources.places.push(Some((field, index)))?;
         match field {
             SourceField::Approval => sources.approvals.insert(index, code)?,
             SourceField::Clear => sources.clears.insert(index, code)?,
             SourceField::CallApproval => sources.call_approvals.insert(index, code)?,
             SourceField::CallClear => sources.call_clears.insert(index, code)?,
         };
+        Ok(sources)
+    }
+
+    /// The sources with one that is passed over.
+    fn with_none(self) -> Result<Sources, AllocError>
+        ensures { IfOk result (λ s. s ≡ with_none self) }
+    {
+        let mut sources = self;
+        sources.places.push(None)?;
         Ok(sources)
     }
 
@@ -155,19 +166,29 @@ fn check_targets(
     alloc: Global,
     ledger: &LedgerDraft,
     calls: usize,
-    places: &[(SourceField, u64)],
+    places: &[Option<(SourceField, u64)>],
 ) -> Result<(), FieldError>
     ensures { Gives (λ x. x) result (targets_from 0 ledger.now calls places.now) }
 {
     'places: for (index, place) in places.iter().enumerate() {
-        if !is_there(ledger, calls, *place) {
+        if !has_target(ledger, calls, *place) {
             return Err(in_item(Fault::here(alloc, What::NoTarget), index));
         }
     }
     Ok(())
 }
 
-/// Whether the target of a source is in the document.
+/// Whether the target of a source is in the document. What has no place needs none.
+fn has_target(ledger: &LedgerDraft, calls: usize, place: Option<(SourceField, u64)>) -> bool
+    ensures { result ≡ has_target ledger.now calls place }
+{
+    match place {
+        Some(place) => is_there(ledger, calls, place),
+        None => true,
+    }
+}
+
+/// Whether a place is in the document.
 fn is_there(ledger: &LedgerDraft, calls: usize, place: (SourceField, u64)) -> bool
     ensures { result ≡ is_there ledger.now calls place }
 {
@@ -188,16 +209,18 @@ fn index_of(field: SourceField, application: u64, transaction: u64) -> u64
     }
 }
 
-/// Sources, each for a place of its own.
+/// Sources, each for a place of its own, in a document that has placeholders or not.
 #[derive(Clone, Copy)]
-pub(crate) struct SourceTexts;
+pub(crate) struct SourceTexts {
+    pub placeholders: bool,
+}
 
 impl Gather for SourceTexts {
     type Gathered = Sources;
 
-    ghost use Rattle.json_documents.specs.Sources.{with_source};
+    ghost use Rattle.json_documents.specs.Sources.{source};
 
-    ghost adding = { λ _. with_source };
+    ghost adding = { λ a. source a.placeholders };
 
     fn add(
         &self,
@@ -205,6 +228,9 @@ impl Gather for SourceTexts {
         so_far: Sources,
         element: &Value<'_>,
     ) -> Result<Sources, FieldError> {
+        if is_source_of_placeholder(self.placeholders, element) {
+            return Ok(so_far.with_none()?);
+        }
         known(alloc, &SOURCE, element)?;
         let application = optional(alloc, &Uint, 0, element, "app-index")?;
         let field = needed(alloc, &FieldForm, element, "field-name")?;

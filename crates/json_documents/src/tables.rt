@@ -18,7 +18,13 @@ pub(crate) const DOCUMENT: [&str; 13] = [
 ];
 
 /// An application.
-pub(crate) const APPLICATION: [&str; 2] = ["id", "params"];
+pub(crate) const APPLICATION: [&str; 5] = [
+    "created-at-round",
+    "deleted",
+    "deleted-at-round",
+    "id",
+    "params",
+];
 
 /// What an application is made with.
 pub(crate) const PARAMS: [&str; 8] = [
@@ -39,7 +45,7 @@ pub(crate) const KEY_VALUE: [&str; 2] = ["key", "value"];
 pub(crate) const VALUE: [&str; 3] = ["bytes", "type", "uint"];
 
 /// An account.
-pub(crate) const ACCOUNT: [&str; 27] = [
+pub(crate) const ACCOUNT: [&str; 30] = [
     "address",
     "amount",
     "amount-without-pending-rewards",
@@ -48,8 +54,11 @@ pub(crate) const ACCOUNT: [&str; 27] = [
     "apps-total-schema",
     "assets",
     "auth-addr",
+    "closed-at-round",
     "created-apps",
     "created-assets",
+    "created-at-round",
+    "deleted",
     "incentive-eligible",
     "last-heartbeat",
     "last-proposed",
@@ -70,7 +79,14 @@ pub(crate) const ACCOUNT: [&str; 27] = [
 ];
 
 /// A local state.
-pub(crate) const LOCAL: [&str; 3] = ["id", "key-value", "schema"];
+pub(crate) const LOCAL: [&str; 6] = [
+    "closed-out-at-round",
+    "deleted",
+    "id",
+    "key-value",
+    "opted-in-at-round",
+    "schema",
+];
 
 /// A transaction with its signatures.
 pub(crate) const SIGNED: [&str; 7] = ["lsig", "msig", "outcome", "sgnr", "sig", "timestamp", "txn"];

@@ -1,22 +1,24 @@
 //! Transactions that call applications.
 
-ghost use Rattle.std.specs.Prelude.{◌≡◌, ◌++◌, ◌∷◌, [], IfOk, is_some, length};
+ghost use Rattle.std.specs.Prelude.{◌≡◌, [], codes, is_some, length};
 ghost use Rattle.teal_value.specs.Answer.{Gives};
 ghost use Rattle.json.specs.Find.{as_object};
 ghost use Rattle.json.specs.Value.{value_view};
-ghost use Rattle.json_documents.specs.Members.{optional};
+ghost use Rattle.json_documents.specs.Members.{needed, optional};
 ghost use Rattle.json_documents.specs.Plain.{bytes};
 ghost use Rattle.json_documents.specs.Programs.{given_or};
 ghost use Rattle.json_documents.specs.Sources.{program_at};
-ghost use Rattle.json_documents.specs.Transactions.{call_what, checked_call, lone_call, target, terms, ungrouped};
+ghost use Rattle.json_documents.specs.Transactions.{call_what, checked_call, lone_call, target, terms, transaction};
 
 use crate::arrays::{Gather, each, optional_each};
 use crate::call_parts::{Target, Terms, fields};
 use crate::call_values::{
     Arguments, CallAccounts, CompletionForm, ForeignApplications, LeaseForm, TypeForm,
 };
-use crate::fault::{Fault, FieldError, in_member};
-use crate::members::{Form, known, member, needed, optional};
+use crate::calls::{Batch, Calls, SharedCall};
+use crate::fault::{Fault, FieldError};
+use crate::groups::{GroupForm, Groups};
+use crate::members::{Form, known, needed, optional};
 use crate::plain::{Bytes, PlainAddress, Uint};
 use crate::schemas::{NO_ENTRIES, SchemaForm};
 use crate::sources::{SourceField, Sources};
@@ -27,113 +29,35 @@ use avm_call::{Call, CallFault};
 use avm_items::{Addresses, CallData, Completion};
 use avm_states::{MAX_GLOBAL_ENTRIES, MAX_LOCAL_ENTRIES};
 use json::Value;
-use std::alloc::{AllocError, Global};
-use std::marker::Model;
-use std::sync::Arc;
+use std::alloc::Global;
 use teal_value::{Address, ByteString, ByteStrings, Uints};
 
-/// The fields of a call, which contracts see as such. The programs that it brings are not kept decoded.
-#[derive(Drop)]
-pub(crate) struct SharedCall {
-    fields: Arc<CallData>,
-}
-
-impl Model for SharedCall {
-    ghost use Rattle.std.specs.Arc.{arc_value};
-    ghost use Rattle.avm_items.specs.declared.call_data.CallData.{CallData};
-
-    ghost Value = { CallData };
-
-    ghost view = { λ c. arc_value c.fields };
-}
-
-impl SharedCall {
-    /// The fields of a call, shared with it.
-    fn of(call: &Call) -> Result<SharedCall, AllocError>
-        ensures { IfOk result (λ fields. fields ≡ call.now) }
-    {
-        Ok(SharedCall {
-            fields: call.shared_fields()?,
-        })
-    }
-
-    /// The fields.
-    pub fn fields(&self) -> &CallData
-        ensures { result.now ≡ self.now }
-    {
-        &self.fields
-    }
-}
-
-/// Calls, which contracts see as the list of their fields.
-#[derive(Drop)]
-pub(crate) struct Calls {
-    calls: Vec<SharedCall>,
-}
-
-impl Model for Calls {
-    ghost use Rattle.std.specs.Prelude.{List};
-    ghost use Rattle.avm_items.specs.declared.call_data.CallData.{CallData};
-
-    ghost Value = { List CallData };
-
-    ghost view = { λ c. c.calls.items };
-}
-
-impl Calls {
-    /// No calls. They take no memory.
-    pub fn new(alloc: Global) -> Calls
-        ensures { result ≡ [] }
-    {
-        Calls {
-            calls: Vec::new(alloc),
-        }
-    }
-
-    /// How many there are.
-    pub fn len(&self) -> usize
-        ensures { result ≡ length self.now }
-    {
-        self.calls.len()
-    }
-
-    /// The calls, lent.
-    pub fn as_slice(&self) -> &[SharedCall]
-        ensures { result.now ≡ self.now }
-    {
-        self.calls.as_slice()
-    }
-
-    /// The calls with one more.
-    fn with(self, call: SharedCall) -> Result<Calls, AllocError>
-        ensures { IfOk result (λ calls. calls ≡ self ++ call ∷ []) }
-    {
-        let mut calls = self.calls;
-        calls.push(call)?;
-        Ok(Calls { calls })
-    }
-}
-
-/// The transaction with this index.
+/// The transaction with this index, behind others with these groups.
 #[derive(Clone, Copy)]
 struct TransactionForm<'s> {
     sources: &'s Sources,
+    groups: &'s Groups,
     index: u64,
 }
 
 impl Form for TransactionForm<'_> {
-    type Read = SharedCall;
+    type Read = (SharedCall, Option<[u8; 32]>);
 
     ghost use Rattle.json_documents.specs.Transactions.{transaction};
 
-    ghost meaning = { λ f. transaction f.sources.now f.index };
+    ghost meaning = { λ f. transaction f.sources.now f.groups.now f.index };
 
-    fn read(&self, alloc: Global, value: &Value<'_>) -> Result<SharedCall, FieldError> {
-        lone_call(alloc, value)?;
+    fn read(
+        &self,
+        alloc: Global,
+        value: &Value<'_>,
+    ) -> Result<(SharedCall, Option<[u8; 32]>), FieldError> {
+        let group = lone_call(alloc, self.groups, value)?;
         known(alloc, &TRANSACTION, value)?;
         let target = self.target(alloc, value)?;
         let terms = terms(alloc, value)?;
-        checked_call(alloc, fields(alloc, target, terms)?)
+        let call = checked_call(alloc, fields(alloc, target, terms)?)?;
+        Ok((call, group))
     }
 }
 
@@ -216,30 +140,26 @@ fn terms(alloc: Global, txn: &Value<'_>) -> Result<Terms, FieldError>
     })
 }
 
-/// Refuses what is no object, no call, or one of a group, before its names are looked at.
-fn lone_call(alloc: Global, txn: &Value<'_>) -> Result<(), FieldError>
-    ensures { Gives (λ x. x) result (lone_call (value_view txn.now)) }
+/// The group of a transaction, if it has one. Refuses what is no object, no call, or in one of these groups, before its names are
+/// looked at.
+fn lone_call(
+    alloc: Global,
+    groups: &Groups,
+    txn: &Value<'_>,
+) -> Result<Option<[u8; 32]>, FieldError>
+    ensures { Gives (λ g. g) result (lone_call groups.now (value_view txn.now)) }
 {
     if !is_object(txn) {
         return Err(Fault::here(alloc, What::NotObject));
     }
     needed(alloc, &TypeForm, txn, "type")?;
-    ungrouped(alloc, txn)
+    optional(alloc, &GroupForm { groups }, None, txn, "grp")
 }
 
 fn is_object(value: &Value<'_>) -> bool
     ensures { result ≡ is_some (as_object (value_view value.now)) }
 {
     matches!(value, Value::Object(_))
-}
-
-fn ungrouped(alloc: Global, txn: &Value<'_>) -> Result<(), FieldError>
-    ensures { Gives (λ x. x) result (ungrouped (value_view txn.now)) }
-{
-    match member(txn, "grp") {
-        Some(_) => Err(in_member(Fault::here(alloc, What::Group), "grp")),
-        None => Ok(()),
-    }
 }
 
 /// The fields, where they make a call.
@@ -276,20 +196,36 @@ struct Signed<'s> {
 }
 
 impl Gather for Signed<'_> {
-    type Gathered = Calls;
+    type Gathered = Batch;
 
     ghost use Rattle.json_documents.specs.Transactions.{with_signed};
 
     ghost adding = { λ a. with_signed a.sources.now };
 
-    fn add(&self, alloc: Global, so_far: Calls, element: &Value<'_>) -> Result<Calls, FieldError> {
+    fn add(&self, alloc: Global, so_far: Batch, element: &Value<'_>) -> Result<Batch, FieldError> {
         known(alloc, &SIGNED, element)?;
+        let (call, group) = self.transaction(alloc, &so_far, element)?;
+        Ok(so_far.with(call, group)?)
+    }
+}
+
+impl Signed<'_> {
+    /// The transaction, behind those before it.
+    fn transaction(
+        &self,
+        alloc: Global,
+        so_far: &Batch,
+        signed: &Value<'_>,
+    ) -> Result<(SharedCall, Option<[u8; 32]>), FieldError>
+        ensures { Gives (λ t. t) result (needed (codes "txn") (transaction self.now.sources.now
+            so_far.now.groups (length so_far.now.calls)) (value_view signed.now)) }
+    {
         let form = TransactionForm {
             sources: self.sources,
+            groups: so_far.groups(),
             index: so_far.len() as u64,
         };
-        let call = needed(alloc, &form, element, "txn")?;
-        Ok(so_far.with(call)?)
+        needed(alloc, &form, signed, "txn")
     }
 }
 
@@ -313,6 +249,7 @@ impl Form for TransactionsForm<'_> {
         let signed = Signed {
             sources: self.sources,
         };
-        each(alloc, &signed, Calls::new(alloc), value)
+        let batch = each(alloc, &signed, Batch::new(alloc), value)?;
+        Ok(batch.into_calls())
     }
 }

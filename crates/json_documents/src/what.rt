@@ -20,10 +20,14 @@ pub enum What {
     NotText,
     /// It is no number from 0 to 2^64 - 1 without sign, point and exponent.
     NotUint,
+    /// It is neither `true` nor `false`.
+    NotBool,
     /// The object has a member of this name, which is none of its table.
     Unknown(Text),
     /// A member is missing that has to be there.
     Missing,
+    /// It is there no more: an indexer lists what is gone, too.
+    Deleted,
     /// The string is no base64 of the standard alphabet, with its padding.
     BadBase64,
     /// The string is no text of an address.
@@ -60,7 +64,9 @@ pub enum What {
     TooMany,
     /// The transaction is no application call.
     TxnType,
-    /// The transaction is one of a group.
+    /// The group has another length than 32 bytes.
+    GroupLength,
+    /// A transaction before has the same group.
     Group,
     /// The number is that of no completion.
     Completion,
@@ -95,8 +101,10 @@ impl What {
             What::NotArray => "NotArray",
             What::NotText => "NotText",
             What::NotUint => "NotUint",
+            What::NotBool => "NotBool",
             What::Unknown(_) => "Unknown",
             What::Missing => "Missing",
+            What::Deleted => "Deleted",
             What::BadBase64 => "BadBase64",
             What::BadAddress => "BadAddress",
             What::BadChecksum => "BadChecksum",
@@ -115,6 +123,7 @@ impl What {
             What::NoTarget => "NoTarget",
             What::TooMany => "TooMany",
             What::TxnType => "TxnType",
+            What::GroupLength => "GroupLength",
             What::Group => "Group",
             What::Completion => "Completion",
             What::LeaseLength => "LeaseLength",

@@ -3,6 +3,7 @@ use Rattle.std.proofs.Common.{◌≡◌, ℕ, zero, suc, ◌+◌, ◌<◌, ◌�
 use Rattle.std.specs.Prelude.{All, codes, is_some}
 use Rattle.std.proofs.lemmas.Bool.{eqb-true}
 use Rattle.std.proofs.lemmas.List.Elements.{All-nil, All-push, All-replicate, All-weaker}
+use Rattle.teal_value.specs.Answer.{◌>>=◌}
 use Rattle.teal_value.specs.declared.address.Address.{Address}
 use Rattle.avm_states.specs.Schemas.{most_global_entries, most_local_entries, no_entries}
 use Rattle.avm_items.specs.declared.call_data.Completion.TheVariants as completion
@@ -25,8 +26,9 @@ use Rattle.json_documents.specs.Plain.{address, bytes, uint}
 use Rattle.json_documents.specs.Programs.{given_or}
 use Rattle.json_documents.specs.Schemas.{schema}
 use Rattle.json_documents.specs.Sources.{Programs, Sources, no_sources, program_for}
+use Rattle.json_documents.specs.Groups.{Groups}
 use Rattle.json_documents.specs.Tables.{signed_names, transaction_names}
-use Rattle.json_documents.specs.Transactions.{action, checked_call, fields, lease, lone_call, target, terms, transaction, transactions, unless_broken, with_address, with_bytes, with_signed, with_uint, zero_address, zeros}
+use Rattle.json_documents.specs.Transactions.{Batch, action, checked_call, empty_batch, fields, lease, lone_call, target, terms, transaction, transactions, unless_broken, with_address, with_bytes, with_call, with_signed, with_uint, zero_address, zeros}
 use Rattle.json_laws.proofs.AcceptedSteps.{TypeIn, each_keeps, from, needed_gives, nothing_asked, optional_gives, passed, same_value, there, without_step}
 use Rattle.json_laws.proofs.AcceptedValues.{IsWholeAddress, address_whole, bytes_are, bytes_in, schema_in, uint_small, word_in}
 use Rattle.json_laws.proofs.AcceptedSources.{AreEach, AreSources, given_program_keeps}
@@ -198,27 +200,36 @@ module _ (P C : List ℕ → Type 0) (weakens : Weakens P C) (sources : Sources)
         clear = program_in sources.call_clears i (codes "apsu") j clear are.call_clears re;
       }))))))))))
 
-  transaction_is : (i : ℕ) (j : Json) (x : CallData) → transaction sources i j ≡ Ok x → IsCall C x
-  transaction_is i j x e =
-      from (lone_call j) _ x e (λ u eu e1.
+  transaction_is : (groups : Groups) (i : ℕ) (j : Json) (x : CallData × Option (List ℕ)) → transaction sources groups i j ≡ Ok x → IsCall C x.0
+  transaction_is groups i j x e =
+      from (lone_call groups j) _ x e (λ own eu e1.
       from (known transaction_names j) _ x e1 (λ v ev e2.
       from (target sources i j) _ x e2 (λ of eo e3.
       from (terms j) _ x e3 (λ by eb e4.
-      fields_make C of by x (target_is i j of eo) (terms_are j by eb) e4))))
+      from (checked_call (fields of by)) _ x e4 (λ c ec e5.
+      subst (λ (t : CallData × Option (List ℕ)). IsCall C t.0) (same_value (c, own) x e5) (fields_make C of by c (target_is i j of eo) (terms_are j by eb) ec))))))
 
-  with_signed_keeps : (so_far : List CallData) (j : Json) (x : List CallData) → All (IsCall C) so_far → with_signed sources so_far j ≡ Ok x → All (IsCall C) x
+  -- each call of a batch is one
+  AreCalls : Batch → Type 0
+  AreCalls b = All (IsCall C) b.calls
+
+  with_signed_keeps : (so_far : Batch) (j : Json) (x : Batch) → AreCalls so_far → with_signed sources so_far j ≡ Ok x → AreCalls x
+  unfolding AreCalls
   with_signed_keeps so_far j x all e =
       from (known signed_names j) _ x e (λ u eu e1.
-      from (needed (codes "txn") (transaction sources (length so_far)) j) _ x e1 (λ c ec e2.
-      let call = needed_gives nothing_asked (IsCall C) (codes "txn") (transaction sources (length so_far)) (λ k d q is. transaction_is (length so_far) k d is) j c tt ec in
-      subst (All (IsCall C)) (same_value (so_far ++ c ∷ []) x e2) (All-push (IsCall C) so_far c all call)))
+      from (needed (codes "txn") (transaction sources so_far.groups (length so_far.calls)) j) _ x e1 (λ t et e2.
+      let call = needed_gives nothing_asked (λ (t : CallData × Option (List ℕ)). IsCall C t.0) (codes "txn") (transaction sources so_far.groups (length so_far.calls)) (λ k d q is. transaction_is so_far.groups (length so_far.calls) k d is) j t tt et in
+      subst AreCalls (same_value (with_call so_far t.0 t.1) x e2) (All-push (IsCall C) so_far.calls t.0 all call)))
 
   calls_are : (j : Json) (x : List CallData) → transactions sources j ≡ Ok x → All (IsCall C) x
+  unfolding AreCalls
   calls_are j x e = by (is_some (at most_calls j)) e
     where
-      by : (b : Bool) → cond b (Err (here what.TooMany)) (each (with_signed sources) [] j) ≡ Ok x → All (IsCall C) x
+      by : (b : Bool) → cond b (Err (here what.TooMany)) (each (with_signed sources) empty_batch j >>= λ b. Ok b.calls) ≡ Ok x → All (IsCall C) x
       by true e = absurd cc
-      by false e = each_keeps nothing_asked (All (IsCall C)) (with_signed sources) [] (λ so k y q all is. with_signed_keeps so k y all is) (All-nil (IsCall C)) j x tt e
+      by false e =
+          from (each (with_signed sources) empty_batch j) _ x e (λ b eb e1.
+          subst (All (IsCall C)) (same_value b.calls x e1) (each_keeps nothing_asked AreCalls (with_signed sources) empty_batch (λ so k y q all is. with_signed_keeps so k y all is) (All-nil (IsCall C)) j b tt eb))
 
   -- a call of a document breaks no rule of calls, is of bytes, and has programs that keep C
   pub optional_calls_are : (j : Json) (x : List CallData) → optional (codes "txns") (transactions sources) [] j ≡ Ok x → All (IsCall C) x
@@ -236,16 +247,26 @@ few_items n no_items e = omega arith
 few_items zero (item j js) e = absurd cc
 few_items (suc n) (item j js) e = let more = few_items n js e in omega (arith, more)
 
-one_each : (sources : Sources) (i : ℕ) (calls : List CallData) (js : Items) (x : List CallData) → gathered (with_signed sources) i calls js ≡ Ok x → length x ≡ length calls + count js
+-- how many calls a batch has
+how_many : Batch → ℕ
+how_many b = length b.calls
+
+one_more : (sources : Sources) (so_far : Batch) (j : Json) (next : Batch) → with_signed sources so_far j ≡ Ok next → how_many next ≡ how_many so_far + 1
+unfolding how_many
+one_more sources so_far j next e =
+    from (known signed_names j) _ next e (λ u eu e1.
+    from (needed (codes "txn") (transaction sources so_far.groups (length so_far.calls)) j) _ next e1 (λ t et e2.
+    let same : length (so_far.calls ++ t.0 ∷ []) ≡ length next.calls = ap (λ (b : Batch). length b.calls) (same_value (with_call so_far t.0 t.1) next e2) in
+    omega (arith, length-append so_far.calls (t.0 ∷ []), same)))
+
+one_each : (sources : Sources) (i : ℕ) (so_far : Batch) (js : Items) (x : Batch) → gathered (with_signed sources) i so_far js ≡ Ok x → how_many x ≡ how_many so_far + count js
 unfolding gathered count
-one_each sources i calls no_items x e = let same : length calls ≡ length x = ap length (same_value calls x e) in omega arith
-one_each sources i calls (item j js) x e =
-    from (in_step (at_index i) (with_signed sources calls j)) _ x e (λ next en e1.
-    from (known signed_names j) _ next (without_step _ (with_signed sources calls j) next en) (λ u eu f1.
-    from (needed (codes "txn") (transaction sources (length calls)) j) _ next f1 (λ c ec f2.
-    let same : length (calls ++ c ∷ []) ≡ length next = ap length (same_value (calls ++ c ∷ []) next f2) in
+one_each sources i so_far no_items x e = let same : how_many so_far ≡ how_many x = ap how_many (same_value so_far x e) in omega arith
+one_each sources i so_far (item j js) x e =
+    from (in_step (at_index i) (with_signed sources so_far j)) _ x e (λ next en e1.
+    let one = one_more sources so_far j next (without_step _ (with_signed sources so_far j) next en) in
     let more = one_each sources (i + 1) next js x e1 in
-    omega (arith, more, length-append calls (c ∷ []), same))))
+    omega (arith, more, one))
 
 few_at : (j : Json) (js : Items) → as_array j ≡ Some js → is_some (at most_calls j) ≡ false → count js ≤ most_calls
 few_at (json.array ks) js e few = let same : ks ≡ js = cc in few_items most_calls js (subst (λ k. is_some (get_item most_calls k) ≡ false) same few)
@@ -256,15 +277,18 @@ few_at (json.string s) js e few = absurd cc
 few_at (json.object ms) js e few = absurd cc
 
 few_calls : (sources : Sources) (j : Json) (x : List CallData) → transactions sources j ≡ Ok x → length x ≤ most_calls
+unfolding how_many
 few_calls sources j x e = by (is_some (at most_calls j)) refl e
   where
-    by : (b : Bool) → is_some (at most_calls j) ≡ b → cond b (Err (here what.TooMany)) (each (with_signed sources) [] j) ≡ Ok x → length x ≤ most_calls
+    by : (b : Bool) → is_some (at most_calls j) ≡ b → cond b (Err (here what.TooMany)) (each (with_signed sources) empty_batch j >>= λ b. Ok b.calls) ≡ Ok x → length x ≤ most_calls
     by true is e = absurd cc
     by false is e =
-        from (elements j) _ x e (λ js ej e1.
-        let lengths = one_each sources 0 [] js x e1 in
+        from (each (with_signed sources) empty_batch j) _ x e (λ b eb e1.
+        from (elements j) _ b eb (λ js ej e2.
+        let lengths = one_each sources 0 empty_batch js b e2 in
         let few = few_at j js (there (as_array j) what.NotArray js ej) is in
-        omega (arith, lengths, few))
+        let same : length b.calls ≡ length x = ap length (same_value b.calls x e1) in
+        omega (arith, lengths, few, same)))
 
 -- the calls of a document are no more than a block takes
 pub optional_calls_are_few : (sources : Sources) (j : Json) (x : List CallData) → optional (codes "txns") (transactions sources) [] j ≡ Ok x → length x ≤ most_calls

@@ -12,9 +12,10 @@ use Rattle.json.specs.Json.{Json}
 use Rattle.json_documents.specs.Members.{known, optional}
 use Rattle.json_documents.specs.Arrays.{each}
 use Rattle.json_documents.specs.Plain.{uint}
-use Rattle.json_documents.specs.Documents.{Document, Front, document, front, ledger}
+use Rattle.json_documents.specs.Documents.{Document, Front, all_sources, document, front, ledger}
+use Rattle.json_documents.specs.Placeholders.{has_placeholders}
 use Rattle.json_documents.specs.Ids.{end_of_ids, next_id}
-use Rattle.json_documents.specs.Sources.{Sources, no_sources, targets, with_source}
+use Rattle.json_documents.specs.Sources.{Sources, no_sources, source, targets}
 use Rattle.json_documents.specs.Tables.{document_names}
 use Rattle.json_documents.specs.Transactions.{transactions}
 use Rattle.json_laws.specs.Accepted.{IsAllowedCall, KeepsAllRules}
@@ -69,12 +70,12 @@ pub record IsAccepted (P C : List ℕ → Type 0) (x : Document) : Type 0 where
   pub few : length x.calls ≤ most_calls
 
 pub document_is : {Q : Json → Type 0} (inherited : IsInherited Q) (P C : List ℕ → Type 0) → ProgramsGive Q P → Weakens P C → (j : Json) (x : Document) → Q j
-    → ((sources : Sources) → optional (codes "sources") (each with_source no_sources) no_sources j ≡ Ok sources → AreSources P sources) → document j ≡ Ok x → IsAccepted P C x
+    → ((sources : Sources) → all_sources (has_placeholders j) j ≡ Ok sources → AreSources P sources) → document j ≡ Ok x → IsAccepted P C x
 document_is inherited P C programs weakens j x q give e =
     from (known document_names j) _ x e (λ u eu e1.
     from (front j) _ x e1 (λ f ef e2.
-    from (optional (codes "sources") (each with_source no_sources) no_sources j) _ x e2 (λ sources es e3.
-    from (ledger f.next_id sources j) _ x e3 (λ l el e4.
+    from (all_sources (has_placeholders j) j) _ x e2 (λ sources es e3.
+    from (ledger (has_placeholders j) f.next_id sources j) _ x e3 (λ l el e4.
     from (optional (codes "txns") (transactions sources) [] j) _ x e4 (λ calls ec e5.
     from (targets sources l (length calls)) _ x e5 (λ v ev e6.
     let first = front_is j f ef in
@@ -82,7 +83,7 @@ document_is inherited P C programs weakens j x q give e =
     subst (IsAccepted P C) (same_value (record { ledger = l; header = f.header; calls = calls }) x e6) (record {
       next = f.next_id;
       is_next = first.next_id;
-      ledger = ledger_kept inherited P programs sources are f.next_id first.next_id j l q el;
+      ledger = ledger_kept inherited P programs sources are (has_placeholders j) f.next_id first.next_id j l q el;
       header = first.header;
       profile = first.profile;
       calls = optional_calls_are P C weakens sources are j calls ec;
@@ -129,5 +130,5 @@ pub accepted_documents_keep_the_rules : (j : Json) (x : Document) → document j
 accepted_documents_keep_the_rules j x e =
     all_rules IsProgram (λ s. Unit {0}) x (λ code p. p)
     (document_is nothing_asked IsProgram (λ s. Unit {0}) (record { as_bytes = λ k code q is. given_program k code is }) (record { of_bytes = λ s all. tt; of_programs = λ code p. tt }) j x tt
-    (λ sources is. optional_gives nothing_asked (AreSources IsProgram) (codes "sources") (each with_source no_sources) no_sources (none_are IsProgram)
-    (sources_kept nothing_asked IsProgram (λ k s code q ks is. source_program s code is)) j sources tt is) e)
+    (λ sources is. optional_gives nothing_asked (AreSources IsProgram) (codes "sources") (each (source (has_placeholders j)) no_sources) no_sources (none_are IsProgram)
+    (sources_kept nothing_asked IsProgram (has_placeholders j) (λ k s code q ks is. source_program s code is)) j sources tt is) e)

@@ -1,5 +1,5 @@
 -- What ledgers keep that are put together of applications and accounts.
-use Rattle.std.proofs.Common.{◌≡◌, ℕ, ◌+◌, ◌^◌, ◌<◌, ◌≤◌, true, leb, ltb, ◌&&◌, List, [], max, Option, Some, None, Ok, refl, sym, subst, arith}
+use Rattle.std.proofs.Common.{◌≡◌, ℕ, ◌+◌, ◌^◌, ◌<◌, ◌≤◌, Bool, true, leb, ltb, ◌&&◌, List, [], max, Option, Some, None, Ok, refl, sym, subst, arith}
 use Rattle.std.specs.Prelude.{All, codes, is_ok}
 use Rattle.std.specs.Ordering.{nat_cmp}
 use Rattle.std.specs.FinMap.{nat_cmp-IsAntisymmetric}
@@ -23,12 +23,14 @@ use Rattle.json.specs.Json.{Json}
 use Rattle.json_documents.specs.declared.what.What.TheVariants.{Differs, IdRange}
 use Rattle.json_documents.specs.Faults.{here}
 use Rattle.json_documents.specs.Members.{known, needed, optional}
+use Rattle.json_documents.specs.Deleted.{still_known}
 use Rattle.json_documents.specs.Arrays.{each}
 use Rattle.json_documents.specs.Plain.{address, uint}
 use Rattle.json_documents.specs.Accounts.{account, local}
 use Rattle.json_documents.specs.Applications.{Limits, application, limits, params}
 use Rattle.json_documents.specs.Drafts.{application_beside, is_same_state, is_same_stored, local_state_beside, raised}
-use Rattle.json_documents.specs.Documents.{bare_ledger, ledger}
+use Rattle.json_documents.specs.Documents.{applications, bare_ledger, ledger}
+use Rattle.json_documents.specs.Placeholders.{unless_placeholder}
 use Rattle.json_documents.specs.Ids.{end_of_ids, first_next_id, id_below, in_range, next_id}
 use Rattle.json_documents.specs.Programs.{given_or, program}
 use Rattle.json_documents.specs.Schemas.{schema}
@@ -36,7 +38,7 @@ use Rattle.json_documents.specs.Sources.{Sources, program_for}
 use Rattle.json_documents.specs.States.{state}
 use Rattle.json_documents.specs.Tables.{account_names, application_names, local_names, params_names}
 use Rattle.json_laws.specs.OfBytes.{IsEntryOfBytes}
-use Rattle.json_laws.proofs.AcceptedSteps.{IsInherited, Gives, Keeps, each_keeps, from, needed_gives, nothing_asked, optional_gives, passed, same_value}
+use Rattle.json_laws.proofs.AcceptedSteps.{Gives, IsInherited, Keeps, each_keeps, from, needed_gives, nothing_asked, optional_gives, passed, passing_keeps, same_value}
 use Rattle.json_laws.proofs.AcceptedMaps.{all_inserted}
 use Rattle.json_laws.proofs.AcceptedValues.{IsStateOf, IsWholeAddress, address_whole, nothing_in, schema_in, state_kept, uint_small}
 use Rattle.json_laws.proofs.AcceptedSources.{AreSources, given_program_keeps}
@@ -183,7 +185,7 @@ local_state_beside_kept P end (Some old) l who id s x d whole below fits e = sub
 
 local_kept : (P : List ℕ → Type 0) (end : ℕ) (who : Address) (l : Ledger) (j : Json) (x : Ledger) → IsWholeAddress who → IsDraft P end l → local end who l j ≡ Ok x → IsDraft P end x
 local_kept P end who l j x whole d e =
-    from (known local_names j) _ x e (λ u eu e1.
+    from (still_known local_names j) _ x e (λ u eu e1.
     from (needed (codes "id") (id_below end) j) _ x e1 (λ id ei e2.
     from (optional (codes "key-value") (state (local_room (application_at l id))) [] j) _ x e2 (λ s es e3.
     let below = needed_gives nothing_asked (IsIdBelow end) (codes "id") (id_below end) (λ k n q is. id_is_below end k n is) j id tt ei in
@@ -191,13 +193,14 @@ local_kept P end who l j x whole d e =
     let fits = optional_gives nothing_asked (IsStateOf room) (codes "key-value") (state room) [] (nothing_in room) (λ k t q is. state_kept room k t is) j s tt es in
     local_state_beside_kept P end (local_state_at l who id) l who id s x d whole below fits e3)))
 
-account_kept : (P : List ℕ → Type 0) (end : ℕ) (l : Ledger) (j : Json) (x : Ledger) → IsDraft P end l → account end l j ≡ Ok x → IsDraft P end x
-account_kept P end l j x d e =
-    from (known account_names j) _ x e (λ u eu e1.
+account_kept : (P : List ℕ → Type 0) (there : Bool) (end : ℕ) (l : Ledger) (j : Json) (x : Ledger) → IsDraft P end l → account there end l j ≡ Ok x → IsDraft P end x
+account_kept P there end l j x d e =
+    from (still_known account_names j) _ x e (λ u eu e1.
     from (needed (codes "address") address j) _ x e1 (λ who ew e2.
     let whole = needed_gives nothing_asked IsWholeAddress (codes "address") address (λ k a q is. address_whole k a is) j who tt ew in
-    optional_gives nothing_asked (IsDraft P end) (codes "apps-local-state") (each (local end who) l) l d
-    (each_keeps nothing_asked (IsDraft P end) (local end who) l (λ so_far k next q so is. local_kept P end who so_far k next whole so is) d) j x tt e2))
+    optional_gives nothing_asked (IsDraft P end) (codes "apps-local-state") (each (unless_placeholder there (local end who)) l) l d
+    (each_keeps nothing_asked (IsDraft P end) (unless_placeholder there (local end who)) l
+    (passing_keeps (λ j. Unit {0}) (IsDraft P end) there (local end who) (λ so_far k next q so is. local_kept P end who so_far k next whole so is)) d) j x tt e2))
 
 -- programs that are read as bytes keep P, as those of source text do by `TextsGive`
 pub record ProgramsGive (Q : Json → Type 0) (P : List ℕ → Type 0) : Type 0 where
@@ -223,7 +226,7 @@ module _ {Q : Json → Type 0} (inherited : IsInherited Q) (P : List ℕ → Typ
 
   application_kept : (end : ℕ) → Keeps Q (IsFirstDraft P end) (application end sources)
   application_kept end l j x q d e =
-      from (known application_names j) _ x e (λ u eu e1.
+      from (still_known application_names j) _ x e (λ u eu e1.
       from (needed (codes "id") (id_below end) j) _ x e1 (λ id ei e2.
       from (needed (codes "params") (params sources id) j) _ x e2 (λ app ea e3.
       let below = needed_gives nothing_asked (IsIdBelow end) (codes "id") (id_below end) (λ k n q is. id_is_below end k n is) j id tt ei in
@@ -253,15 +256,15 @@ module _ {Q : Json → Type 0} (inherited : IsInherited Q) (P : List ℕ → Typ
       first_within (Some n) is = omega arith
 
   -- a ledger that was read is a draft with ids below the end of ids of its document
-  pub ledger_kept : (next : Option ℕ) → IsNextId next → Gives Q (IsDraft P (end_of_ids next)) (ledger next sources)
-  ledger_kept next is j x q e =
+  pub ledger_kept : (there : Bool) (next : Option ℕ) → IsNextId next → Gives Q (IsDraft P (end_of_ids next)) (ledger there next sources)
+  ledger_kept there next is j x q e =
       let end = end_of_ids next in
       let bare = bare_draft next is in
-      from (optional (codes "apps") (each (application end sources) (bare_ledger next)) (bare_ledger next) j) _ x e (λ l el e1.
-      let first = optional_gives inherited (IsFirstDraft P end) (codes "apps") (each (application end sources) (bare_ledger next)) (bare_ledger next) bare
-      (each_keeps inherited (IsFirstDraft P end) (application end sources) (bare_ledger next) (application_kept end) bare) j l q el in
-      optional_gives nothing_asked (IsDraft P end) (codes "accounts") (each (account end) l) l first.draft
-      (each_keeps nothing_asked (IsDraft P end) (account end) l (λ so_far k next q so is. account_kept P end so_far k next so is) first.draft) j x tt e1)
+      from (applications there next sources j) _ x e (λ l el e1.
+      let first = optional_gives inherited (IsFirstDraft P end) (codes "apps") (each (unless_placeholder there (application end sources)) (bare_ledger next)) (bare_ledger next) bare
+      (each_keeps inherited (IsFirstDraft P end) (unless_placeholder there (application end sources)) (bare_ledger next) (passing_keeps Q (IsFirstDraft P end) there (application end sources) (application_kept end)) bare) j l q el in
+      optional_gives nothing_asked (IsDraft P end) (codes "accounts") (each (account there end) l) l first.draft
+      (each_keeps nothing_asked (IsDraft P end) (account there end) l (λ so_far k next q so is. account_kept P there end so_far k next so is) first.draft) j x tt e1)
 
 -- ---- the rules
 

@@ -16,9 +16,10 @@ use Rattle.json_documents.specs.Faults.{Fault, here, in_step}
 use Rattle.json_documents.specs.Steps.{at_name}
 use Rattle.json_documents.specs.Members.{known, needed, optional}
 use Rattle.json_documents.specs.Arrays.{each}
+use Rattle.json_documents.specs.Placeholders.{is_source_of_placeholder}
 use Rattle.json_documents.specs.Plain.{bytes, text, uint}
 use Rattle.json_documents.specs.Programs.{checked_code, given_or, if_checked, on_source, program, program_of_source}
-use Rattle.json_documents.specs.Sources.{Programs, Sources, field_named, index_of, no_sources, only_source, program_at, program_for, source_field, with_program, with_source, with_source_at}
+use Rattle.json_documents.specs.Sources.{Programs, Sources, field_named, index_of, no_sources, only_source, program_at, program_for, source as read_source, source_field, with_none, with_program, with_source, with_source_at}
 use Rattle.json_documents.specs.Tables.{source_names}
 use Rattle.json_laws.proofs.AcceptedSteps.{IsInherited, TypeIn, Gives, Keeps, each_keeps, from, needed_gives, same_value, without_step}
 use Rattle.json_laws.proofs.AcceptedMaps.{all_inserted, found_keeps}
@@ -121,5 +122,9 @@ module _ {Q : Json → Type 0} (inherited : IsInherited Q) where
       only_one P s x named.0 for (index_of for app txn) source named.1 are (needed_gives inherited (λ t. (code : List ℕ) → program_of_source t ≡ Ok code → P code) (codes "source") text (λ k t qk ek code ec. gives k t code qk ek ec) j source q es) e5)))))
 
   -- where source texts give programs that keep P, the sources that were read have such programs
-  pub sources_kept : (P : List ℕ → Type 0) → TextsGive Q P → Gives Q (AreSources P) (each with_source no_sources)
-  sources_kept P gives = each_keeps inherited (AreSources P) with_source no_sources (source_kept P gives) (none_are P)
+  pub sources_kept : (P : List ℕ → Type 0) (there : Bool) → TextsGive Q P → Gives Q (AreSources P) (each (read_source there) no_sources)
+  sources_kept P there gives = each_keeps inherited (AreSources P) (read_source there) no_sources (λ s j x q are e. by s j x q are (is_source_of_placeholder there j) e) (none_are P)
+    where
+      by : (s : Sources) (j : Json) (x : Sources) → Q j → AreSources P s → (b : Bool) → cond b (Ok (with_none s)) (with_source s j) ≡ Ok x → AreSources P x
+      by s j x q are true e = subst (AreSources P) (same_value (with_none s) x e) (record { approvals = are.approvals; clears = are.clears; call_approvals = are.call_approvals; call_clears = are.call_clears })
+      by s j x q are false e = source_kept P gives s j x q are e

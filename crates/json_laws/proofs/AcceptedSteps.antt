@@ -8,6 +8,7 @@ use Rattle.json_documents.specs.Steps.{Step, at_index}
 use Rattle.json_documents.specs.Faults.{Fault, in_step, or_else_fault}
 use Rattle.json_documents.specs.Members.{unless_null, member, needed_in, optional_in, needed, optional}
 use Rattle.json_documents.specs.Arrays.{gathered, elements, each}
+use Rattle.json_documents.specs.Placeholders.{is_placeholder, unless_placeholder}
 
 -- The type of the values that a reader gives: a name for a type that its crate does not export by name.
 abbrev pub TypeIn : {A F : Type 0} → Result A F → Type 0
@@ -90,3 +91,17 @@ module _ {Q : Json → Type 0} (inherited : IsInherited Q) where
   -- what holds at the start and is kept by each element holds once an array is read
   pub each_keeps : {A : Type 0} (P : A → Type 0) (one : A → Json → Result A Fault) (start : A) → Keeps Q P one → P start → Gives Q P (each one start)
   each_keeps P one start keeps p j x q e = from (elements j) _ x e (λ js ej e1. gathered_keeps Q P one 0 start js x keeps p (inherited.elements j js q (there (as_array j) _ js ej)) e1)
+
+-- ---- placeholders
+
+-- what holds of what was gathered, where an element is passed over, and else where it is read
+pub passed_or_read : {A : Type 0} (P : A → Type 0) (there : Bool) (one : A → Json → Result A Fault) (so_far : A) (j : Json) (x : A) → P so_far → (one so_far j ≡ Ok x → P x) → unless_placeholder there one so_far j ≡ Ok x → P x
+passed_or_read P there one so_far j x p read e = by (is_placeholder there j) e
+  where
+    by : (b : Bool) → cond b (Ok so_far) (one so_far j) ≡ Ok x → P x
+    by true e = subst P (same_value so_far x e) p
+    by false e = read e
+
+-- what each element keeps that is read is kept
+pub passing_keeps : {A : Type 0} (Q : Json → Type 0) (P : A → Type 0) (there : Bool) (one : A → Json → Result A Fault) → Keeps Q P one → Keeps Q P (unless_placeholder there one)
+passing_keeps Q P there one keeps so_far j x q p e = passed_or_read P there one so_far j x p (keeps so_far j x q p) e

@@ -19,7 +19,7 @@ use Rattle.json.specs.Find.{get_item}
 use Rattle.json_documents.specs.Members.{least_unknown}
 use Rattle.json_documents.specs.Documents.{document, front}
 use Rattle.json_documents.specs.Sources.{no_sources, targets_from}
-use Rattle.json_documents.specs.Transactions.{transactions, with_signed}
+use Rattle.json_documents.specs.Transactions.{Batch, transactions, with_signed}
 use Rattle.json_views.specs.Documents.{array_of, items_of}
 use Rattle.json_views.specs.ShownBlocks.{shown_block, shown_block_entry}
 use Rattle.json_laws.specs.OfBytes.{IsWholeLedgerOfBytes}
@@ -58,14 +58,18 @@ none_behind shown [] n few = refl
 none_behind shown (x ∷ xs) zero few = absurd (omega arith)
 none_behind shown (x ∷ xs) (suc n) few = none_behind shown xs n (omega arith)
 
-calls_add : (es : List Entry) → All HasFaultless es → AddItself (with_signed no_sources) shown_block_entry calls_in es
+-- calls in no group
+abbrev alone : List CallData → Batch
+alone calls = record { calls = calls; groups = [] }
+
+calls_add : (es : List Entry) → All HasFaultless es → AddItself (with_signed no_sources) shown_block_entry (λ before. alone (calls_in before)) es
 unfolding least_unknown HasFaultless
 calls_add es all before e rest is =
     let ok = at_seam HasFaultless before e rest es is all in
-    then_in _ _ _ _ _ (call_back e.call (length (calls_in before)) ok.of_bytes ok.faultless) (ap Ok (sym (map-append (λ (x : Entry). x.call) before (e ∷ []))))
+    then_in _ _ _ _ _ (call_back e.call [] (length (calls_in before)) ok.of_bytes ok.faultless) (ap (λ calls. Ok (alone calls)) (sym (map-append (λ (x : Entry). x.call) before (e ∷ []))))
 
 calls_back : (es : List Entry) → length es ≤ most_calls → All HasFaultless es → transactions no_sources (array_of shown_block_entry es) ≡ Ok (calls_in es)
-calls_back es few all = rw (none_behind shown_block_entry es most_calls few) (array_back (with_signed no_sources) shown_block_entry calls_in es (calls_add es all))
+calls_back es few all = rw (none_behind shown_block_entry es most_calls few) (then _ _ _ _ (array_back (with_signed no_sources) shown_block_entry (λ before. alone (calls_in before)) es (calls_add es all)) refl)
 
 -- ---- the block
 

@@ -15,7 +15,8 @@ use Rattle.avm_rule_laws.specs.Rules.{AreBytes, IsCallOfBytes}
 use Rattle.json.specs.Json.{Json}
 use Rattle.json_documents.specs.Arrays.{each}
 use Rattle.json_documents.specs.Faults.{Fault}
-use Rattle.json_documents.specs.Members.{optional}
+use Rattle.json_documents.specs.Members.{optional, optional_in}
+use Rattle.json_documents.specs.Groups.{Groups, group}
 use Rattle.json_documents.specs.Plain as read
 use Rattle.json_documents.specs.Schemas.{schema}
 use Rattle.json_documents.specs.Sources.{no_sources}
@@ -193,22 +194,24 @@ module _ (c : CallData) (ps : List Place) (is : ShowsCall c ps) (of : IsCallOfBy
       (then _ _ _ _ (optional_back (codes "rekey") read.address zero_address c.rekey_to ps (are_zeros c.rekey_to.0) (address c.rekey_to) is.rekey refl (λ e. let same = all_zeros c.rekey_to.0 of.fields.rekey_to e in λ i. record { 0 = same i }) (address_back c.rekey_to of.fields.rekey_to of.rekey_to))
       (then _ _ _ _ (needed_back (codes "snd") read.address c.sender ps (address c.sender) is.snd refl (address_back c.sender of.fields.sender of.sender)) refl))))))
 
-  lone_back : lone_call (object_of (present ps)) ≡ Ok tt
-  lone_back = then _ _ _ _ (needed_back (codes "type") call_type tt ps (text (codes "appl")) is.type refl refl) (rw (member_of (codes "grp") ps None is.grp) refl)
+  lone_back : (groups : Groups) → lone_call groups (object_of (present ps)) ≡ Ok None
+  lone_back groups =
+      then _ _ _ _ (needed_back (codes "type") call_type tt ps (text (codes "appl")) is.type refl refl) (ap (optional_in (codes "grp") (group groups) None) (member_of (codes "grp") ps None is.grp))
 
 -- ---- calls
 
--- a call of bytes that breaks no rule of calls is read back from how it is shown
-pub call_back : (c : CallData) (i : ℕ) → IsCallOfBytes c → call_fault c ≡ None → transaction no_sources i (shown_call c) ≡ Ok c
-call_back c i of none =
+-- a call of bytes that breaks no rule of calls is read back from how it is shown, in no group
+pub call_back : (c : CallData) (groups : Groups) (i : ℕ) → IsCallOfBytes c → call_fault c ≡ None → transaction no_sources groups i (shown_call c) ≡ Ok (c, None)
+call_back c groups i of none =
     let ps = call_places c in
     let fit = schemas_fit c none in
-    ap (transaction no_sources i) (call_is c) ∙ checked c (call_places c) (shows c) of i none fit.0 fit.1
+    ap (transaction no_sources groups i) (call_is c) ∙ checked c (call_places c) (shows c) of i none fit.0 fit.1
   where
     checked : (c : CallData) (ps : List Place) → ShowsCall c ps → IsCallOfBytes c → (i : ℕ) → call_fault c ≡ None → entries_in c.global_schema ≤ most_global_entries
-        → entries_in c.local_schema ≤ most_local_entries → transaction no_sources i (object_of (present ps)) ≡ Ok c
+        → entries_in c.local_schema ≤ most_local_entries → transaction no_sources groups i (object_of (present ps)) ≡ Ok (c, None)
     checked c ps is of i none global local =
-        then _ _ _ _ (lone_back c ps is of)
+        then _ _ _ _ (lone_back c ps is of groups)
         (then _ _ _ _ (all_known transaction_names ps is.known)
         (then _ _ _ _ (target_back c ps is of i global local)
-        (then _ _ _ _ (terms_back c ps is of) (ap (unless_broken c) none))))
+        (then _ _ _ _ (terms_back c ps is of)
+        (then _ _ _ _ (ap (unless_broken c) none) refl))))

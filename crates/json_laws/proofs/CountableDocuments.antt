@@ -1,5 +1,5 @@
 -- An accepted document has no more applications and local states than its arrays have elements.
-use Rattle.std.proofs.Common.{◌≡◌, ℕ, suc, ◌+◌, ◌*◌, ◌^◌, ◌<◌, ◌≤◌, List, [], ◌∷◌, length, Option, Some, None, Result, Ok, refl, subst, arith}
+use Rattle.std.proofs.Common.{◌≡◌, ℕ, suc, ◌+◌, ◌*◌, ◌^◌, ◌<◌, ◌≤◌, Bool, List, [], ◌∷◌, length, Option, Some, None, Result, Ok, refl, subst, arith}
 use Rattle.std.specs.Prelude.{codes}
 use Rattle.std.specs.Ordering.{match_ordering, nat_cmp}
 use Rattle.std.specs.declared.cmp.Ordering.{Ordering}
@@ -19,16 +19,18 @@ use Rattle.json_documents.specs.Steps.{at_index}
 use Rattle.json_documents.specs.Members.{known, member, needed, optional, optional_in}
 use Rattle.json_documents.specs.Arrays.{each, elements, gathered}
 use Rattle.json_documents.specs.Plain.{address}
+use Rattle.json_documents.specs.Deleted.{still_known}
 use Rattle.json_documents.specs.Accounts.{account, local}
 use Rattle.json_documents.specs.Applications.{application, params}
-use Rattle.json_documents.specs.Documents.{Document, bare_ledger, document, front, ledger}
+use Rattle.json_documents.specs.Documents.{Document, all_sources, applications, bare_ledger, document, front, ledger}
+use Rattle.json_documents.specs.Placeholders.{has_placeholders, unless_placeholder}
 use Rattle.json_documents.specs.Drafts.{application_beside, is_same_state, is_same_stored, local_state_beside, raised}
 use Rattle.json_documents.specs.Ids.{end_of_ids, id_below}
-use Rattle.json_documents.specs.Sources.{Sources, no_sources, targets, with_source}
+use Rattle.json_documents.specs.Sources.{Sources, targets}
 use Rattle.json_documents.specs.States.{state}
 use Rattle.json_documents.specs.Tables.{account_names, application_names, document_names, local_names}
 use Rattle.json_documents.specs.Transactions.{transactions}
-use Rattle.json_laws.proofs.AcceptedSteps.{from, not_null, passed, same_value, there, without_step}
+use Rattle.json_laws.proofs.AcceptedSteps.{from, not_null, passed, passed_or_read, same_value, there, without_step}
 use Rattle.json_laws.proofs.Weights.{elements_weight, got_weight, items_weight, weight}
 
 -- ---- one element, one more at most
@@ -81,43 +83,48 @@ local_count (Some old) l who id s x e = subst (λ y. count y ≤ suc (count l)) 
 
 one_application : (end : ℕ) (sources : Sources) (l : Ledger) (j : Json) (x : Ledger) → application end sources l j ≡ Ok x → count x ≤ count l + (1 + weight j)
 one_application end sources l j x e =
-    from (known application_names j) _ x e (λ u eu e1.
+    from (still_known application_names j) _ x e (λ u eu e1.
     from (needed (codes "id") (id_below end) j) _ x e1 (λ id ei e2.
     from (needed (codes "params") (params sources id) j) _ x e2 (λ app ea e3. omega (arith, application_count (application_at l id) l id app x e3))))
 
 one_local : (end : ℕ) (who : Address) (l : Ledger) (j : Json) (x : Ledger) → local end who l j ≡ Ok x → count x ≤ count l + (1 + weight j)
 one_local end who l j x e =
-    from (known local_names j) _ x e (λ u eu e1.
+    from (still_known local_names j) _ x e (λ u eu e1.
     from (needed (codes "id") (id_below end) j) _ x e1 (λ id ei e2.
     from (optional (codes "key-value") (state (local_room (application_at l id))) [] j) _ x e2 (λ s es e3. omega (arith, local_count (local_state_at l who id) l who id s x e3))))
 
-one_account : (end : ℕ) (l : Ledger) (j : Json) (x : Ledger) → account end l j ≡ Ok x → count x ≤ count l + (1 + weight j)
-one_account end l j x e =
-    from (known account_names j) _ x e (λ u eu e1.
+-- an element that is passed over adds nothing
+passing_count : (there : Bool) (one : Ledger → Json → Result Ledger Fault) → ((l : Ledger) (j : Json) (x : Ledger) → one l j ≡ Ok x → count x ≤ count l + (1 + weight j)) → (l : Ledger) (j : Json) (x : Ledger) → unless_placeholder there one l j ≡ Ok x → count x ≤ count l + (1 + weight j)
+passing_count there one more l j x e = passed_or_read (λ y. count y ≤ count l + (1 + weight j)) there one l j x (omega arith) (more l j x) e
+
+one_account : (there : Bool) (end : ℕ) (l : Ledger) (j : Json) (x : Ledger) → account there end l j ≡ Ok x → count x ≤ count l + (1 + weight j)
+one_account there end l j x e =
+    from (still_known account_names j) _ x e (λ u eu e1.
     from (needed (codes "address") address j) _ x e1 (λ who ew e2.
-    omega (arith, optional_count (codes "apps-local-state") (each (local end who) l) l j x (λ k y is. each_count (local end who) l k y (λ m i z got. one_local end who m i z got) is) e2)))
+    omega (arith, optional_count (codes "apps-local-state") (each (unless_placeholder there (local end who)) l) l j x (λ k y is. each_count (unless_placeholder there (local end who)) l k y (passing_count there (local end who) (λ m i z got. one_local end who m i z got)) is) e2)))
 
 bare_count : (next : Option ℕ) → count (bare_ledger next) ≡ 0
 unfolding count
 bare_count next = refl
 
-ledger_count : (next : Option ℕ) (sources : Sources) (j : Json) (x : Ledger) → ledger next sources j ≡ Ok x → count x ≤ 2 * weight j
-ledger_count next sources j x e =
+ledger_count : (there : Bool) (next : Option ℕ) (sources : Sources) (j : Json) (x : Ledger) → ledger there next sources j ≡ Ok x → count x ≤ 2 * weight j
+ledger_count there next sources j x e =
     let end = end_of_ids next in
-    from (optional (codes "apps") (each (application end sources) (bare_ledger next)) (bare_ledger next) j) _ x e (λ l el e1.
-    let apps = optional_count (codes "apps") (each (application end sources) (bare_ledger next)) (bare_ledger next) j l (λ k y is. each_count (application end sources) (bare_ledger next) k y (λ m i z got. one_application end sources m i z got) is) el in
-    let states = optional_count (codes "accounts") (each (account end) l) l j x (λ k y is. each_count (account end) l k y (λ m i z got. one_account end m i z got) is) e1 in
+    let one = unless_placeholder there (application end sources) in
+    from (applications there next sources j) _ x e (λ l el e1.
+    let apps = optional_count (codes "apps") (each one (bare_ledger next)) (bare_ledger next) j l (λ k y is. each_count one (bare_ledger next) k y (passing_count there (application end sources) (λ m i z got. one_application end sources m i z got)) is) el in
+    let states = optional_count (codes "accounts") (each (account there end) l) l j x (λ k y is. each_count (account there end) l k y (λ m i z got. one_account there end m i z got) is) e1 in
     omega (arith, apps, states, bare_count next))
 
 document_count : (j : Json) (x : Document) → document j ≡ Ok x → count x.ledger ≤ 2 * weight j
 document_count j x e =
     from (known document_names j) _ x e (λ u eu e1.
     from (front j) _ x e1 (λ f ef e2.
-    from (optional (codes "sources") (each with_source no_sources) no_sources j) _ x e2 (λ sources es e3.
-    from (ledger f.next_id sources j) _ x e3 (λ l el e4.
+    from (all_sources (has_placeholders j) j) _ x e2 (λ sources es e3.
+    from (ledger (has_placeholders j) f.next_id sources j) _ x e3 (λ l el e4.
     from (optional (codes "txns") (transactions sources) [] j) _ x e4 (λ calls ec e5.
     from (targets sources l (length calls)) _ x e5 (λ v ev e6.
-    subst (λ (y : Document). count y.ledger ≤ 2 * weight j) (same_value (record { ledger = l; header = f.header; calls = calls }) x e6) (ledger_count f.next_id sources j l el)))))))
+    subst (λ (y : Document). count y.ledger ≤ 2 * weight j) (same_value (record { ledger = l; header = f.header; calls = calls }) x e6) (ledger_count (has_placeholders j) f.next_id sources j l el)))))))
 
 -- where arrays have fewer than 2^31 elements in all, four bytes count applications and states
 pub is_countable : (j : Json) (x : Document) → weight j < 2 ^ 31 → document j ≡ Ok x → IsCountable x.ledger

@@ -12,7 +12,8 @@ use Rattle.json_documents.specs.Arrays.{each}
 use Rattle.json_documents.specs.Plain.{bytes}
 use Rattle.json_documents.specs.Documents.{Document, document}
 use Rattle.json_documents.specs.Programs.{on_source, program, program_of_source}
-use Rattle.json_documents.specs.Sources.{no_sources, with_source}
+use Rattle.json_documents.specs.Sources.{no_sources, source}
+use Rattle.json_documents.specs.Placeholders.{has_placeholders}
 use Rattle.json_laws.specs.OfBytes.{HasStringsOfBytes, IsDocumentOfBytes, ItemsHaveStringsOfBytes, MembersHaveStringsOfBytes}
 use Rattle.json_laws.proofs.AcceptedSteps.{EachItem, IsInherited, from, optional_gives, same_value, there}
 use Rattle.json_laws.proofs.AcceptedValues.{bytes_are}
@@ -85,5 +86,5 @@ pub accepted_documents_are_of_bytes : (j : Json) (x : Document) → HasStringsOf
 accepted_documents_are_of_bytes j x h e =
     all_of_bytes IsProgramOfBytes AreBytes x (λ code p. p.1) (λ code c. c)
     (document_is inherited IsProgramOfBytes AreBytes (record { as_bytes = λ k code q is. given k code is }) (record { of_bytes = λ s all. all; of_programs = λ code p. p.1 }) j x h
-    (λ sources is. optional_gives inherited (AreSources IsProgramOfBytes) (codes "sources") (each with_source no_sources) no_sources (none_are IsProgramOfBytes)
-    (sources_kept inherited IsProgramOfBytes (λ k s code q ks is. spelled s code (string_of k s q (there (as_str k) NotText s ks)) is)) j sources h is) e)
+    (λ sources is. optional_gives inherited (AreSources IsProgramOfBytes) (codes "sources") (each (source (has_placeholders j)) no_sources) no_sources (none_are IsProgramOfBytes)
+    (sources_kept inherited IsProgramOfBytes (has_placeholders j) (λ k s code q ks is. spelled s code (string_of k s q (there (as_str k) NotText s ks)) is)) j sources h is) e)

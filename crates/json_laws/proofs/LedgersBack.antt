@@ -1,5 +1,5 @@
 -- A ledger is read back from how it is shown.
-use Rattle.std.proofs.Common.{◌≡◌, ◌∙◌, [], None, Ok, Some, refl, ap}
+use Rattle.std.proofs.Common.{◌≡◌, ◌∙◌, false, [], None, Ok, Some, refl, ap}
 use Rattle.std.specs.Prelude.{codes}
 use Rattle.std.proofs.lemmas.Bool.{le-leb}
 use Rattle.avm_ledger.specs.Ledgers.{Ledger}
@@ -34,14 +34,14 @@ module _ (l : Ledger) (rules : KeepsRules l) (of : IsWholeLedgerOfBytes l) where
   next_back = then _ _ _ _ (uint_back l.next_id rules.small) (rw (le-leb 1 l.next_id rules.next_id) refl)
 
   -- from whatever document has its applications and its accounts
-  pub ledger_back : (j : Json) → member (codes "apps") j ≡ Some (shown_applications l) → member (codes "accounts") j ≡ Some (shown_accounts l) → ledger (Some l.next_id) no_sources j ≡ Ok l
+  pub ledger_back : (j : Json) → member (codes "apps") j ≡ Some (shown_applications l) → member (codes "accounts") j ≡ Some (shown_accounts l) → ledger false (Some l.next_id) no_sources j ≡ Ok l
   ledger_back j apps accounts =
       let fresh = with_applications l.next_id [] in
       let full = with_applications l.next_id l.applications in
       then _ _ _ _
       (ap (optional_in (codes "apps") (each (application l.next_id no_sources) fresh) fresh) apps
       ∙ ap (in_step (at_name (codes "apps"))) (applications_back l.next_id l.applications rules.small rules.rising_ids rules.applications of.applications))
-      (ap (optional_in (codes "accounts") (each (account l.next_id) full) full) accounts
+      (ap (optional_in (codes "accounts") (each (account false l.next_id) full) full) accounts
       ∙ ap (in_step (at_name (codes "accounts"))) (local_states_back l.next_id l.applications rules.small l.local_states rules.rising_accounts rules.local_states of.local_states))
 
   front_back : front (shown_ledger l) ≡ Ok (record { header = default_header; next_id = Some l.next_id })

@@ -46,5 +46,6 @@ pub mod PathSteps
 pub mod PathPlain
 pub mod PathStates
 pub mod PathSources
+pub mod PathTransactions
 pub mod PathDocuments
 pub mod PathPointers

@@ -1,5 +1,5 @@
 -- Local states are read back from how they are shown, account by account.
-use Rattle.std.proofs.Common.{◌≡◌, ℕ, ◌+◌, ◌<◌, List, [], ◌∷◌, ◌++◌, length, All, Ok, refl, sym, ap, ◌∙◌, subst, arith}
+use Rattle.std.proofs.Common.{◌≡◌, ℕ, ◌+◌, ◌<◌, false, List, [], ◌∷◌, ◌++◌, length, All, Ok, refl, sym, ap, ◌∙◌, subst, arith}
 use Rattle.std.specs.Prelude.{◌^◌, map, max}
 use Rattle.std.specs.Map.{keys_of}
 use Rattle.std.specs.List.Sorted.{IsStrictlySortedBy}
@@ -46,7 +46,7 @@ IsAccount who = (length who.0 ≡ 32) × AreBytes who.0
 
 -- an account is read by reading its local states
 account_by_items : (end : ℕ) (l m : Ledger) (a : Account (ℕ × Entries)) → IsAccount a.who → each (local end a.who) l (array_of shown_local a.items) ≡ Ok m
-    → account end l (shown_account locals_name shown_local a) ≡ Ok m
+    → account false end l (shown_account locals_name shown_local a) ≡ Ok m
 unfolding least_unknown IsAccount
 account_by_items end l m a is e = then_in _ _ _ _ _ (address_back a.who is.0 is.1) (ap (in_step (at_name locals_name)) e)
 
@@ -82,7 +82,7 @@ module _ (next : ℕ) (apps : List (ℕ × StoredApplication)) (small : next < 2
     accounts_of_bytes = All-map (OfItem IsAccount) local_of states (λ k d lt. ((all k d lt).account, (of k d lt).account))
 
     -- the local states of a ledger are read back from the accounts that are shown
-    pub local_states_back : each (account next) (so_far []) (shown_accounts (record { next_id = next; applications = apps; local_states = states })) ≡ Ok (record { next_id = next; applications = apps; local_states = states })
+    pub local_states_back : each (account false next) (so_far []) (shown_accounts (record { next_id = next; applications = apps; local_states = states })) ≡ Ok (record { next_id = next; applications = apps; local_states = states })
     local_states_back =
-        grouped_back (local next) shown_local so_far locals_name (account next) IsAccount (map local_of states) (account_by_items next) accounts_of_bytes locals_add
+        grouped_back (local next) shown_local so_far locals_name (account false next) IsAccount (map local_of states) (account_by_items next) accounts_of_bytes locals_add
         ∙ ap (λ es. Ok (record { next_id = next; applications = apps; local_states = es })) (both_ways states)

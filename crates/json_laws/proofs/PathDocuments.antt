@@ -1,50 +1,43 @@
--- The paths of faults of accounts, applications, transactions and whole documents.
-use Rattle.std.proofs.Common.{◌≡◌, ℕ, ◌+◌, inl, inr, Bool, true, false, cond, ◌&&◌, List, [], ◌∷◌, ◌++◌, length, length-append, Option, Some, None, Result, Ok, Err, refl, sym, ap, subst, ◌∙◌, arith}
-use Rattle.std.specs.Prelude.{◌==◌, is_some, codes, nat_le, nat_lt, option_and_then}
-use Rattle.std.specs.Str.{bytes_eq}
-use Rattle.std.proofs.lemmas.Bool.{eqb-false, true≢false}
+-- The paths of faults of accounts, applications and whole documents.
+use Rattle.std.proofs.Common.{◌≡◌, ℕ, inl, inr, Bool, ◌&&◌, List, [], ◌∷◌, length, Option, Some, None, Ok, Err, refl, sym, ap, subst, ◌∙◌}
+use Rattle.std.specs.Prelude.{is_some, codes, nat_le, nat_lt, option_and_then}
 use Rattle.std.proofs.lemmas.List.{append-nil}
-use Rattle.std.proofs.lemmas.Slice.Eq.{bytes_eq-Decides}
-use Rattle.teal_value.specs.Answer.{◌>>=◌}
 use Rattle.teal_value.specs.declared.address.Address.{Address}
 use Rattle.avm_states.specs.Entries.{Entries}
 use Rattle.avm_states.specs.Schemas.{most_global_entries, most_local_entries, no_entries}
 use Rattle.avm_ledger.specs.declared.application.StoredApplication.{StoredApplication}
 use Rattle.avm_ledger.specs.LedgerReader.{local_room, room_of_schema, stored_in}
 use Rattle.avm_ledger.specs.Ledgers.{Ledger, application_at, local_state_at, with_local_state}
-use Rattle.avm_items.specs.declared.call_data.Completion.TheVariants as completion
-use Rattle.avm_items.specs.declared.call_data.CallData.{CallData}
-use Rattle.avm_block.specs.Blocks.{most_calls}
-use Rattle.avm_call.specs.declared.call_fault.CallFault.{CallFault}
-use Rattle.avm_call.specs.declared.call_fault.CallFault.TheVariants as call
-use Rattle.avm_call.specs.CallRules.{call_fault}
-use Rattle.json.specs.Json.{Json, Members}
-use Rattle.json.specs.Find.{as_object, as_str, at, get, is_null}
+use Rattle.json.specs.Json.{Json}
+use Rattle.json.specs.Find.{at}
 use Rattle.json_documents.specs.declared.what.What.{What}
 use Rattle.json_documents.specs.declared.what.What.TheVariants as what
 use Rattle.json_documents.specs.Steps.{Step, at_index, at_name}
 use Rattle.json_documents.specs.Faults.{Fault, here, in_step}
-use Rattle.json_documents.specs.Members.{known, member, unless_null, needed, needed_in, optional}
+use Rattle.json_documents.specs.Members.{known, needed, needed_in, optional}
 use Rattle.json_documents.specs.Arrays.{each}
-use Rattle.json_documents.specs.Plain.{address, bytes, text, uint}
+use Rattle.json_documents.specs.Plain.{address, text, uint}
+use Rattle.json_documents.specs.Deleted.{still_known}
 use Rattle.json_documents.specs.Ids.{end_of_ids, id_below, in_range, next_id}
 use Rattle.json_documents.specs.Schemas.{schema}
 use Rattle.json_documents.specs.States.{state}
 use Rattle.json_documents.specs.Programs.{given_or, program}
-use Rattle.json_documents.specs.Sources.{Sources, no_sources, program_for, targets, with_source}
+use Rattle.json_documents.specs.Sources.{Sources, no_sources, program_for, source, targets}
 use Rattle.json_documents.specs.Drafts.{application_beside, is_same_state, is_same_stored, local_state_beside, raised}
 use Rattle.json_documents.specs.Accounts.{account, local}
 use Rattle.json_documents.specs.Applications.{application, limits, params}
-use Rattle.json_documents.specs.Transactions.{action, call_type, completion_of, lease, lone_call, only_appl, target, terms, transaction, transactions, ungrouped, unless_broken, whole_lease, with_address, with_bytes, with_signed, with_uint, zero_address, zeros, fields}
-use Rattle.json_documents.specs.Documents.{Document, Front, bare_ledger, document, front, ledger}
+use Rattle.json_documents.specs.Transactions.{transactions}
+use Rattle.json_documents.specs.Documents.{Document, Front, all_sources, applications, bare_ledger, document, front, ledger}
+use Rattle.json_documents.specs.Placeholders.{has_placeholders, unless_placeholder}
 use Rattle.json_documents.specs.Reading.{on_value, value_of_text}
-use Rattle.json_documents.specs.Tables.{account_names, application_names, document_names, local_names, params_names, signed_names, transaction_names}
-use Rattle.json_laws.specs.Paths.{applications_of, next_id_of, behind, Before, IsRefusedCall, IsSecondApplication, IsSecondLocalState, IsObject, IsWrong, LeadsFor, LeadsIn, NamesMissing, PathsLead, PathsOfTextsLead, ValuesAreWrong, ValuesOfTextsAreWrong, sources_of, table, value_at}
-use Rattle.json_laws.proofs.AcceptedSteps.{each_keeps, nothing_asked, optional_gives, passed, same_value}
-use Rattle.json_laws.proofs.PathSteps.{ArePlain, Spot, into, IsLocated, OnFault, Locates, Located, bind_ok, known_object, needed_read, located_all, located_bind, located_each, located_here, located_known, located_needed, located_optional, located_step, then}
-use Rattle.json_laws.proofs.PathPlain.{located_address, located_bytes, located_id_below, located_if, located_next_id, located_of_bytes, located_of_text, located_of_uint, located_refused, located_schema, located_uint}
-use Rattle.json_laws.proofs.PathStates.{located_program, located_state}
+use Rattle.json_documents.specs.Tables.{account_names, application_names, document_names, local_names, params_names}
+use Rattle.json_laws.specs.Paths.{applications_of, next_id_of, behind, Before, IsSecondApplication, IsSecondLocalState, IsWrong, LeadsFor, LeadsIn, NamesMissing, PathsLead, PathsOfTextsLead, ValuesAreWrong, ValuesOfTextsAreWrong, sources_of, table, value_at}
+use Rattle.json_laws.proofs.AcceptedSteps.{each_keeps, nothing_asked, optional_gives, passed, passed_or_read, passing_keeps, same_value}
+use Rattle.json_laws.proofs.PathSteps.{ArePlain, Spot, into, IsLocated, OnFault, Locates, Located, bind_ok, known_object, needed_read, located_all, located_bind, located_each, located_known, located_needed, located_optional, located_unless_placeholder, then}
+use Rattle.json_laws.proofs.PathPlain.{located_address, located_id_below, located_next_id, located_refused, located_schema, located_still_known, located_uint, still_object}
+use Rattle.json_laws.proofs.PathStates.{located_given_or, located_program, located_state}
 use Rattle.json_laws.proofs.PathSources.{located_sources, located_targets}
+use Rattle.json_laws.proofs.PathTransactions.{located_transactions}
 
 -- ---- what may stand twice
 
@@ -64,17 +57,18 @@ beside_same (Some old) l y who id entries e = ap (λ (x : Ledger). x.application
 
 local_same : (end : ℕ) (who : Address) (l : Ledger) (j : Json) (y : Ledger) → local end who l j ≡ Ok y → y.applications ≡ l.applications
 local_same end who l j y e =
-    let u = bind_ok (known local_names j) _ y e in
+    let u = bind_ok (still_known local_names j) _ y e in
     let id = bind_ok (needed (codes "id") (id_below end) j) _ y u.2 in
     let entries = bind_ok (optional (codes "key-value") (state (local_room (application_at l id.0))) [] j) _ y id.2 in
     beside_same (local_state_at l who id.0) l y who id.0 entries.0 entries.2
 
-account_same : (end : ℕ) (l : Ledger) (j : Json) (y : Ledger) → account end l j ≡ Ok y → y.applications ≡ l.applications
-account_same end l j y e =
-    let u = bind_ok (known account_names j) _ y e in
+account_same : (there : Bool) (end : ℕ) (l : Ledger) (j : Json) (y : Ledger) → account there end l j ≡ Ok y → y.applications ≡ l.applications
+account_same there end l j y e =
+    let u = bind_ok (still_known account_names j) _ y e in
     let who = bind_ok (needed (codes "address") address j) _ y u.2 in
-    optional_gives nothing_asked (λ (x : Ledger). x.applications ≡ l.applications) (codes "apps-local-state") (each (local end who.0) l) l refl
-    (each_keeps nothing_asked (λ (x : Ledger). x.applications ≡ l.applications) (local end who.0) l (λ so_far v x q kept read. local_same end who.0 so_far v x read ∙ kept) refl) j y tt who.2
+    optional_gives nothing_asked (λ (x : Ledger). x.applications ≡ l.applications) (codes "apps-local-state") (each (unless_placeholder there (local end who.0)) l) l refl
+    (each_keeps nothing_asked (λ (x : Ledger). x.applications ≡ l.applications) (unless_placeholder there (local end who.0)) l
+    (passing_keeps (λ j. Unit {0}) (λ (x : Ledger). x.applications ≡ l.applications) there (local end who.0) (λ so_far v x q kept read. local_same end who.0 so_far v x read ∙ kept)) refl) j y tt who.2
 
 -- ---- accounts
 
@@ -88,30 +82,29 @@ id_is_uint end j id e =
 located_local : (next : Option ℕ) (who : Address) (apps l : Ledger) (p : Spot) → local_names ≡ table p.path → next_id_of p.document ≡ Ok next → applications_of p.document ≡ Ok apps → l.applications ≡ apps.applications
     → (local (end_of_ids next) who l p.value ≡ Err (here what.Differs) → IsSecondLocalState p.document p.path p.value) → Located p (local (end_of_ids next) who l p.value)
 located_local next who apps l p names given read same second =
-    located_bind p (known local_names p.value) _ (located_known local_names p names) (λ u is.
-    located_bind p (needed (codes "id") (id_below (end_of_ids next)) p.value) _ (located_needed (codes "id") refl (id_below (end_of_ids next)) p (known_object local_names p.value u is) (λ v e. located_id_below next (into p (at_name (codes "id")) v e) given (p.path, refl))) (λ id i.
+    located_bind p (still_known local_names p.value) _ (located_still_known local_names p names) (λ u is.
+    located_bind p (needed (codes "id") (id_below (end_of_ids next)) p.value) _ (located_needed (codes "id") refl (id_below (end_of_ids next)) p (still_object local_names p.value u is) (λ v e. located_id_below next (into p (at_name (codes "id")) v e) given (p.path, refl))) (λ id i.
     located_bind p (optional (codes "key-value") (state (local_room (application_at l id))) [] p.value) _
     (located_optional (codes "key-value") refl (state (local_room (application_at l id))) [] p (λ v e. located_state (local_room (application_at l id)) (into p (at_name (codes "key-value")) v e) refl (λ full.
     (p.value, local_room (application_at l id), p.leads, inr (refl, (id, apps, id_is_uint (end_of_ids next) p.value id i, read, ap (λ stored. local_room (stored_in stored id)) same)), full)))) (λ entries e.
     state_beside_located p (local_state_at l who id) l who id entries (λ differ. second (then _ _ _ _ is (then _ _ _ _ i (then _ _ _ _ e differ)))))))
 
 located_account : (next : Option ℕ) (apps l : Ledger) (p : Spot) → account_names ≡ table p.path → next_id_of p.document ≡ Ok next → applications_of p.document ≡ Ok apps → l.applications ≡ apps.applications
-    → Before (account (end_of_ids next)) apps p.path p.document l → Located p (account (end_of_ids next) l p.value)
+    → Before (account (has_placeholders p.document) (end_of_ids next)) apps p.path p.document l → Located p (account (has_placeholders p.document) (end_of_ids next) l p.value)
 located_account next apps l p names given read same before =
-    located_bind p (known account_names p.value) _ (located_known account_names p names) (λ u is.
-    located_bind p (needed (codes "address") address p.value) _ (located_needed (codes "address") refl address p (known_object account_names p.value u is) (λ v e. located_address _)) (λ who w.
-    located_optional (codes "apps-local-state") refl (each (local (end_of_ids next) who) l) l p (λ v e.
-    located_each (λ (i : ℕ) (x : Ledger). x.applications ≡ apps.applications) (local (end_of_ids next) who) l (into p (at_name (codes "apps-local-state")) v e) (record {
+    located_bind p (still_known account_names p.value) _ (located_still_known account_names p names) (λ u is.
+    located_bind p (needed (codes "address") address p.value) _ (located_needed (codes "address") refl address p (still_object account_names p.value u is) (λ v e. located_address _)) (λ who w.
+    let one = local (end_of_ids next) who in
+    let each_one = unless_placeholder (has_placeholders p.document) one in
+    located_optional (codes "apps-local-state") refl (each each_one l) l p (λ v e.
+    located_each (λ (i : ℕ) (x : Ledger). x.applications ≡ apps.applications) each_one l (into p (at_name (codes "apps-local-state")) v e) (record {
       begins = same;
-      goes_on = λ i x y k at kept one. local_same (end_of_ids next) who x k y one ∙ kept;
-      reads = λ i x k at there kept. located_local next who apps x (into (into p (at_name (codes "apps-local-state")) v e) (at_index i) k at) refl given read kept (λ differ. (refl, (next, apps, l, x, p.value, who, given, read, p.leads, w, before, there, differ)));
+      goes_on = λ i x y k at kept read_it. passed_or_read (λ (z : Ledger). z.applications ≡ apps.applications) (has_placeholders p.document) one x k y kept (λ it. local_same (end_of_ids next) who x k y it ∙ kept) read_it;
+      reads = λ i x k at there kept. located_unless_placeholder (has_placeholders p.document) one x (into (into p (at_name (codes "apps-local-state")) v e) (at_index i) k at)
+          (located_local next who apps x (into (into p (at_name (codes "apps-local-state")) v e) (at_index i) k at) refl given read kept (λ differ. (refl, (next, apps, l, x, p.value, who, given, read, p.leads, w, before, there, differ))));
     }))))
 
 -- ---- applications
-
-located_given_or : (p : Spot) (o : Option (List ℕ)) (r : Result (List ℕ) Fault) → Located p r → Located p (given_or o r)
-located_given_or p None r h = h
-located_given_or p (Some code) r h = record { located = tt }
 
 located_limits : (p : Spot) → Located p (limits p.value)
 located_limits p =
@@ -137,136 +130,10 @@ located_params sources id p names =
 located_application : (next : Option ℕ) (sources : Sources) (l : Ledger) (p : Spot) → application_names ≡ table p.path → next_id_of p.document ≡ Ok next
     → (application (end_of_ids next) sources l p.value ≡ Err (here what.Differs) → IsSecondApplication p.document p.path p.value) → Located p (application (end_of_ids next) sources l p.value)
 located_application next sources l p names given second =
-    located_bind p (known application_names p.value) _ (located_known application_names p names) (λ u is.
-    located_bind p (needed (codes "id") (id_below (end_of_ids next)) p.value) _ (located_needed (codes "id") refl (id_below (end_of_ids next)) p (known_object application_names p.value u is) (λ v e. located_id_below next (into p (at_name (codes "id")) v e) given (p.path, refl))) (λ id i.
-    located_bind p (needed (codes "params") (params sources id) p.value) _ (located_needed (codes "params") refl (params sources id) p (known_object application_names p.value u is) (λ v e. located_params sources id (into p (at_name (codes "params")) v e) refl)) (λ app a.
+    located_bind p (still_known application_names p.value) _ (located_still_known application_names p names) (λ u is.
+    located_bind p (needed (codes "id") (id_below (end_of_ids next)) p.value) _ (located_needed (codes "id") refl (id_below (end_of_ids next)) p (still_object application_names p.value u is) (λ v e. located_id_below next (into p (at_name (codes "id")) v e) given (p.path, refl))) (λ id i.
+    located_bind p (needed (codes "params") (params sources id) p.value) _ (located_needed (codes "params") refl (params sources id) p (still_object application_names p.value u is) (λ v e. located_params sources id (into p (at_name (codes "params")) v e) refl)) (λ app a.
     beside_located p (application_at l id) l id app (λ differ. second (then _ _ _ _ is (then _ _ _ _ i (then _ _ _ _ a differ)))))))
-
--- ---- transactions
-
-appl_located : (p : Spot) (s : List ℕ) (appl : Bool) → as_str p.value ≡ Some s → bytes_eq s (codes "appl") ≡ appl → Located {A = Unit {0}} p (cond appl (Ok tt) (Err (here what.TxnType)))
-appl_located p s true is e = record { located = tt }
-appl_located p s false is e = located_here p _ (s, is, λ same. absurd (true≢false (sym ((bytes_eq-Decides s (codes "appl")).1 same) ∙ e)))
-
-located_call_type : (p : Spot) → Located p (call_type p.value)
-located_call_type p = located_of_text p only_appl (λ s is. appl_located p s (bytes_eq s (codes "appl")) is refl)
-
-completion_located : (at : Spot) (n : ℕ) (a b c d e f : Bool) → uint at.value ≡ Ok n → (n == 0) ≡ a → (n == 1) ≡ b → (n == 2) ≡ c → (n == 3) ≡ d → (n == 4) ≡ e → (n == 5) ≡ f
-    → Located at (cond a (Ok completion.NoOp) (cond b (Ok completion.OptIn) (cond c (Ok completion.CloseOut) (cond d (Ok completion.ClearState) (cond e (Ok completion.UpdateApplication) (cond f (Ok completion.DeleteApplication) (Err (here what.Completion))))))))
-completion_located at n true b c d e f is p q r s t u = record { located = tt }
-completion_located at n false true c d e f is p q r s t u = record { located = tt }
-completion_located at n false false true d e f is p q r s t u = record { located = tt }
-completion_located at n false false false true e f is p q r s t u = record { located = tt }
-completion_located at n false false false false true f is p q r s t u = record { located = tt }
-completion_located at n false false false false false true is p q r s t u = record { located = tt }
-completion_located at n false false false false false false is p q r s t u =
-    located_here at _ (n, is, omega (arith, eqb-false n 0 p, eqb-false n 1 q, eqb-false n 2 r, eqb-false n 3 s, eqb-false n 4 t, eqb-false n 5 u))
-
-located_action : (p : Spot) → Located p (action p.value)
-located_action p = located_of_uint p completion_of (λ n is. completion_located p n (n == 0) (n == 1) (n == 2) (n == 3) (n == 4) (n == 5) is refl refl refl refl refl refl)
-
-located_lease : (p : Spot) → Located p (lease p.value)
-located_lease p = located_of_bytes p whole_lease (λ s is. located_if p (length s == 32) s what.LeaseLength (λ other. (s, is, eqb-false (length s) 32 other)))
-
-located_with_bytes : (so_far : List (List ℕ)) (p : Spot) → Located p (with_bytes so_far p.value)
-located_with_bytes so_far p = located_of_bytes p _ (λ s is. record { located = tt })
-
-located_with_address : (so_far : List Address) (p : Spot) → Located p (with_address so_far p.value)
-located_with_address so_far p = located_bind p (address p.value) _ (located_address p) (λ who is. record { located = tt })
-
-located_with_uint : (so_far : List ℕ) (p : Spot) → Located p (with_uint so_far p.value)
-located_with_uint so_far p = located_of_uint p _ (λ n is. record { located = tt })
-
-located_target : (sources : Sources) (i : ℕ) (p : Spot) → Located p (target sources i p.value)
-located_target sources i p =
-    located_bind p (optional (codes "apaa") (each with_bytes []) [] p.value) _ (located_optional (codes "apaa") refl (each with_bytes []) [] p (λ v e. located_all with_bytes [] (into p (at_name (codes "apaa")) v e) (λ i x k at before. located_with_bytes x _))) (λ arguments e.
-    located_bind p (optional (codes "apan") action completion.NoOp p.value) _ (located_optional (codes "apan") refl action completion.NoOp p (λ v e. located_action _)) (λ after e.
-    located_bind p (given_or (program_for sources.call_approvals i) (optional (codes "apap") bytes [] p.value)) _
-    (located_given_or p (program_for sources.call_approvals i) (optional (codes "apap") bytes [] p.value) (located_optional (codes "apap") refl bytes [] p (λ v e. located_bytes _))) (λ approval e.
-    located_bind p (optional (codes "apat") (each with_address []) [] p.value) _ (located_optional (codes "apat") refl (each with_address []) [] p (λ v e. located_all with_address [] (into p (at_name (codes "apat")) v e) (λ i x k at before. located_with_address x _))) (λ accounts e.
-    located_bind p (optional (codes "apfa") (each with_uint []) [] p.value) _ (located_optional (codes "apfa") refl (each with_uint []) [] p (λ v e. located_all with_uint [] (into p (at_name (codes "apfa")) v e) (λ i x k at before. located_with_uint x _))) (λ foreign e.
-    located_bind p (optional (codes "apgs") (schema (codes "nbs") (codes "nui") most_global_entries) no_entries p.value) _ (located_optional (codes "apgs") refl (schema (codes "nbs") (codes "nui") most_global_entries) no_entries p (λ v e. located_schema (codes "nbs") (codes "nui") most_global_entries refl refl (into p (at_name (codes "apgs")) v e) refl (λ large. inr (inr (inl ((p.path, refl), large)))))) (λ global e.
-    located_bind p (optional (codes "apid") uint 0 p.value) _ (located_optional (codes "apid") refl uint 0 p (λ v e. located_uint _)) (λ application e.
-    located_bind p (optional (codes "apls") (schema (codes "nbs") (codes "nui") most_local_entries) no_entries p.value) _ (located_optional (codes "apls") refl (schema (codes "nbs") (codes "nui") most_local_entries) no_entries p (λ v e. located_schema (codes "nbs") (codes "nui") most_local_entries refl refl (into p (at_name (codes "apls")) v e) refl (λ large. inr (inr (inr ((p.path, refl), large)))))) (λ local e.
-    located_bind p (given_or (program_for sources.call_clears i) (optional (codes "apsu") bytes [] p.value)) _
-    (located_given_or p (program_for sources.call_clears i) (optional (codes "apsu") bytes [] p.value) (located_optional (codes "apsu") refl bytes [] p (λ v e. located_bytes _))) (λ clear e.
-    record { located = tt })))))))))
-
-located_terms : (p : Spot) → IsObject p.value → Located p (terms p.value)
-located_terms p is =
-    located_bind p (optional (codes "fee") uint 0 p.value) _ (located_optional (codes "fee") refl uint 0 p (λ v e. located_uint _)) (λ fee e.
-    located_bind p (optional (codes "fv") uint 0 p.value) _ (located_optional (codes "fv") refl uint 0 p (λ v e. located_uint _)) (λ first e.
-    located_bind p (optional (codes "lv") uint 0 p.value) _ (located_optional (codes "lv") refl uint 0 p (λ v e. located_uint _)) (λ last e.
-    located_bind p (optional (codes "lx") lease zeros p.value) _ (located_optional (codes "lx") refl lease zeros p (λ v e. located_lease _)) (λ own e.
-    located_bind p (optional (codes "note") bytes [] p.value) _ (located_optional (codes "note") refl bytes [] p (λ v e. located_bytes _)) (λ note e.
-    located_bind p (optional (codes "rekey") address zero_address p.value) _ (located_optional (codes "rekey") refl address zero_address p (λ v e. located_address _)) (λ rekey e.
-    located_bind p (needed (codes "snd") address p.value) _ (located_needed (codes "snd") refl address p is (λ v e. located_address _)) (λ sender e.
-    record { located = tt })))))))
-
-call_located : (p : Spot) (c : CallData) (o : Option CallFault) → ((w : What) → unless_broken c o ≡ Err (here w) → IsRefusedCall p.document w p.path p.value) → Located p (unless_broken c o)
-call_located p c None breaks = record { located = tt }
-call_located p c (Some call.Accounts) breaks = located_here p _ (breaks what.Accounts refl)
-call_located p c (Some call.Args) breaks = located_here p _ (breaks what.Args refl)
-call_located p c (Some call.ArgBytes) breaks = located_here p _ (breaks what.ArgBytes refl)
-call_located p c (Some call.Foreign) breaks = located_here p _ (breaks what.Foreign refl)
-call_located p c (Some call.Note) breaks = located_here p _ (breaks what.Note refl)
-call_located p c (Some call.ProgramsMissing) breaks = located_here p _ (breaks what.ProgramsMissing refl)
-call_located p c (Some call.ProgramsGiven) breaks = located_here p _ (breaks what.ProgramsGiven refl)
-call_located p c (Some call.SchemaSize) breaks = located_here p _ (inr (breaks what.SchemaSize refl))
-call_located p c (Some call.ClearOnCreate) breaks = located_here p _ (breaks what.ClearOnCreate refl)
-call_located p c (Some (call.Program f)) breaks = located_here p _ (inr (inr (breaks (what.Program f) refl)))
-
--- a member is not `null`
-not_null : (o : Option Json) (v : Json) → unless_null o ≡ Some v → is_null v ≡ false
-not_null None v e = absurd cc
-not_null (Some w) v e = null_if (is_null w) refl e
-  where
-    null_if : (null : Bool) → is_null w ≡ null → cond null None (Some w) ≡ Some v → is_null v ≡ false
-    null_if true is same = absurd cc
-    null_if false is same = let it : w ≡ v = cc in ap is_null (sym it) ∙ is
-
-group_located : (p : Spot) (o : Option Json) → member (codes "grp") p.value ≡ o → Located {A = Unit {0}} p (cond (is_some o) (in_step (at_name (codes "grp")) (Err (here what.Group))) (Ok tt))
-group_located p None e = record { located = tt }
-group_located p (Some v) e = located_step (at_name (codes "grp")) refl p v (Err (here what.Group)) e (located_here (into p (at_name (codes "grp")) v e) _ ((p.path, refl), not_null (get (codes "grp") p.value) v e))
-
-lone_located : (p : Spot) (o : Option Members) → as_object p.value ≡ o → Located p (cond (is_some o) (needed (codes "type") call_type p.value >>= λ _. ungrouped p.value) (Err (here what.NotObject)))
-lone_located p None e = located_here p _ e
-lone_located p (Some ms) e =
-    located_bind p (needed (codes "type") call_type p.value) (λ _. ungrouped p.value) (located_needed (codes "type") refl call_type p (ap is_some e) (λ v e. located_call_type _)) (λ u t. group_located p (member (codes "grp") p.value) refl)
-
-located_transaction : (sources : Sources) (i : ℕ) (p : Spot) → transaction_names ≡ table p.path → ((w : What) → transaction sources i p.value ≡ Err (here w) → IsRefusedCall p.document w p.path p.value) → Located p (transaction sources i p.value)
-located_transaction sources i p names refused =
-    located_bind p (lone_call p.value) _ (lone_located p (as_object p.value) refl) (λ u l.
-    located_bind p (known transaction_names p.value) _ (located_known transaction_names p names) (λ w is.
-    located_bind p (target sources i p.value) _ (located_target sources i p) (λ of t.
-    located_bind p (terms p.value) _ (located_terms p (known_object transaction_names p.value w is)) (λ by m.
-    call_located p (fields of by) (call_fault (fields of by)) (λ broken last. refused broken (then _ _ _ _ l (then _ _ _ _ is (then _ _ _ _ t (then _ _ _ _ m last)))))))))
-
-located_with_signed : (sources : Sources) (calls : List CallData) (p : Spot) → signed_names ≡ table p.path
-    → ((w : What) (v : Json) → transaction sources (length calls) v ≡ Err (here w) → IsRefusedCall p.document w (at_name (codes "txn") ∷ p.path) v) → Located p (with_signed sources calls p.value)
-located_with_signed sources calls p names refused =
-    located_bind p (known signed_names p.value) _ (located_known signed_names p names) (λ u is.
-    located_bind p (needed (codes "txn") (transaction sources (length calls)) p.value) _
-    (located_needed (codes "txn") refl (transaction sources (length calls)) p (known_object signed_names p.value u is) (λ v e. located_transaction sources (length calls) (into p (at_name (codes "txn")) v e) refl (λ w. refused w v))) (λ c t.
-    record { located = tt }))
-
-signed_counts : (sources : Sources) (calls : List CallData) (j : Json) (y : List CallData) → with_signed sources calls j ≡ Ok y → length y ≡ length calls + 1
-signed_counts sources calls j y e =
-    let u = bind_ok (known signed_names j) _ y e in
-    let c = bind_ok (needed (codes "txn") (transaction sources (length calls)) j) _ y u.2 in
-    ap length (sym (same_value (calls ++ c.0 ∷ []) y c.2)) ∙ length-append calls (c.0 ∷ [])
-
-many_located : (sources : Sources) (p : Spot) (many : Bool) → is_some (at most_calls p.value) ≡ many → signed_names ≡ table p.path → sources_of p.document ≡ Ok sources → Located p (cond many (Err (here what.TooMany)) (each (with_signed sources) [] p.value))
-many_located sources p true e names given = located_here p _ e
-many_located sources p false e names given =
-    located_each (λ (i : ℕ) (calls : List CallData). length calls ≡ i) (with_signed sources) [] p (record {
-      begins = refl;
-      goes_on = λ i x y v at count read. signed_counts sources x v y read ∙ ap (λ n. n + 1) count;
-      reads = λ i x v at before count. located_with_signed sources x (into p (at_index i) v at) names (λ w k refused. (refl, (sources, given, subst (λ n. transaction sources n k ≡ Err (here w)) count refused)));
-    })
-
-located_transactions : (sources : Sources) (p : Spot) → signed_names ≡ table p.path → sources_of p.document ≡ Ok sources → Located p (transactions sources p.value)
-located_transactions sources p names given = many_located sources p (is_some (at most_calls p.value)) refl names given
 
 -- ---- documents
 
@@ -294,17 +161,20 @@ next_given j f e =
     let round = bind_ok (optional (codes "round") uint 0 j) _ f next.2 in
     next.1 ∙ ap (λ (x : Front). Ok x.next_id) (same_value _ f round.2)
 
-located_ledger : (next : Option ℕ) (sources : Sources) (j : Json) → next_id_of j ≡ Ok next → sources_of j ≡ Ok sources → Located (root j) (ledger next sources j)
+located_ledger : (next : Option ℕ) (sources : Sources) (j : Json) → next_id_of j ≡ Ok next → sources_of j ≡ Ok sources → Located (root j) (ledger (has_placeholders j) next sources j)
 located_ledger next sources j given read =
-    located_bind (root j) (optional (codes "apps") (each (application (end_of_ids next) sources) (bare_ledger next)) (bare_ledger next) j) _
-    (located_optional (codes "apps") refl (each (application (end_of_ids next) sources) (bare_ledger next)) (bare_ledger next) (root j) (λ v e.
-    located_all (application (end_of_ids next) sources) (bare_ledger next) (into (root j) (at_name (codes "apps")) v e) (λ i l k at before.
-    located_application next sources l (into (into (root j) (at_name (codes "apps")) v e) (at_index i) k at) refl given (λ differ. ((i, [], refl), (next, sources, l, given, read, before, differ)))))) (λ apps a.
+    let one = application (end_of_ids next) sources in
+    let each_one = unless_placeholder (has_placeholders j) one in
+    located_bind (root j) (applications (has_placeholders j) next sources j) _
+    (located_optional (codes "apps") refl (each each_one (bare_ledger next)) (bare_ledger next) (root j) (λ v e.
+    located_all each_one (bare_ledger next) (into (root j) (at_name (codes "apps")) v e) (λ i l k at before.
+    located_unless_placeholder (has_placeholders j) one l (into (into (root j) (at_name (codes "apps")) v e) (at_index i) k at)
+    (located_application next sources l (into (into (root j) (at_name (codes "apps")) v e) (at_index i) k at) refl given (λ differ. ((i, [], refl), (next, sources, l, given, read, before, differ))))))) (λ apps a.
     let of_document : applications_of j ≡ Ok apps = then _ _ _ _ given (then _ _ _ _ read a) in
-    located_optional (codes "accounts") refl (each (account (end_of_ids next)) apps) apps (root j) (λ v e.
-    located_each (λ (i : ℕ) (x : Ledger). x.applications ≡ apps.applications) (account (end_of_ids next)) apps (into (root j) (at_name (codes "accounts")) v e) (record {
+    located_optional (codes "accounts") refl (each (account (has_placeholders j) (end_of_ids next)) apps) apps (root j) (λ v e.
+    located_each (λ (i : ℕ) (x : Ledger). x.applications ≡ apps.applications) (account (has_placeholders j) (end_of_ids next)) apps (into (root j) (at_name (codes "accounts")) v e) (record {
       begins = refl;
-      goes_on = λ i x y k at kept one. account_same (end_of_ids next) x k y one ∙ kept;
+      goes_on = λ i x y k at kept one. account_same (has_placeholders j) (end_of_ids next) x k y one ∙ kept;
       reads = λ i x k at before kept. located_account next apps x (into (into (root j) (at_name (codes "accounts")) v e) (at_index i) k at) refl given of_document kept before;
     })))
 
@@ -312,10 +182,10 @@ located_document : (j : Json) → Located (root j) (document j)
 located_document j =
     located_bind (root j) (known document_names j) _ (located_known document_names (root j) refl) (λ u is.
     located_bind (root j) (front j) _ (located_front (root j)) (λ f given.
-    located_bind (root j) (optional (codes "sources") (each with_source no_sources) no_sources j) _
-    (located_optional (codes "sources") refl (each with_source no_sources) no_sources (root j) (λ v e.
-    located_sources (into (root j) (at_name (codes "sources")) v e) refl ([], refl))) (λ sources read.
-    located_bind (root j) (ledger f.next_id sources j) _ (located_ledger f.next_id sources j (next_given j f given) read) (λ l le.
+    located_bind (root j) (all_sources (has_placeholders j) j) _
+    (located_optional (codes "sources") refl (each (source (has_placeholders j)) no_sources) no_sources (root j) (λ v e.
+    located_sources (has_placeholders j) (into (root j) (at_name (codes "sources")) v e) refl ([], refl))) (λ sources read.
+    located_bind (root j) (ledger (has_placeholders j) f.next_id sources j) _ (located_ledger f.next_id sources j (next_given j f given) read) (λ l le.
     located_bind (root j) (optional (codes "txns") (transactions sources) [] j) _ (located_optional (codes "txns") refl (transactions sources) [] (root j) (λ v e. located_transactions sources (into (root j) (at_name (codes "txns")) v e) refl read)) (λ calls c.
     located_bind (root j) (targets sources l (length calls)) _ (located_targets (root j) sources l (length calls) read (λ i p v placed missing. ((i, [], refl), (p, l, calls, placed, then _ _ _ _ (next_given j f given) (then _ _ _ _ read le), then _ _ _ _ read c, missing)))) (λ w e.
     record { located = tt }))))))

@@ -12,16 +12,18 @@ use Rattle.teal_value.specs.declared.address.Address.{Address}
 use Rattle.teal_value.specs.declared.address_spelling.AddressFault.{AddressFault}
 use Rattle.teal_value.specs.declared.address_spelling.AddressFault.TheVariants as address_fault
 use Rattle.json.specs.Json.{Json}
-use Rattle.json.specs.Find.{as_number, as_str}
+use Rattle.json.specs.Find.{as_bool, as_number, as_str}
 use Rattle.json_documents.specs.declared.what.What.{What}
 use Rattle.json_documents.specs.declared.what.What.TheVariants as what
 use Rattle.json_documents.specs.Faults.{Fault, here, or_else_fault}
 use Rattle.json_documents.specs.Members.{known, optional}
-use Rattle.json_documents.specs.Plain.{address, base64, bytes, decimal_of, on_address, text, uint}
+use Rattle.json_documents.specs.Plain.{address, base64, boolean, bytes, decimal_of, on_address, text, uint}
+use Rattle.json_documents.specs.Deleted.{not_deleted, only_false, still_known}
 use Rattle.json_documents.specs.Ids.{end_of_ids, id_below, in_range, next_id, some_positive}
 use Rattle.json_documents.specs.Schemas.{schema}
-use Rattle.json_laws.specs.Paths.{Ends, next_id_of, table, IsRefusedSchema, IsWrong, is_plain}
-use Rattle.json_laws.proofs.PathSteps.{Spot, Located, located_bind, located_here, located_known, located_optional, then}
+use Rattle.json_documents.specs.Steps.{at_name}
+use Rattle.json_laws.specs.Paths.{Ends, next_id_of, table, IsObject, IsRefusedSchema, IsWrong, is_plain}
+use Rattle.json_laws.proofs.PathSteps.{Spot, Located, bind_ok, into, known_object, located_bind, located_here, located_known, located_optional, then}
 
 -- ---- a value that may not be there
 
@@ -72,6 +74,26 @@ on_address_located p s (Err address_fault.BadChecksum) is e = located_here p _ (
 
 pub located_address : (p : Spot) → Located p (address p.value)
 located_address p = located_of_text p (λ s. on_address (address_of s)) (λ s is. on_address_located p s (address_of s) is refl)
+
+-- ---- what is deleted
+
+gone_located : (p : Spot) (gone : Bool) → Ends (codes "deleted") p.path → as_bool p.value ≡ Some gone → Located p (only_false gone)
+gone_located p true ends is = located_here p _ (ends, is)
+gone_located p false ends is = record { located = tt }
+
+located_not_deleted : (p : Spot) → Ends (codes "deleted") p.path → Located p (not_deleted p.value)
+located_not_deleted p ends =
+    located_bind p (boolean p.value) only_false (located_or_else p (as_bool p.value) what.NotBool (λ e. (ends, e))) (λ gone e. gone_located p gone ends (is_there (as_bool p.value) what.NotBool gone e))
+
+-- a fault of an object's names, or of what says that it is deleted, leads to where it says
+pub located_still_known : (names : List (List ℕ)) (p : Spot) → names ≡ table p.path → Located p (still_known names p.value)
+located_still_known names p e =
+    located_bind p (known names p.value) _ (located_known names p e) (λ u is.
+    located_optional (codes "deleted") refl not_deleted tt p (λ v at. located_not_deleted (into p (at_name (codes "deleted")) v at) (p.path, refl)))
+
+-- what is there still is an object
+pub still_object : (names : List (List ℕ)) (j : Json) (u : Unit {0}) → still_known names j ≡ Ok u → IsObject j
+still_object names j u e = let is = bind_ok (known names j) _ u e in known_object names j is.0 is.1
 
 -- ---- ids
 

@@ -1,5 +1,5 @@
 -- The paths of faults of sources, and of sources whose targets are missing.
-use Rattle.std.proofs.Common.{◌≡◌, ℕ, suc, ◌+◌, ◌∙◌, inl, inr, ◌⊎◌, ◌<◌, Bool, true, false, cond, List, [], ◌∷◌, ◌++◌, None, Some, Result, Ok, Err, refl, sym, ap, subst, append_assoc, arith}
+use Rattle.std.proofs.Common.{◌≡◌, ℕ, suc, ◌+◌, ◌∙◌, inl, inr, ◌⊎◌, ◌<◌, Bool, true, false, cond, List, [], ◌∷◌, ◌++◌, Option, None, Some, Result, Ok, Err, refl, sym, ap, subst, append_assoc, arith}
 use Rattle.std.proofs.lemmas.List.{append-nil}
 use Rattle.std.specs.Prelude.{is_ok, is_some, codes}
 use Rattle.std.specs.Ordering.{is_eq, nat_cmp}
@@ -21,7 +21,8 @@ use Rattle.json_documents.specs.Members.{known, needed, optional}
 use Rattle.json_documents.specs.Arrays.{each, gathered}
 use Rattle.json_documents.specs.Plain.{text, uint}
 use Rattle.json_documents.specs.Programs.{checked_code, on_source, program_of_source}
-use Rattle.json_documents.specs.Sources.{Place, Programs, Sources, field_named, index_of, is_there, no_sources, program_at, program_for, source_field, targets, targets_from, with_program, with_source, with_source_at}
+use Rattle.json_documents.specs.Sources.{Place, Programs, Sources, field_named, has_target, index_of, is_there, no_sources, program_at, program_for, source as read_source, source_field, targets, targets_from, with_none, with_program, with_source, with_source_at}
+use Rattle.json_documents.specs.Placeholders.{has_placeholders, is_source_of_placeholder}
 use Rattle.json_documents.specs.Tables.{source_names}
 use Rattle.json_laws.specs.Paths.{Ends, value_at, IsSecondSource, IsWrong, LacksTarget, place, sources_of, table}
 use Rattle.json_laws.proofs.AcceptedSteps.{TypeIn, same_value}
@@ -72,8 +73,8 @@ located_source_field at = located_of_text at field_named (λ s is. named_located
 abbrev SourceField : Type 0
 SourceField = TypeIn (field_named [])
 
-at_end : (s : Sources) (for : SourceField) (n : ℕ) (code name : List ℕ) → field_named name ≡ Ok for → (with_source_at s for n code).places ≡ s.places ++ (for, n) ∷ []
-at_end s for n code name e = named_is (λ for. (with_source_at s for n code).places ≡ s.places ++ (for, n) ∷ []) _ _ _ _ (bytes_eq name (codes "approv")) (bytes_eq name (codes "clearp")) (bytes_eq name (codes "apap")) (bytes_eq name (codes "apsu")) for e refl refl refl refl
+at_end : (s : Sources) (for : SourceField) (n : ℕ) (code name : List ℕ) → field_named name ≡ Ok for → (with_source_at s for n code).places ≡ s.places ++ Some (for, n) ∷ []
+at_end s for n code name e = named_is (λ for. (with_source_at s for n code).places ≡ s.places ++ Some (for, n) ∷ []) _ _ _ _ (bytes_eq name (codes "approv")) (bytes_eq name (codes "clearp")) (bytes_eq name (codes "apap")) (bytes_eq name (codes "apsu")) for e refl refl refl refl
 
 -- what a source that was read adds, and by which name
 record Adds (s all : Sources) (v : Json) : Type 0 where
@@ -112,10 +113,24 @@ source_adds s all v e =
       added = once.1;
     }
 
-source_placed : (s all : Sources) (v : Json) → with_source s v ≡ Ok all → (at : Place) × (place v ≡ Ok at) × (all.places ≡ s.places ++ at ∷ [])
-source_placed s all v e =
-    let adds = source_adds s all v e in
-    ((adds.for, adds.n), adds.placed, subst (λ (x : Sources). x.places ≡ s.places ++ (adds.for, adds.n) ∷ []) adds.added (at_end s adds.for adds.n adds.code adds.name adds.named))
+-- what is passed over adds nothing, any other source is read
+none_or : (b : Bool) (s all : Sources) (r : Result Sources Fault) → cond b (Ok (with_none s)) r ≡ Ok all → (with_none s ≡ all) ⊎ (r ≡ Ok all)
+none_or true s all r e = inl (same_value (with_none s) all e)
+none_or false s all r e = inr e
+
+-- the place of a source, if it has one
+abbrev IsPlace : Option Place → Json → Type 0
+IsPlace None v = Unit {0}
+IsPlace (Some at) v = place v ≡ Ok at
+
+source_placed : (there : Bool) (s all : Sources) (v : Json) → read_source there s v ≡ Ok all → (at : Option Place) × IsPlace at v × (all.places ≡ s.places ++ at ∷ [])
+source_placed there s all v e = by (none_or (is_source_of_placeholder there v) s all (with_source s v) e)
+  where
+    by : (with_none s ≡ all) ⊎ (with_source s v ≡ Ok all) → (at : Option Place) × IsPlace at v × (all.places ≡ s.places ++ at ∷ [])
+    by (inl none) = (None, tt, ap (λ (x : Sources). x.places) (sym none))
+    by (inr one) =
+        let adds = source_adds s all v one in
+        (Some (adds.for, adds.n), adds.placed, subst (λ (x : Sources). x.places ≡ s.places ++ Some (adds.for, adds.n) ∷ []) adds.added (at_end s adds.for adds.n adds.code adds.name adds.named))
 
 -- ---- each program comes from a source
 
@@ -180,17 +195,31 @@ one_of_more : (j : Json) (above : List Step) (i : ℕ) (own at : Place) → HasP
 one_of_more j above i own at has (inl same) = (i, omega arith, subst (HasPlace j above i) (sym same) has)
 one_of_more j above i own at has (inr there) = (there.0, omega (arith, there.1), there.2)
 
-sources_on : (p : Spot) (i : ℕ) (s all : Sources) (v : Json) → at i p.value ≡ Some v → ComeFrom p.document p.path i s → with_source s v ≡ Ok all → ComeFrom p.document p.path (i + 1) all
-sources_on p i s all v is come e =
-    let adds = source_adds s all v e in
-    subst (ComeFrom p.document p.path (i + 1)) adds.added (record {
-      comes = λ name for n named has. one_of_more p.document p.path i (adds.for, adds.n) (for, n) (v, (into p (at_index i) v is).leads, adds.placed)
-          (before (one_of s adds.for for adds.n n adds.code adds.name name adds.named named has) (come.comes name for n named));
-    })
+same_programs : (s : Sources) (name : List ℕ) (for : SourceField) (n : ℕ) → field_named name ≡ Ok for → program_at (with_none s) for n ≡ program_at s for n
+same_programs s name for n named = by_name (λ for. program_at (with_none s) for n ≡ program_at s for n) name for named refl refl refl refl
+
+none_on : (j : Json) (above : List Step) (i : ℕ) (s : Sources) → ComeFrom j above i s → ComeFrom j above (i + 1) (with_none s)
+none_on j above i s come = record {
+  comes = λ name for n named has.
+      let first = come.comes name for n named (sym (ap is_some (same_programs s name for n named)) ∙ has) in
+      (first.0, omega (arith, first.1), first.2);
+}
+
+sources_on : (there : Bool) (p : Spot) (i : ℕ) (s all : Sources) (v : Json) → at i p.value ≡ Some v → ComeFrom p.document p.path i s → read_source there s v ≡ Ok all → ComeFrom p.document p.path (i + 1) all
+sources_on there p i s all v is come e = by (none_or (is_source_of_placeholder there v) s all (with_source s v) e)
   where
     before : {A B C : Type 0} → A ⊎ B → (B → C) → A ⊎ C
     before (inl a) f = inl a
     before (inr b) f = inr (f b)
+
+    by : (with_none s ≡ all) ⊎ (with_source s v ≡ Ok all) → ComeFrom p.document p.path (i + 1) all
+    by (inl none) = subst (ComeFrom p.document p.path (i + 1)) none (none_on p.document p.path i s come)
+    by (inr one) =
+        let adds = source_adds s all v one in
+        subst (ComeFrom p.document p.path (i + 1)) adds.added (record {
+          comes = λ name for n named has. one_of_more p.document p.path i (adds.for, adds.n) (for, n) (v, (into p (at_index i) v is).leads, adds.placed)
+              (before (one_of s adds.for for adds.n n adds.code adds.name name adds.named named has) (come.comes name for n named));
+        })
 
 -- ---- one source behind others
 
@@ -222,30 +251,34 @@ located_with_source p i s v is names ends come = located_at (into p (at_index i)
         once_located q source (with_source_at s for (index_of for app txn)) (is_some (program_at s for (index_of for app txn)))
         (λ twice. second named.0 for (index_of for app txn) named.2 twice (then _ _ _ _ a (then _ _ _ _ f (then _ _ _ _ t refl)))) e)))))
 
+none_located_or : (p : Spot) (b : Bool) (s : Sources) (r : Result Sources Fault) → Located p r → Located p (cond b (Ok (with_none s)) r)
+none_located_or p true s r h = record { located = tt }
+none_located_or p false s r h = h
+
 -- a fault of sources leads to where it says
-pub located_sources : (p : Spot) → source_names ≡ table p.path → Ends (codes "sources") p.path → Located p (each with_source no_sources p.value)
-located_sources p names ends = located_each (ComeFrom p.document p.path) with_source no_sources p (record {
+pub located_sources : (there : Bool) (p : Spot) → source_names ≡ table p.path → Ends (codes "sources") p.path → Located p (each (read_source there) no_sources p.value)
+located_sources there p names ends = located_each (ComeFrom p.document p.path) (read_source there) no_sources p (record {
   begins = none_come p.document p.path;
-  goes_on = λ i x y v is come e. sources_on p i x y v is come e;
-  reads = λ i s v is before come. located_with_source p i s v is names ends come;
+  goes_on = λ i x y v is come e. sources_on there p i x y v is come e;
+  reads = λ i s v is before come. none_located_or (into p (at_index i) v is) (is_source_of_placeholder there v) s (with_source s v) (located_with_source p i s v is names ends come);
 })
 
 -- ---- all places
 
 -- these are the places of these sources
-abbrev ArePlaces : List Place → Items → Type 0
+abbrev ArePlaces : List (Option Place) → Items → Type 0
 ArePlaces [] no_items = Unit {0}
 ArePlaces [] (item v vs) = ⊥
 ArePlaces (q ∷ qs) no_items = ⊥
-ArePlaces (q ∷ qs) (item v vs) = (place v ≡ Ok q) × ArePlaces qs vs
+ArePlaces (q ∷ qs) (item v vs) = IsPlace q v × ArePlaces qs vs
 
-gathered_places : (i : ℕ) (so_far s : Sources) (vs : Items) → gathered with_source i so_far vs ≡ Ok s → (qs : List Place) × (s.places ≡ so_far.places ++ qs) × ArePlaces qs vs
+gathered_places : (there : Bool) (i : ℕ) (so_far s : Sources) (vs : Items) → gathered (read_source there) i so_far vs ≡ Ok s → (qs : List (Option Place)) × (s.places ≡ so_far.places ++ qs) × ArePlaces qs vs
 unfolding gathered
-gathered_places i so_far s no_items e = let same : s ≡ so_far = cc in ([], ap (λ (x : Sources). x.places) same ∙ sym (append-nil so_far.places), tt)
-gathered_places i so_far s (item v vs) e =
-    let first = bind_ok (in_step (at_index i) (with_source so_far v)) (λ next. gathered with_source (i + 1) next vs) s e in
-    let one = source_placed so_far first.0 v (in_step_ok (at_index i) (with_source so_far v) first.0 first.1) in
-    let rest = gathered_places (i + 1) first.0 s vs first.2 in
+gathered_places there i so_far s no_items e = let same : s ≡ so_far = cc in ([], ap (λ (x : Sources). x.places) same ∙ sym (append-nil so_far.places), tt)
+gathered_places there i so_far s (item v vs) e =
+    let first = bind_ok (in_step (at_index i) (read_source there so_far v)) (λ next. gathered (read_source there) (i + 1) next vs) s e in
+    let one = source_placed there so_far first.0 v (in_step_ok (at_index i) (read_source there so_far v) first.0 first.1) in
+    let rest = gathered_places there (i + 1) first.0 s vs first.2 in
     (one.0 ∷ rest.0, rest.1 ∙ (ap (λ qs. qs ++ rest.0) one.2 ∙ append_assoc so_far.places (one.0 ∷ []) rest.0), (one.1, rest.2))
 
 -- ---- targets
@@ -259,19 +292,23 @@ target_if : (is_there : Bool) (i : ℕ) (rest : Result (Unit {0}) Fault) (p : Sp
 target_if true i rest p v e missing h = h
 target_if false i rest p v e missing h = located_step (at_index i) tt p v (Err (here what.NoTarget)) e (located_here (into p (at_index i) v e) _ (missing refl))
 
-targets_located : (l : Ledger) (calls i : ℕ) (qs : List Place) (vs : Items) (p : Spot) → ((k : ℕ) → at (i + k) p.value ≡ get_item k vs) → ArePlaces qs vs → SaysMissing p l calls → Located p (targets_from i l calls qs)
+missing_place : (p : Spot) (l : Ledger) (calls i : ℕ) (q : Option Place) (v : Json) → IsPlace q v → SaysMissing p l calls → has_target l calls q ≡ false → LacksTarget p.document (at_index i ∷ p.path) v
+missing_place p l calls i None v is says none = absurd (true≢false none)
+missing_place p l calls i (Some q) v is says none = says i q v is none
+
+targets_located : (l : Ledger) (calls i : ℕ) (qs : List (Option Place)) (vs : Items) (p : Spot) → ((k : ℕ) → at (i + k) p.value ≡ get_item k vs) → ArePlaces qs vs → SaysMissing p l calls → Located p (targets_from i l calls qs)
 unfolding targets_from
 targets_located l calls i [] vs p there are says = record { located = tt }
 targets_located l calls i (q ∷ qs) no_items p there are says = absurd are
 targets_located l calls i (q ∷ qs) (item v vs) p there are says =
-    target_if (is_there l calls q) i (targets_from (i + 1) l calls qs) p v (ap (λ n. at n p.value) (omega arith) ∙ there 0) (says i q v are.0)
+    target_if (has_target l calls q) i (targets_from (i + 1) l calls qs) p v (ap (λ n. at n p.value) (omega arith) ∙ there 0) (missing_place p l calls i q v are.0 says)
     (targets_located l calls (i + 1) qs vs p (λ k. ap (λ n. at n p.value) (omega arith) ∙ there (suc k)) are.1 says)
 
-sources_located : (l : Ledger) (calls : ℕ) (s : Sources) (p : Spot) → each with_source no_sources p.value ≡ Ok s → SaysMissing p l calls → Located p (targets_from 0 l calls s.places)
-sources_located l calls s p e says =
-    let read = bind_ok (or_else_fault (as_array p.value) what.NotArray) (λ vs. gathered with_source 0 no_sources vs) s e in
+sources_located : (there : Bool) (l : Ledger) (calls : ℕ) (s : Sources) (p : Spot) → each (read_source there) no_sources p.value ≡ Ok s → SaysMissing p l calls → Located p (targets_from 0 l calls s.places)
+sources_located there l calls s p e says =
+    let read = bind_ok (or_else_fault (as_array p.value) what.NotArray) (λ vs. gathered (read_source there) 0 no_sources vs) s e in
     let is = array_is p.value read.0 (item_is_there (as_array p.value) what.NotArray read.0 read.1) in
-    let places = gathered_places 0 no_sources s read.0 read.2 in
+    let places = gathered_places there 0 no_sources s read.0 read.2 in
     subst (λ qs. Located p (targets_from 0 l calls qs)) (sym places.1)
     (targets_located l calls 0 places.0 read.0 p (λ k. ap (λ n. at n p.value) (omega arith) ∙ ap (at k) is) places.2 says)
 
@@ -285,7 +322,7 @@ none_located p l calls s e = subst (λ (x : Sources). Located p (targets x l cal
 -- the fault of a source whose target is missing leads to the source
 pub located_targets : (p : Spot) (s : Sources) (l : Ledger) (calls : ℕ) → sources_of p.value ≡ Ok s → ((i : ℕ) (at : Place) (v : Json) → place v ≡ Ok at → is_there l calls at ≡ false → LacksTarget p.document (at_index i ∷ (at_name (codes "sources") ∷ p.path)) v) → Located p (targets s l calls)
 located_targets p s l calls e says =
-    elim (optional_read (codes "sources") (each with_source no_sources) no_sources p.value s e) [
+    elim (optional_read (codes "sources") (each (read_source (has_placeholders p.value)) no_sources) no_sources p.value s e) [
       | inl none ↦ none_located p l calls s none
-      | inr there ↦ located_step (at_name (codes "sources")) refl p there.0 (targets_from 0 l calls s.places) there.1 (sources_located l calls s (into p (at_name (codes "sources")) there.0 there.1) there.2 says)
+      | inr there ↦ located_step (at_name (codes "sources")) refl p there.0 (targets_from 0 l calls s.places) there.1 (sources_located (has_placeholders p.value) l calls s (into p (at_name (codes "sources")) there.0 there.1) there.2 says)
     ]

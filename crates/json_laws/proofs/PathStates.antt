@@ -1,5 +1,5 @@
 -- The paths of faults of states and programs.
-use Rattle.std.proofs.Common.{◌≡◌, ℕ, ◌+◌, ◌<◌, ◌⊎◌, inl, inr, Bool, true, false, cond, ◌&&◌, List, [], ◌∷◌, length, Some, Result, Ok, Err, refl, sym, ap, subst, ◌∙◌, arith}
+use Rattle.std.proofs.Common.{◌≡◌, ℕ, ◌+◌, ◌<◌, ◌⊎◌, inl, inr, Bool, true, false, cond, ◌&&◌, List, [], ◌∷◌, length, Option, None, Some, Result, Ok, Err, refl, sym, ap, subst, ◌∙◌, arith}
 use Rattle.std.specs.Ordering.{is_eq}
 use Rattle.std.specs.Prelude.{◌==◌, is_some, codes, nat_le}
 use Rattle.std.proofs.lemmas.Bool.{cond-false, eqb-false, leb-false}
@@ -21,7 +21,7 @@ use Rattle.json_documents.specs.Faults.{Fault, here, in_step}
 use Rattle.json_documents.specs.Members.{known, member, needed, optional}
 use Rattle.json_documents.specs.Arrays.{each}
 use Rattle.json_documents.specs.Plain.{bytes, uint}
-use Rattle.json_documents.specs.Programs.{checked_code, if_checked, program}
+use Rattle.json_documents.specs.Programs.{checked_code, given_or, if_checked, program}
 use Rattle.json_documents.specs.States.{key, kind, kind_of, short_key, short_value, state, value, value_of_kind, with_key_value, within}
 use Rattle.json_documents.specs.Tables.{key_value_names, value_names}
 use Rattle.json_laws.specs.Paths.{Ends, table, value_at, IsRefusedState, IsWrong}
@@ -162,3 +162,8 @@ located_checked_code p code h = checked_located p code (checked code) h
 
 pub located_program : (p : Spot) → Ends (codes "approval-program") p.path ⊎ Ends (codes "clear-state-program") p.path → Located p (program p.value)
 located_program p ends = located_of_bytes p checked_code (λ code is. located_checked_code p code (λ f e. inl (ends, (code, is, e))))
+
+-- a fault of a program that a source may give in place of a member leads to where that of the member does
+pub located_given_or : (p : Spot) (o : Option (List ℕ)) (r : Result (List ℕ) Fault) → Located p r → Located p (given_or o r)
+located_given_or p None r h = h
+located_given_or p (Some code) r h = record { located = tt }

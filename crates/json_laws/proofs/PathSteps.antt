@@ -1,5 +1,5 @@
 -- Reading functions whose faults lead to where they say, put together.
-use Rattle.std.proofs.Common.{◌≡◌, ℕ, zero, suc, ◌+◌, true, List, [], ◌∷◌, ◌++◌, Option, Some, None, Result, Ok, Err, refl, sym, ap, subst, append_assoc, ◌∙◌, ◌⊎◌, inl, inr, arith}
+use Rattle.std.proofs.Common.{◌≡◌, ℕ, zero, suc, ◌+◌, Bool, true, false, cond, List, [], ◌∷◌, ◌++◌, Option, Some, None, Result, Ok, Err, refl, sym, ap, subst, append_assoc, ◌∙◌, ◌⊎◌, inl, inr, arith}
 use Rattle.std.specs.Prelude.{option_and_then}
 use Rattle.std.specs.List.{list_all}
 use Rattle.teal_value.specs.Answer.{◌>>=◌}
@@ -11,6 +11,7 @@ use Rattle.json_documents.specs.Steps.{Step, at_name, at_index}
 use Rattle.json_documents.specs.Faults.{Fault, here, in_step, or_else_fault}
 use Rattle.json_documents.specs.Members.{member, needed, needed_in, optional, optional_in, known, known_in, least_unknown, unless_unknown}
 use Rattle.json_documents.specs.Arrays.{gathered, each}
+use Rattle.json_documents.specs.Placeholders.{is_placeholder, unless_placeholder}
 use Rattle.json_laws.specs.Paths.{behind, value_at, is_plain, first_items, table, Before, IsObject, NamesMissing, IsWrong}
 
 -- a value of a document, and the steps that lead to it
@@ -213,3 +214,11 @@ located_each P one start p h = each_located P one start p (as_array p.value) ref
 -- the same where nothing is kept
 pub located_all : {A : Type 0} (one : A → Json → Result A Fault) (start : A) (p : Spot) → ((i : ℕ) (x : A) (v : Json) (e : at i p.value ≡ Some v) → Before one start (at_index i ∷ p.path) p.document x → Located (into p (at_index i) v e) (one x v)) → Located p (each one start p.value)
 located_all {A = A} one start p h = located_each (λ (i : ℕ) (x : A). Unit {0}) one start p (record { begins = tt; goes_on = λ i x y v at u e. tt; reads = λ i x v e before u. h i x v e before })
+
+-- a fault of an element that is not passed over leads to where it says
+pub located_unless_placeholder : {A : Type 0} (there : Bool) (one : A → Json → Result A Fault) (so_far : A) (p : Spot) → Located p (one so_far p.value) → Located p (unless_placeholder there one so_far p.value)
+located_unless_placeholder {A = A} there one so_far p h = by (is_placeholder there p.value)
+  where
+    by : (b : Bool) → Located {A = A} p (cond b (Ok so_far) (one so_far p.value))
+    by true = record { located = tt }
+    by false = h

@@ -21,22 +21,23 @@ use Rattle.avm_ledger.specs.Ledgers.{Ledger, application_at}
 use Rattle.avm_items.specs.declared.call_data.CallData.{CallData}
 use Rattle.avm_block.specs.Blocks.{most_calls}
 use Rattle.json.specs.Json.{Json, array, object, Items, no_items, item}
-use Rattle.json.specs.Find.{as_array, as_number, as_object, as_str, at, get_item, get_member, is_null}
+use Rattle.json.specs.Find.{as_array, as_bool, as_number, as_object, as_str, at, get_item, get_member}
 use Rattle.json_documents.specs.declared.what.What.{What}
 use Rattle.json_documents.specs.declared.what.What.TheVariants as what
 use Rattle.json_documents.specs.Steps.{Step, at_name, at_index, path_text, step_text}
 use Rattle.json_documents.specs.Faults.{Fault, here}
 use Rattle.json_documents.specs.Members.{known, member, needed, optional}
-use Rattle.json_documents.specs.Arrays.{each, gathered}
+use Rattle.json_documents.specs.Arrays.{gathered}
 use Rattle.json_documents.specs.Plain.{address, bytes, decimal_of, uint}
 use Rattle.json_documents.specs.Accounts.{account, local}
 use Rattle.json_documents.specs.Applications.{application}
 use Rattle.json_documents.specs.Ids.{end_of_ids, id_below, next_id}
 use Rattle.json_documents.specs.Schemas.{schema}
-use Rattle.json_documents.specs.Sources.{Place, Sources, field_named, index_of, is_there, no_sources, source_field, with_source}
+use Rattle.json_documents.specs.Sources.{Place, Sources, field_named, index_of, is_there, source_field}
 use Rattle.json_documents.specs.States.{state, value as read_value}
 use Rattle.json_documents.specs.Transactions.{transaction, transactions}
-use Rattle.json_documents.specs.Documents.{bare_ledger, document, ledger}
+use Rattle.json_documents.specs.Documents.{all_sources, applications, bare_ledger, document, ledger}
+use Rattle.json_documents.specs.Placeholders.{has_placeholders, unless_placeholder}
 use Rattle.json_documents.specs.Tables.{account_names, application_names, document_names, key_value_names, local_names, params_names, signed_names, source_names, transaction_names, value_names}
 use Rattle.json_documents.specs.Reading.{document_of_text, value_of_text}
 
@@ -136,21 +137,21 @@ next_id_of j = optional (codes "next-id") next_id None j
 
 -- the programs of all sources
 abbrev pub sources_of : Json → Result Sources Fault
-sources_of j = optional (codes "sources") (each with_source no_sources) no_sources j
+sources_of j = all_sources (has_placeholders j) j
 
 -- the ledger of the document's applications
 abbrev pub applications_of : Json → Result Ledger Fault
 applications_of j = do
   next ← next_id_of j
   sources ← sources_of j
-  optional (codes "apps") (each (application (end_of_ids next) sources) (bare_ledger next)) (bare_ledger next) j
+  applications (has_placeholders j) next sources j
 
 -- the ledger, with the local states
 abbrev pub ledger_of : Json → Result Ledger Fault
 ledger_of j = do
   next ← next_id_of j
   sources ← sources_of j
-  ledger next sources j
+  ledger (has_placeholders j) next sources j
 
 -- the calls, with the programs of sources
 abbrev pub calls_of : Json → Result (List CallData) Fault
@@ -216,7 +217,7 @@ IsRefusedState j (s ∷ above) v =
 abbrev pub IsSecondApplication : Json → List Step → Json → Type 0
 IsSecondApplication j path v =
     EndsIn (codes "apps") path × ((next : Option ℕ) × (sources : Sources) × (l : Ledger) × (next_id_of j ≡ Ok next) × (sources_of j ≡ Ok sources)
-    × Before (application (end_of_ids next) sources) (bare_ledger next) path j l
+    × Before (unless_placeholder (has_placeholders j) (application (end_of_ids next) sources)) (bare_ledger next) path j l
     × (application (end_of_ids next) sources l v ≡ Err (here what.Differs)))
 
 -- a local state that differs from the one of its account and id in the ledger of what stands before it; first is the ledger
@@ -226,8 +227,8 @@ IsSecondLocalState j (i ∷ (s ∷ above)) v =
     (s ≡ at_name (codes "apps-local-state")) × ((next : Option ℕ) × (apps : Ledger) × (first : Ledger) × (l : Ledger) × (o : Json) × (who : Address)
     × (next_id_of j ≡ Ok next) × (applications_of j ≡ Ok apps)
     × (value_at above j ≡ Some o) × (needed (codes "address") address o ≡ Ok who)
-    × Before (account (end_of_ids next)) apps above j first
-    × Before (local (end_of_ids next) who) first (i ∷ (s ∷ above)) j l
+    × Before (account (has_placeholders j) (end_of_ids next)) apps above j first
+    × Before (unless_placeholder (has_placeholders j) (local (end_of_ids next) who)) first (i ∷ (s ∷ above)) j l
     × (local (end_of_ids next) who l v ≡ Err (here what.Differs)))
 IsSecondLocalState j path v = ⊥
 
@@ -259,9 +260,16 @@ IsSecondKey j (s ∷ (at_index i ∷ above)) v =
     × ((k : List ℕ) × (n : ℕ) × (u : Json) × (n < i) × (value_at (at_name (codes "key") ∷ (at_index n ∷ above)) j ≡ Some u) × (bytes u ≡ Ok k) × (bytes v ≡ Ok k))
 IsSecondKey j path v = ⊥
 
--- a transaction that is refused as a whole, with the programs of the document's sources
+-- a group that a transaction before has too
+abbrev pub IsSecondGroup : Json → List Step → Json → Type 0
+IsSecondGroup j (s ∷ (t ∷ (at_index i ∷ above))) v =
+    (s ≡ at_name (codes "grp")) × (t ≡ at_name (codes "txn"))
+    × ((g : List ℕ) × (n : ℕ) × (u : Json) × (n < i) × (value_at (at_name (codes "grp") ∷ (at_name (codes "txn") ∷ (at_index n ∷ above))) j ≡ Some u) × (bytes u ≡ Ok g) × (bytes v ≡ Ok g))
+IsSecondGroup j path v = ⊥
+
+-- a transaction that is refused as a whole, by itself, with the programs of the document's sources
 abbrev pub IsRefusedCall : Json → What → List Step → Json → Type 0
-IsRefusedCall j w (s ∷ (at_index i ∷ above)) v = (s ≡ at_name (codes "txn")) × ((sources : Sources) × (sources_of j ≡ Ok sources) × (transaction sources i v ≡ Err (here w)))
+IsRefusedCall j w (s ∷ (at_index i ∷ above)) v = (s ≡ at_name (codes "txn")) × ((sources : Sources) × (sources_of j ≡ Ok sources) × (transaction sources [] i v ≡ Err (here w)))
 IsRefusedCall j w path v = ⊥
 
 -- a program that breaks this rule, as bytes or as source text, or a transaction that is refused for one
@@ -277,8 +285,10 @@ IsWrong j what.NotObject path v = as_object v ≡ None
 IsWrong j what.NotArray path v = as_array v ≡ None
 IsWrong j what.NotText path v = as_str v ≡ None
 IsWrong j what.NotUint path v = option_and_then decimal_of (as_number v) ≡ None
+IsWrong j what.NotBool path v = Ends (codes "deleted") path × (as_bool v ≡ None)
 IsWrong j (what.Unknown name) path v = known (table path) v ≡ Err (here (what.Unknown name))
 IsWrong j what.Missing path v = ⊥
+IsWrong j what.Deleted path v = Ends (codes "deleted") path × (as_bool v ≡ Some true)
 IsWrong j what.BadBase64 path v = IsText v (λ s. result_ok (decode_of standard s) ≡ None)
 IsWrong j what.BadAddress path v = IsText v (λ s. address_of s ≡ Err address_fault.BadText)
 IsWrong j what.BadChecksum path v = IsText v (λ s. address_of s ≡ Err address_fault.BadChecksum)
@@ -297,7 +307,8 @@ IsWrong j what.FieldName path v = IsText v (λ s. field_named s ≡ Err (here wh
 IsWrong j what.NoTarget path v = LacksTarget j path v
 IsWrong j what.TooMany path v = is_some (at most_calls v) ≡ true
 IsWrong j what.TxnType path v = IsText v (λ s. s ≢ codes "appl")
-IsWrong j what.Group path v = Ends (codes "grp") path × (is_null v ≡ false)
+IsWrong j what.GroupLength path v = Ends (codes "grp") path × IsBase64 v (λ s. length s ≢ 32)
+IsWrong j what.Group path v = IsSecondGroup j path v
 IsWrong j what.Completion path v = IsUint v (λ n. 5 < n)
 IsWrong j what.LeaseLength path v = IsBase64 v (λ s. length s ≢ 32)
 IsWrong j what.Accounts path v = IsRefusedCall j what.Accounts path v
