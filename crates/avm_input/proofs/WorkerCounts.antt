@@ -50,7 +50,7 @@ of_named name options =
     let dis = either (bytes_eq name (codes "dis")) (Some Dis) _ (none_counted refl) check in
     either (bytes_eq name (codes "asm")) (Some Asm) _ (none_counted refl) dis
 
-of_found : (rows : Option (Text × List Row)) → HasOneToEight (command_found rows)
+of_found : (rows : Option (Text × List Row)) → HasOneToEight (command_found command_named rows)
 of_found None = none_counted refl
 of_found (Some (name, options)) = of_named name options
 
@@ -59,6 +59,6 @@ of_unless [] command h = h
 of_unless (k ∷ ks) command h = none_counted refl
 
 -- the command that words are has them
-pub workers_of-words : (commands : App) (words : List Text) (command : Option NodeCommand) → command ≡ command_among commands words → AreOneToEight (workers_of command)
+pub workers_of-words : (commands : App) (words : List Text) (command : Option NodeCommand) → command ≡ command_among command_named commands words → AreOneToEight (workers_of command)
 unfolding command_among
 workers_of-words commands words command e = rw e (of_unless (fault_of commands words) _ (of_found (subcommand_of commands words))).workers

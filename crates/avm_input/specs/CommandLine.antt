@@ -10,28 +10,28 @@ use Rattle.clap.specs.Words.{App, Kinds, Row, Rule, Text, fault_of, new_app, new
 use Rattle.avm_input.specs.declared.command_line.NodeCommand.{NodeCommand}
 use Rattle.avm_input.specs.declared.command_line.NodeCommand.TheVariants.{Asm, Check, Debug, Dis, Propose, Replay, State}
 
--- an option with a number below 2^64, as `--at T`, which has to be given
-abbrev pub number_rule : Text → Rule
-number_rule name = record (new_rule name) { long = Some name; action = Some Set; parser = Some (parser.Unsigned 0 18446744073709551615); required = true }
+-- an option with a number below 2^64, as `--at T`, which has to be given or need not
+abbrev pub number_rule : Bool → Text → Rule
+number_rule required name = record (new_rule name) { long = Some name; action = Some Set; parser = Some (parser.Unsigned 0 18446744073709551615); required = required }
 
 -- the program without its commands; no word is its name
-abbrev pub bare_line : App
-bare_line = let avm = new_app (codes "avm") in record avm { top = record avm.top { no_binary_name = true } }
+abbrev pub bare_line : Text → App
+bare_line program = let bare = new_app program in record bare { top = record bare.top { no_binary_name = true } }
 
 -- the command of this name, whose options are numbers with these names
-abbrev pub numbered : Text → List Text → App
-numbered name options = fold (λ command option. with_rule command (number_rule option)) (new_app name) options
+abbrev pub numbered : Bool → Text → List Text → App
+numbered required name options = fold (λ command option. with_rule command (number_rule required option)) (new_app name) options
 
 -- the commands and their options
 abbrev pub command_line : App
 command_line =
-    let with_asm = with_subcommand bare_line (numbered (codes "asm") []).top in
-    let with_dis = with_subcommand with_asm (numbered (codes "dis") []).top in
-    let with_check = with_subcommand with_dis (numbered (codes "check") []).top in
-    let with_replay = with_subcommand with_check (numbered (codes "replay") []).top in
-    let with_debug = with_subcommand with_replay (numbered (codes "debug") (codes "entry" ∷ codes "steps" ∷ [])).top in
-    let with_state = with_subcommand with_debug (numbered (codes "state") (codes "at" ∷ [])).top in
-    with_subcommand with_state (numbered (codes "propose") (codes "workers" ∷ [])).top
+    let with_asm = with_subcommand (bare_line (codes "avm")) (numbered true (codes "asm") []).top in
+    let with_dis = with_subcommand with_asm (numbered true (codes "dis") []).top in
+    let with_check = with_subcommand with_dis (numbered true (codes "check") []).top in
+    let with_replay = with_subcommand with_check (numbered true (codes "replay") []).top in
+    let with_debug = with_subcommand with_replay (numbered true (codes "debug") (codes "entry" ∷ codes "steps" ∷ [])).top in
+    let with_state = with_subcommand with_debug (numbered true (codes "state") (codes "at" ∷ [])).top in
+    with_subcommand with_state (numbered true (codes "propose") (codes "workers" ∷ [])).top
 
 abbrev pub is_digit : ℕ → Bool
 is_digit c = nat_lt (digit_value c) 10
@@ -72,8 +72,8 @@ command_named name options =
     else None
 
 -- the command of a name and options that were found, if any were
-abbrev pub command_found : Option (Text × List Row) → Option NodeCommand
-command_found rows = option_and_then (λ (found : Text × List Row). command_named found.0 found.1) rows
+abbrev pub command_found : {C : Type 0} → (Text → List Row → Option C) → Option (Text × List Row) → Option C
+command_found named rows = option_and_then (λ (found : Text × List Row). named found.0 found.1) rows
 
 -- nothing, where there is a fault
 abbrev pub unless_faulty : {A : Type 0} → Kinds → Option A → Option A
@@ -81,12 +81,12 @@ unless_faulty [] value = value
 unless_faulty (kind ∷ kinds) value = None
 
 -- the command that words are to clap where these are the commands, of which a request for help is none
-unfoldable pub command_among : App → List Text → Option NodeCommand
-command_among commands words = unless_faulty (fault_of commands words) (command_found (subcommand_of commands words))
+unfoldable pub command_among : {C : Type 0} → (Text → List Row → Option C) → App → List Text → Option C
+command_among named commands words = unless_faulty (fault_of commands words) (command_found named (subcommand_of commands words))
 
--- the command that the words after the program's name are
+-- the command of `avm` that the words after the program's name are
 abbrev pub command_in : List Text → Option NodeCommand
-command_in words = command_among command_line words
+command_in words = command_among command_named command_line words
 
 -- how many workers the words of `propose` ask for
 abbrev pub workers_of : Option NodeCommand → Option ℕ

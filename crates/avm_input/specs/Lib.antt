@@ -1,6 +1,7 @@
 pub mod Replies
 pub mod Answers
 pub mod CommandLine
+pub mod JsonCommandLine
 pub mod DigitPairs
 pub mod DigitLines
 pub mod Lines

@@ -1,4 +1,4 @@
-//! The words of the command line.
+//! The words of the command line of `avm`, and what both programs read words by.
 
 ghost use Rattle.std.specs.Prelude.{◌≡◌, ◌≢◌, ◌∷◌, [], Some, None, IfOk, codes, false, map};
 ghost use Rattle.clap.specs.Words.{app_of, found_of, kind_of, rows_of, rule_of, subcommand_rows_of, with_subcommand};
@@ -51,14 +51,14 @@ pub fn command_in<'a>(
 
 /// The command that was found in words, if there is one.
 fn command_of(matches: &ArgMatches<'_>) -> Option<NodeCommand>
-    ensures { result ≡ command_found (subcommand_rows_of matches.now) }
+    ensures { result ≡ command_found command_named (subcommand_rows_of matches.now) }
 {
     let (name, options) = matches.subcommand()?;
     command_named(name, options)
 }
 
 /// What refused words are: no command, unless it was memory that was refused.
-fn no_command(error: &Error) -> Result<Option<NodeCommand>, AllocError>
+pub(crate) fn no_command<C>(error: &Error) -> Result<Option<C>, AllocError>
     ensures { IfOk result
         (λ command. (command ≡ None) × (kind_of error.now ≢ ErrorKind.OutOfMemory)) }
 {
@@ -116,8 +116,8 @@ fn propose_command(options: &ArgMatches<'_>) -> Option<NodeCommand>
     Some(NodeCommand::Propose(worker_count(workers)?))
 }
 
-/// The number that the option of this name has.
-fn number_in(name: &str, options: &ArgMatches<'_>) -> Option<u64>
+/// The number that the option of this name has, if it is given.
+pub(crate) fn number_in(name: &str, options: &ArgMatches<'_>) -> Option<u64>
     ensures { result ≡ number_in name.now (rows_of (found_of options.now)) }
 {
     options.get_one::<u64>(name)
@@ -138,34 +138,35 @@ fn worker_count(number: u64) -> Option<u8>
 fn command_line<'a>(alloc: Global) -> Result<Command<'a>, AllocError>
     ensures { IfOk result (λ command. app_of command ≡ command_line) }
 {
-    let asm = with_command(alloc, bare_line(alloc), "asm", &[])?;
-    let dis = with_command(alloc, asm, "dis", &[])?;
-    let check = with_command(alloc, dis, "check", &[])?;
-    let replay = with_command(alloc, check, "replay", &[])?;
-    let debug = with_command(alloc, replay, "debug", &["entry", "steps"])?;
-    let state = with_command(alloc, debug, "state", &["at"])?;
-    with_command(alloc, state, "propose", &["workers"])
+    let asm = with_command(alloc, bare_line(alloc, "avm"), "asm", &[], true)?;
+    let dis = with_command(alloc, asm, "dis", &[], true)?;
+    let check = with_command(alloc, dis, "check", &[], true)?;
+    let replay = with_command(alloc, check, "replay", &[], true)?;
+    let debug = with_command(alloc, replay, "debug", &["entry", "steps"], true)?;
+    let state = with_command(alloc, debug, "state", &["at"], true)?;
+    with_command(alloc, state, "propose", &["workers"], true)
 }
 
-/// The program without its commands.
-fn bare_line<'a>(alloc: Global) -> Command<'a>
-    ensures app { app_of result ≡ bare_line }
+/// The program of this name without its commands.
+pub(crate) fn bare_line<'a>(alloc: Global, program: &'a str) -> Command<'a>
+    ensures app { app_of result ≡ bare_line program.now }
     ensures local { (out-Command result).has_globals ≡ false }
 {
-    Command::new(alloc, "avm").no_binary_name(true)
+    Command::new(alloc, program).no_binary_name(true)
 }
 
-/// The commands with one more, whose options are numbers with these names.
-fn with_command<'a>(
+/// The commands with one more, whose options are numbers with these names, which have to be given or need not.
+pub(crate) fn with_command<'a>(
     alloc: Global,
     commands: Command<'a>,
     name: &'a str,
     options: &[&'a str],
+    required: bool,
 ) -> Result<Command<'a>, AllocError>
     ensures { IfOk result (λ line. app_of line ≡ with_subcommand (app_of commands.entry)
-        (numbered name.now (map (λ option. option.now) options.now)).top) }
+        (numbered required name.now (map (λ option. option.now) options.now)).top) }
 {
-    let command = numbered(alloc, name, options)?;
+    let command = numbered(alloc, name, options, required)?;
     commands.subcommand(command)
 }
 
@@ -174,28 +175,29 @@ fn numbered<'a>(
     alloc: Global,
     name: &'a str,
     options: &[&'a str],
+    required: bool,
 ) -> Result<Command<'a>, AllocError>
     ensures app { IfOk result (λ command.
-        app_of command ≡ numbered name.now (map (λ option. option.now) options.now)) }
+        app_of command ≡ numbered required name.now (map (λ option. option.now) options.now)) }
     ensures local { IfOk result (λ command. (out-Command command).has_globals ≡ false) }
 {
     let mut command = Command::new(alloc, name);
     for option in options {
-        command = command.arg(number_option(alloc, option))?;
+        command = command.arg(number_option(alloc, option, required))?;
     }
     Ok(command)
 }
 
 /// An option with a number below 2^64.
-fn number_option<'a>(alloc: Global, name: &'a str) -> Arg<'a>
-    ensures rule { rule_of result ≡ number_rule name.now }
+fn number_option<'a>(alloc: Global, name: &'a str, required: bool) -> Arg<'a>
+    ensures rule { rule_of result ≡ number_rule required name.now }
     ensures local { result.global ≡ false }
 {
     Arg::new(alloc, name)
         .long(name)
         .action(ArgAction::Set)
         .value_parser(clap::value_parser!(u64))
-        .required(true)
+        .required(required)
 }
 
 /// The words of the commands, computed by their definition: there are no abbreviations, and neither a request for help nor

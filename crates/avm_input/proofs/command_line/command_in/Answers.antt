@@ -1,7 +1,7 @@
 use Rattle.std.proofs.Common.{◌≡◌, ◌∙◌, ap, map, List, ℕ, Bor}
 use Rattle.std.proofs.lemmas.Result.{IfOk-weaker}
 use Rattle.clap.specs.Words.{App, is_simple, is_simple_and_free}
-use Rattle.avm_input.specs.CommandLine.{command_among, command_in}
+use Rattle.avm_input.specs.CommandLine.{command_among, command_in, command_named}
 use Rattle.avm_input.proofs.CommandNames.{command_among-faulty, command_among-found, command_line_is_free, command_line_is_simple}
 use Rattle.avm_input.proofs.WorkerCounts.{workers_of-words}
 use Rattle.avm_input.proofs.command_line.command_in.Goals as goal
@@ -12,7 +12,7 @@ returns-in-Ok c =
     let line_is = c.in_ok-command_line.ensures in
     let no_fault = c.in-Ok.ensures.kinds (ap is_simple_and_free line_is ∙ command_line_is_free) in
     let rows_are = (c.in-Ok.ensures.matches (ap is_simple line_is ∙ command_line_is_simple)).1 in
-    let command : c.command_of.result ≡ command_in words = c.command_of.ensures ∙ command_among-found _ _ _ no_fault rows_are ∙ ap (λ (a : App). command_among a words) line_is in
+    let command : c.command_of.result ≡ command_in words = c.command_of.ensures ∙ command_among-found command_named _ _ _ no_fault rows_are ∙ ap (λ (a : App). command_among command_named a words) line_is in
     record { command = command; workers = workers_of-words _ _ _ command }
 
 pub returns-in-Err : goal.returns-in-Err
@@ -20,6 +20,6 @@ returns-in-Err c =
     let words = map (λ (word : Bor (List ℕ)). word.now) c.args.words.now in
     let line_is = c.in_ok-command_line.ensures in
     let has = c.in-Err.ensures.kinds (ap is_simple_and_free line_is ∙ command_line_is_free) in record {
-      command = IfOk-weaker c.no_command.result _ _ (λ command h. command_among-faulty _ _ c.in-Err.error command has h ∙ ap (λ (a : App). command_among a words) line_is) c.no_command.ensures;
+      command = IfOk-weaker c.no_command.result _ _ (λ command h. command_among-faulty command_named _ _ c.in-Err.error command has h ∙ ap (λ (a : App). command_among command_named a words) line_is) c.no_command.ensures;
       workers = IfOk-weaker c.no_command.result _ _ (λ command h. rw h.0 tt) c.no_command.ensures;
     }

@@ -6,6 +6,6 @@ use Rattle.avm_input.proofs.command_line.numbered.Given as goal
 
 abbrev pub invariant-loop-option : goal.invariant-loop-option
 invariant-loop-option l = record {
-  app : app_of l.command ≡ fold (λ (command : App) (option : Bor (List ℕ)). with_rule command (number_rule option.now)) (new_app l.name) (take l.option-index l.options);
+  app : app_of l.command ≡ fold (λ (command : App) (option : Bor (List ℕ)). with_rule command (number_rule l.required option.now)) (new_app l.name) (take l.option-index l.options);
   local : (out-Command l.command).has_globals ≡ false;
 }
