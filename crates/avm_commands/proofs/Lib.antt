@@ -1,3 +1,4 @@
 pub mod Replies
 pub mod StepsMade
 pub mod OneFinding
+pub mod Verdicts

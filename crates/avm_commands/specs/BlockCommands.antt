@@ -19,19 +19,28 @@ use Rattle.avm_input.specs.Refusals.{refusal_reply}
 use Rattle.avm_input.specs.DigitLines.{digit_lines}
 use Rattle.avm_input.specs.BlockLines.{ledger_and_block}
 
--- agreement, with the digest of the ledger after
-abbrev pub agrees_reply : List ℕ → Reply
-agrees_reply digest = record { text = codes "agrees " ++ (encode_lower digest ++ codes "\n"); status = succeeded }
+-- the words of a verdict; of agreement with the digest of the ledger after
+abbrev pub verdict_text : Verdict → List ℕ
+verdict_text (verdict.Agrees after) = codes "agrees " ++ encode_lower (ledger_digest after)
+verdict_text verdict.WrongBase = codes "wrong base"
+verdict_text (verdict.WrongOutcome entry found) = codes "wrong outcome " ++ (decimal entry ++ (codes " " ++ outcome_text found))
+verdict_text verdict.WrongState = codes "wrong state"
 
--- a verdict
+abbrev pub verdict_status : Verdict → ℕ
+verdict_status (verdict.Agrees after) = succeeded
+verdict_status verdict.WrongBase = refused
+verdict_status (verdict.WrongOutcome entry found) = refused
+verdict_status verdict.WrongState = refused
+
 abbrev pub verdict_reply : Verdict → Reply
-verdict_reply (verdict.Agrees after) = agrees_reply (ledger_digest after)
-verdict_reply verdict.WrongBase = record { text = codes "wrong base\n"; status = refused }
-verdict_reply (verdict.WrongOutcome entry found) = record {
-  text = codes "wrong outcome " ++ (decimal entry ++ (codes " " ++ (outcome_text found ++ codes "\n")));
-  status = refused;
-}
-verdict_reply verdict.WrongState = record { text = codes "wrong state\n"; status = refused }
+verdict_reply v = record { text = verdict_text v ++ codes "\n"; status = verdict_status v }
+
+-- where a block agrees, this is the digest of the ledger after it
+abbrev pub HasDigest : Verdict → List ℕ → Type 0
+HasDigest (verdict.Agrees after) digest = digest ≡ ledger_digest after
+HasDigest verdict.WrongBase digest = Unit {0}
+HasDigest (verdict.WrongOutcome entry found) digest = Unit {0}
+HasDigest verdict.WrongState digest = Unit {0}
 
 -- the verdict on the block over the ledger, or the refusal
 abbrev pub IsVerdictReply : Result (Ledger × Block) Refusal → Reply → Type 0

@@ -1,10 +1,9 @@
 //! The commands `replay` and `state`, whose input is two lines of digits: the ledger before a block, and the block.
 
-ghost use Rattle.std.specs.Prelude.{◌≡◌, IfOk, Ok};
+ghost use Rattle.std.specs.Prelude.{◌≡◌, IfOk, Ok, string_bytes};
 ghost use Rattle.teal_value.specs.Answer.{Gives};
 ghost use Rattle.avm_replay.specs.declared.verdict.Verdict.TheVariants as verdict;
-ghost use Rattle.avm_commands.specs.BlockCommands.{IsReplayReply, IsVerdictReply, agrees_reply, ledger_reply, past_ledger_at, state_reply, verdict_reply};
-ghost use Rattle.avm_input.specs.Replies.{refused};
+ghost use Rattle.avm_commands.specs.BlockCommands.{HasDigest, IsReplayReply, IsVerdictReply, ledger_reply, past_ledger_at, state_reply, verdict_reply, verdict_status, verdict_text};
 ghost use Rattle.avm_input.specs.Shown.{reply_shown};
 
 use crate::leftovers::let_go;
@@ -74,51 +73,61 @@ fn verdict_on<O: Op, const ENDS: bool>(
 ) -> Result<Reply, AllocError>
     ensures { IfOk result (λ reply. IsVerdictReply (Ok (base, block.now)) (reply_shown reply)) }
 {
-    match replay_owned(alloc, base, block, ops)? {
-        Verdict::Agrees(after) => {
-            let_go::<Ledger, ENDS>(after);
-            let reply = agrees_reply(alloc, block.after())?;
-            Ok(reply)
-        }
-        Verdict::WrongBase => wrong_reply(alloc, "wrong base\n"),
-        Verdict::WrongOutcome { entry, found } => wrong_outcome_reply(alloc, entry, found),
-        Verdict::WrongState => wrong_reply(alloc, "wrong state\n"),
+    let verdict = replay_owned(alloc, base, block, ops)?;
+    let reply = verdict_reply(alloc, &verdict, block.after());
+    let_go::<Verdict, ENDS>(verdict);
+    reply
+}
+
+/// A verdict, as an answer. Where the block agrees, `after` is the digest of the ledger after it.
+fn verdict_reply(alloc: Global, verdict: &Verdict, after: &[u8; 32]) -> Result<Reply, AllocError>
+    requires after { HasDigest verdict.now after.now }
+    ensures { IfOk result (λ reply. reply_shown reply ≡ verdict_reply verdict.now) }
+{
+    let mut text = verdict_text(alloc, verdict, after)?;
+    text.push('\n')?;
+    Ok(Reply {
+        text: text.into_bytes(),
+        status: verdict_status(verdict),
+    })
+}
+
+fn verdict_status(verdict: &Verdict) -> u8
+    ensures { result ≡ verdict_status verdict.now }
+{
+    match verdict {
+        Verdict::Agrees(_) => DONE,
+        _ => REFUSED,
     }
 }
 
-/// The answer where a block agrees: the digest of the ledger after it.
-fn agrees_reply(alloc: Global, digest: &[u8; 32]) -> Result<Reply, AllocError>
-    ensures { IfOk result (λ reply. reply_shown reply ≡ agrees_reply digest.now) }
+/// The words of a verdict, as `replay` answers them, without the line feed. Where the block agrees, `after` is the digest of the
+/// ledger after it.
+pub fn verdict_text(
+    alloc: Global,
+    verdict: &Verdict,
+    after: &[u8; 32],
+) -> Result<String, AllocError>
+    requires after { HasDigest verdict.now after.now }
+    ensures { IfOk result (λ text. string_bytes text ≡ verdict_text verdict.now) }
 {
-    let digits = hex::encode(alloc, digest.as_slice())?;
-    let text = format!(in alloc; "agrees {digits}\n")?;
-    Ok(Reply {
-        text: text.into_bytes(),
-        status: DONE,
-    })
+    match verdict {
+        Verdict::Agrees(_) => {
+            let digits = hex::encode(alloc, after.as_slice())?;
+            format!(in alloc; "agrees {digits}")
+        }
+        Verdict::WrongBase => String::from_str(alloc, "wrong base"),
+        Verdict::WrongOutcome { entry, found } => wrong_outcome_text(alloc, *entry, *found),
+        Verdict::WrongState => String::from_str(alloc, "wrong state"),
+    }
 }
 
-fn wrong_outcome_reply(alloc: Global, entry: usize, found: Outcome) -> Result<Reply, AllocError>
+fn wrong_outcome_text(alloc: Global, entry: usize, found: Outcome) -> Result<String, AllocError>
     ensures { IfOk result
-        (λ reply. reply_shown reply ≡ verdict_reply (verdict.WrongOutcome entry found)) }
+        (λ text. string_bytes text ≡ verdict_text (verdict.WrongOutcome entry found)) }
 {
     let found = outcome_text(alloc, found)?;
-    let text = format!(in alloc; "wrong outcome {entry} {found}\n")?;
-    Ok(Reply {
-        text: text.into_bytes(),
-        status: REFUSED,
-    })
-}
-
-fn wrong_reply(alloc: Global, text: &str) -> Result<Reply, AllocError>
-    ensures { IfOk result
-        (λ reply. reply_shown reply ≡ record { text = text.now; status = refused }) }
-{
-    let text = String::from_str(alloc, text)?;
-    Ok(Reply {
-        text: text.into_bytes(),
-        status: REFUSED,
-    })
+    format!(in alloc; "wrong outcome {entry} {found}")
 }
 
 /// The ledger after the calls with timestamps up to this one.
