@@ -5,7 +5,7 @@ use Rattle.json.specs.Json.{Json}
 use Rattle.json.specs.Tree.{items_tokens, json_tokens}
 use Rattle.teal_value.specs.declared.address.Address.{Address}
 use Rattle.teal_value.specs.SameValues.{are_same_bytes}
-use Rattle.json_views.specs.Documents.{array_of, items_of}
+use Rattle.json_views.specs.Documents.{items_of}
 use Rattle.json_views.specs.ByAccount.{Account, by_account, shown_account, shown_by_account, with_item}
 use Rattle.json_views.specs.AccountTokens.{closing_tokens, opening_tokens, turning_tokens}
 use Rattle.json_views.specs.Writing.{Adds}

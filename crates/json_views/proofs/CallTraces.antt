@@ -1,12 +1,11 @@
 -- The traces of calls one after another.
-use Rattle.std.proofs.Common.{◌≡◌, ◌∙◌, ℕ, ◌+◌, ◌<◌, ◌≤◌, List, [], ◌∷◌, ◌++◌, drop, length, map, slice_index_or, Option, Some, None, Result, Ok, Err, codes, refl, sym, ap, subst, inl, inr, append_assoc, append-nil, arith}
+use Rattle.std.proofs.Common.{◌≡◌, ◌∙◌, ℕ, ◌+◌, ◌<◌, ◌≤◌, List, [], ◌∷◌, ◌++◌, drop, length, map, slice_index_or, Option, Some, None, codes, sym, ap, subst, inl, inr, append_assoc, arith}
 use Rattle.std.proofs.Math.ListN.{drop_of_length-le}
 use Rattle.std.proofs.lemmas.List.{drop_more}
-use Rattle.std.specs.Prelude.{◌⊎◌, IsSome}
-use Rattle.json.specs.Json.{Json, array}
-use Rattle.json.specs.Layout.{pretty}
+use Rattle.std.specs.Prelude.{IsSome}
+use Rattle.json.specs.Json.{Json}
 use Rattle.json.specs.Token.{Token, begin_array, end_array, end_object, key}
-use Rattle.json.specs.Tree.{items_tokens, json_tokens, members_tokens}
+use Rattle.json.specs.Tree.{items_tokens, json_tokens}
 use Rattle.teal_value.specs.declared.failure.Failure.{Failure}
 use Rattle.teal_value.specs.declared.failure.Failure.TheVariants as failure
 use Rattle.avm_ledger.specs.declared.header.Header.{Header}
@@ -18,7 +17,7 @@ use Rattle.avm_stepper.specs.Debugging.{Debugged}
 use Rattle.avm_stepper.specs.declared.faults.OpenFault.{OpenFault}
 use Rattle.avm_stepper.specs.declared.faults.OpenFault.TheVariants as fault
 use Rattle.avm_stepper.specs.Opening.{HasNoProgram, HasProgram, IsStartRefusal, program_row}
-use Rattle.json_views.specs.Documents.{items_of, member_tokens, members_of, text}
+use Rattle.json_views.specs.Documents.{items_of, member_tokens, text}
 use Rattle.json_views.specs.Writing.{Adds}
 use Rattle.json_views.specs.declared.refusal.TraceRefusal.{TraceRefusal}
 use Rattle.json_views.specs.declared.refusal.TraceRefusal.TheVariants as refusal

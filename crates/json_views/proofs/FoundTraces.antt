@@ -1,6 +1,6 @@
 -- What is found of a block or a document, from what was written.
-use Rattle.std.proofs.Common.{◌≡◌, ◌∙◌, ℕ, ◌+◌, ◌<◌, ◌≤◌, List, [], ◌∷◌, ◌++◌, length, map, Option, Some, None, Result, Ok, Err, codes, refl, sym, ap, subst, append-nil, arith}
-use Rattle.std.specs.Prelude.{◌≢◌}
+use Rattle.std.proofs.Common.{◌≡◌, ◌∙◌, ℕ, ◌<◌, ◌≤◌, List, [], ◌∷◌, ◌++◌, length, map, Option, Some, None, codes, refl, sym, ap, subst, append-nil, append_assoc, arith}
+use Rattle.std.specs.Prelude.{IsSome}
 use Rattle.json.specs.Json.{Json}
 use Rattle.json.specs.Layout.{pretty}
 use Rattle.json.specs.Token.{Token, begin_object, key}
@@ -16,21 +16,23 @@ use Rattle.avm_call.specs.Replay.{ledger_after, outcome_on, replayed}
 use Rattle.avm_block.specs.declared.entry.Entry.{Entry}
 use Rattle.avm_block.specs.Blocks.{Block}
 use Rattle.avm_stepper.specs.Debugging.{Debugged}
-use Rattle.avm_stepper.specs.Opening.{IsOpened, entry_numbered, ledger_before}
+use Rattle.avm_stepper.specs.declared.faults.OpenFault.{OpenFault}
+use Rattle.avm_stepper.specs.Opening.{IsDebugRefusal, IsOpened, entry_numbered, ledger_before}
 use Rattle.avm_stepper.specs.Shown.{IsLedgerOf}
 use Rattle.avm_input.specs.ProposeInputs.{ProposeInput}
 use Rattle.json_views.specs.Documents.{Member, document_text, member_tokens, object_of}
 use Rattle.json_views.specs.Writing.{Adds}
 use Rattle.json_views.specs.declared.refusal.TraceRefusal.{TraceRefusal}
 use Rattle.json_views.specs.declared.refusal.TraceRefusal.TheVariants as refusal
-use Rattle.json_views.specs.CallTraces.{AddsTraces, FindsRefusal, FindsText, IsTextFailure, IsTextWithin, IsTracesFailure, response_tokens}
+use Rattle.json_views.specs.CallTraces.{AddsDocument, AddsTraces, FindsRefusal, FindsText, IsDocumentFailure, IsEntryFailure, IsTextFailure, IsTextWithin, IsTracesFailure, response_tokens}
 use Rattle.json_views.specs.Runs.{FindsRun, IsRun, unrecorded_call}
 use Rattle.json_views.specs.ShownLedgers.{shown_ledger}
 use Rattle.json_views.specs.StateRuns.{AddsTrace, IsStartOf, IsStartOver, IsTraceFailure}
 use Rattle.json_views.specs.Traces.{AreCallTraces, FindsBlock, FindsEntry, HasTrace, IsBlockTrace, IsEntryTrace, IsRunTrace, recorded_call, response_members}
-use Rattle.json_views.specs.Weights.{most_text, tokens_weight}
+use Rattle.json_views.specs.Weights.{IsTooLongBehind, most_text, tokens_weight}
 use Rattle.json_views.proofs.CallTraces.{one_call}
 use Rattle.json_views.proofs.RunTraces.{one_run}
+use Rattle.json_views.proofs.Steps.{◌then◌}
 use Rattle.json_views.proofs.TokenRuns.{members_behind}
 use Rattle.json_views.proofs.Weights.{text_fits}
 
@@ -75,33 +77,70 @@ module _ (base : Ledger) (b : Block) (number : ℕ) (d : Option Debugged) (e : E
         trace = subst (λ r. IsRunTrace (ledger_before base b o.entry) o.entry.call b.header (Some r) document) (sym (ap (λ (x : Entry). x.outcome) opened_entry)) t;
       }
 
-  -- the text of the trace that was written
-  pub found_text : (start all : List Token) (bytes : List ℕ) → start ≡ [] → AddsTrace d (Some e.outcome) start all → IsTextWithin all bytes → FindsText (FindsEntry (base, b) number) bytes
-  found_text start all bytes none adds (is, short) =
-      let (document, trace, wrote) = subst (λ m. AddsTrace m (Some e.outcome) start all) o.now adds in
+  -- its trace was written
+  pub entry_written : (old new : List Token) → AddsTrace d (Some e.outcome) old new → AddsDocument (IsEntryTrace base b number) old new
+  entry_written old new adds =
+      let (document, trace, wrote) = subst (λ m. AddsTrace m (Some e.outcome) old new) o.now adds in
+      (document, entry_trace document trace, wrote)
+
+  -- or is not
+  pub entry_failed : (old : List Token) (why : Failure TraceRefusal) → IsTraceFailure d (Some e.outcome) old why → IsEntryFailure base b number old why
+  entry_failed old failure.Memory f = tt
+  entry_failed old (failure.Fault refusal.TooLong) f =
+      let long = subst (λ m. IsTraceFailure m (Some e.outcome) old (failure.Fault refusal.TooLong)) o.now f in
+      (has_trace, λ document t. long document (trace_of document t))
+  entry_failed old (failure.Fault (refusal.Opening fault)) f = absurd (subst (λ m. IsTraceFailure m (Some e.outcome) old (failure.Fault (refusal.Opening fault))) o.now f)
+
+-- where nothing was opened nothing is written
+pub not_opened : (base : Ledger) (b : Block) (number : ℕ) (fault : OpenFault) → IsDebugRefusal base b number (failure.Fault fault) → (old : List Token) → IsEntryFailure base b number old (failure.Fault (refusal.Opening fault))
+not_opened base b number fault refused old = refused
+
+-- an entry's call has one trace
+pub one_entry : (base : Ledger) (b : Block) (number : ℕ) (x y : Json) → IsEntryTrace base b number x → IsEntryTrace base b number y → x ≡ y
+one_entry base b number x y t u =
+    let same : u.entry ≡ t.entry = some_same u.entry t.entry (sym u.there ∙ t.there) in
+    one_run (ledger_before base b t.entry) t.entry.call b.header (Some t.entry.outcome) x y t.trace
+    (subst (λ (e : Entry). IsRunTrace (ledger_before base b e) e.call b.header (Some e.outcome) y) same u.trace)
+  where
+    some_same : (x y : Entry) → Some x ≡ Some y → x ≡ y
+    some_same x y e = cc
+
+-- a call whose program has a trace has a program
+pub with_program : (base : Ledger) (b : Block) (number : ℕ) (document : Json) → IsEntryTrace base b number document → HasTrace base b number
+with_program base b number document t = record { entry = t.entry; there = t.there; same_base = t.same_base; program = subst IsSome (sym t.trace.runs.there) refl }
+
+-- ---- the text of what was written
+
+module _ (Is : Json → Type 0) (start : List Token) (none : start ≡ []) where
+  text_found : (all : List Token) (bytes : List ℕ) → AddsDocument Is start all → IsTextWithin all bytes → (document : Json) × Is document × (length (document_text document) ≤ most_text) × (bytes ≡ document_text document)
+  text_found all bytes (document, it, wrote) (is, short) =
       let tokens : all ≡ json_tokens document = wrote.is ∙ ap (λ ts. ts ++ json_tokens document) none in
       let text : bytes ≡ document_text document = is ∙ ap (λ ts. pretty ts ++ codes "\n") tokens in
-      (document, (entry_trace document trace, subst (λ t. length t ≤ most_text) text short), text)
+      (document, it, subst (λ t. length t ≤ most_text) text short, text)
 
-  -- the trace is not written
-  pub refused_text : (start : List Token) (why : Failure TraceRefusal) → start ≡ [] → IsTraceFailure d (Some e.outcome) start why → FindsRefusal (FindsEntry (base, b) number) why
-  refused_text start failure.Memory none f = tt
-  refused_text start (failure.Fault refusal.TooLong) none f =
-      let long = subst (λ m. IsTraceFailure m (Some e.outcome) start (failure.Fault refusal.TooLong)) o.now f in
-      (has_trace, λ document t. omega (arith, text_fits document, long document (trace_of document t), ap (λ ts. tokens_weight (ts ++ json_tokens document)) none))
-  refused_text start (failure.Fault (refusal.Opening fault)) none f = absurd (subst (λ m. IsTraceFailure m (Some e.outcome) start (failure.Fault (refusal.Opening fault))) o.now f)
+  text_refused : IsTooLongBehind start Is → (document : Json) → Is document → most_text < length (document_text document)
+  text_refused long document it = omega (arith, text_fits document, long document it, ap (λ ts. tokens_weight (ts ++ json_tokens document)) none)
 
-  -- the text of the trace that was written is too long
-  pub long_text : (start all : List Token) (why : Failure TraceRefusal) → start ≡ [] → AddsTrace d (Some e.outcome) start all → IsTextFailure all why → FindsRefusal (FindsEntry (base, b) number) why
-  long_text start all failure.Memory none adds f = tt
-  long_text start all (failure.Fault refusal.TooLong) none adds f =
-      let (document, trace, wrote) = subst (λ m. AddsTrace m (Some e.outcome) start all) o.now adds in
+  text_long : ((x y : Json) → Is x → Is y → x ≡ y) → (all : List Token) → AddsDocument Is start all → IsTextFailure all (failure.Fault refusal.TooLong) → (document : Json) → Is document → most_text < length (document_text document)
+  text_long one all (document, it, wrote) long other other_is =
       let tokens : all ≡ json_tokens document = wrote.is ∙ ap (λ ts. ts ++ json_tokens document) none in
-      let long : most_text < length (document_text document) = subst (λ ts. most_text < length (pretty ts ++ codes "\n")) tokens f in (
-        has_trace,
-        λ other t. subst (λ j. most_text < length (document_text j)) (one_run (ledger_before base b o.entry) o.entry.call b.header (Some e.outcome) document other trace (trace_of other t)) long,
-      )
-  long_text start all (failure.Fault (refusal.Opening fault)) none adds f = absurd f
+      subst (λ j. most_text < length (document_text j)) (one document other it other_is) (subst (λ ts. most_text < length (pretty ts ++ codes "\n")) tokens long)
+
+-- of an entry
+module _ (base : Ledger) (b : Block) (number : ℕ) (start : List Token) (none : start ≡ []) where
+  pub entry_found : (all : List Token) (bytes : List ℕ) → AddsDocument (IsEntryTrace base b number) start all → IsTextWithin all bytes → FindsText (FindsEntry (base, b) number) bytes
+  entry_found all bytes adds within = let (document, it, short, text) = text_found (IsEntryTrace base b number) start none all bytes adds within in (document, (it, short), text)
+
+  pub entry_refused : (why : Failure TraceRefusal) → IsEntryFailure base b number start why → FindsRefusal (FindsEntry (base, b) number) why
+  entry_refused failure.Memory f = tt
+  entry_refused (failure.Fault refusal.TooLong) (has, long) = (has, text_refused (IsEntryTrace base b number) start none long)
+  entry_refused (failure.Fault (refusal.Opening fault)) f = f
+
+  pub entry_long : (all : List Token) (why : Failure TraceRefusal) → AddsDocument (IsEntryTrace base b number) start all → IsTextFailure all why → FindsRefusal (FindsEntry (base, b) number) why
+  entry_long all failure.Memory adds f = tt
+  entry_long all (failure.Fault refusal.TooLong) adds f =
+      (with_program base b number adds.0 adds.1, text_long (IsEntryTrace base b number) start none (one_entry base b number) all adds f)
+  entry_long all (failure.Fault (refusal.Opening fault)) adds f = absurd f
 
 -- ---- the parts of what is asked
 
@@ -150,26 +189,39 @@ module _ (l : Ledger) (header : Header) (calls : List (CallData × Option Outcom
 
 -- ---- a block
 
-module _ (base : Ledger) (b : Block) (opened : List Token) (opens : opened ≡ begin_object ∷ []) (same_base : b.base ≡ ledger_digest base) where
+-- the calls of its entries have one list of traces
+pub one_block : (base : Ledger) (b : Block) (x y : Json) → IsBlockTrace base b x → IsBlockTrace base b y → x ≡ y
+one_block base b x y t u = t.is ∙ ap (λ ts. object_of (response_members ts)) (one_list base b.header (map recorded_call b.entries) t.traces u.traces t.are u.are) ∙ sym u.is
+
+-- behind an opening bracket the members of the response were written
+module _ (base : Ledger) (b : Block) (same_base : b.base ≡ ledger_digest base) (old opened : List Token) (opens : Adds old opened (begin_object ∷ [])) where
   abbrev recorded : List (CallData × Option Outcome)
   recorded = map recorded_call b.entries
 
-  as_response : (document : Json) → IsBlockTrace base b document → IsResponse base b.header recorded [] document
-  as_response document t = record { traces = t.traces; are = t.are; is = t.is }
+  pub block_written : (new : List Token) → AddsTraces response_tokens base b.header recorded opened new → AddsDocument (IsBlockTrace base b) old new
+  block_written new (traces, are, wrote) = (object_of (response_members traces), record { same_base = same_base; traces = traces; are = are; is = refl }, record { is = (opens then wrote).is })
 
-  pub block_found : (all : List Token) (bytes : List ℕ) → AddsTraces response_tokens base b.header recorded opened all → IsTextWithin all bytes → FindsText (FindsBlock (base, b)) bytes
-  block_found all bytes adds within =
-      let (document, r, short, text) = response_found base b.header recorded [] opened opens all bytes adds within in
-      (document, (record { same_base = same_base; traces = r.traces; are = r.are; is = r.is }, short), text)
+  pub block_failed : (why : Failure TraceRefusal) → IsTracesFailure response_tokens base b.header recorded opened why → IsDocumentFailure (IsBlockTrace base b) old why
+  block_failed failure.Memory f = tt
+  block_failed (failure.Fault refusal.TooLong) f = λ document t.
+      let tokens : opened ++ response_tokens t.traces ≡ old ++ json_tokens document =
+      ap (λ ts. ts ++ response_tokens t.traces) opens.is ∙ append_assoc old (begin_object ∷ []) (response_tokens t.traces) ∙ ap (λ j. old ++ json_tokens j) (sym t.is) in
+      omega (arith, f t.traces t.are, ap tokens_weight tokens)
+  block_failed (failure.Fault (refusal.Opening fault)) f = absurd f
 
-  pub block_refused : (why : Failure TraceRefusal) → IsTracesFailure response_tokens base b.header recorded opened why → FindsRefusal (FindsBlock (base, b)) why
+-- the text of it
+module _ (base : Ledger) (b : Block) (same_base : b.base ≡ ledger_digest base) (start : List Token) (none : start ≡ []) where
+  pub block_found : (all : List Token) (bytes : List ℕ) → AddsDocument (IsBlockTrace base b) start all → IsTextWithin all bytes → FindsText (FindsBlock (base, b)) bytes
+  block_found all bytes adds within = let (document, it, short, text) = text_found (IsBlockTrace base b) start none all bytes adds within in (document, (it, short), text)
+
+  pub block_refused : (why : Failure TraceRefusal) → IsDocumentFailure (IsBlockTrace base b) start why → FindsRefusal (FindsBlock (base, b)) why
   block_refused failure.Memory f = tt
-  block_refused (failure.Fault refusal.TooLong) f = (same_base, λ document t. response_refused base b.header recorded [] opened opens f document (as_response document t))
+  block_refused (failure.Fault refusal.TooLong) f = (same_base, text_refused (IsBlockTrace base b) start none f)
   block_refused (failure.Fault (refusal.Opening fault)) f = absurd f
 
-  pub block_long : (all : List Token) (why : Failure TraceRefusal) → AddsTraces response_tokens base b.header recorded opened all → IsTextFailure all why → FindsRefusal (FindsBlock (base, b)) why
+  pub block_long : (all : List Token) (why : Failure TraceRefusal) → AddsDocument (IsBlockTrace base b) start all → IsTextFailure all why → FindsRefusal (FindsBlock (base, b)) why
   block_long all failure.Memory adds f = tt
-  block_long all (failure.Fault refusal.TooLong) adds f = (same_base, λ document t. response_long base b.header recorded [] opened opens all adds f document (as_response document t))
+  block_long all (failure.Fault refusal.TooLong) adds f = (same_base, text_long (IsBlockTrace base b) start none (one_block base b) all adds f)
   block_long all (failure.Fault (refusal.Opening fault)) adds f = absurd f
 
 -- ---- a run

@@ -13,4 +13,3 @@ pub mod RunTraces
 pub mod CallTraces
 pub mod FoundTraces
 pub mod FoundReplies
-pub mod EntryNumbers

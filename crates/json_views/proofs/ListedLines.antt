@@ -1,6 +1,6 @@
 -- The lines of a text, each cut off where its line feed stands.
 use Rattle.std.specs.Prelude.{◌==◌}
-use Rattle.std.proofs.Common.{◌≡◌, ◌∙◌, ℕ, suc, ◌+◌, ◌<◌, Bool, true, false, List, [], ◌∷◌, ◌++◌, take, drop, map, length, one-add, refl, sym, ap, ap₂, append_assoc, append-nil, arith}
+use Rattle.std.proofs.Common.{◌≡◌, ◌∙◌, ℕ, suc, ◌+◌, ◌<◌, true, false, List, [], ◌∷◌, ◌++◌, take, drop, map, length, one-add, refl, sym, ap, ap₂, append_assoc, append-nil, arith}
 use Rattle.std.specs.List.{after_first, before_first, position_or_len}
 use Rattle.json.specs.Token.{Token, end_array}
 use Rattle.json.specs.Tree.{items_tokens, json_tokens}

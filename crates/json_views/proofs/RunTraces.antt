@@ -1,5 +1,5 @@
 -- The trace of a call whose program runs: there is one, and what is written of it.
-use Rattle.std.proofs.Common.{◌≡◌, ◌∙◌, ℕ, suc, ◌+◌, ◌-◌, ◌<◌, ◌≤◌, List, [], ◌∷◌, ◌++◌, map, Option, Some, None, Result, Ok, Err, codes, refl, sym, ap, subst, inl, inr, append_assoc, arith}
+use Rattle.std.proofs.Common.{◌≡◌, ◌∙◌, ℕ, suc, ◌-◌, ◌≤◌, List, [], ◌∷◌, ◌++◌, map, Option, Some, None, Result, Ok, codes, sym, ap, subst, inl, inr, append_assoc, arith}
 use Rattle.std.proofs.lemmas.Bool.{cases_lt}
 use Rattle.json.specs.Json.{Json}
 use Rattle.json.specs.Token.{Token, begin_array, begin_object, end_array, end_object, key}
@@ -21,7 +21,7 @@ use Rattle.avm_stepper.specs.declared.view.View.{View as ShownView}
 use Rattle.avm_stepper.specs.Opening.{HasNoProgram}
 use Rattle.avm_stepper.specs.Shown.{IsProgramOf, IsShown, MachineState, view_seen}
 use Rattle.avm_input.specs.Outcomes.{outcome_text}
-use Rattle.avm_commands.specs.DebugCommands.{CanGo, HasNext}
+use Rattle.avm_commands.specs.DebugCommands.{CanGo}
 use Rattle.json_views.specs.Documents.{array_of, items_of, member_tokens, members_of, text}
 use Rattle.json_views.specs.Writing.{Adds}
 use Rattle.json_views.specs.declared.refusal.TraceRefusal.{TraceRefusal}
@@ -29,8 +29,8 @@ use Rattle.json_views.specs.declared.refusal.TraceRefusal.TheVariants as refusal
 use Rattle.json_views.specs.Disassembly.{shown_disassembly}
 use Rattle.json_views.specs.MachineStates.{shown_state}
 use Rattle.json_views.specs.StateRuns.{AddsEnd, AddsRun, AddsStates, AddsTrace, IsHeavy, IsProgramIn, IsRunFailure, IsStartOf, IsStatesFailure, IsTraceFailure, cost_tokens, end_tokens, message_tokens, run_tokens, state_tokens}
-use Rattle.json_views.specs.Traces.{HasStates, IsCallTrace, IsRunTrace, first_states, recorded_members, shown_messages, shown_run, states_cost}
-use Rattle.json_views.specs.Weights.{IsTooLongBehind, most_text, tokens_weight}
+use Rattle.json_views.specs.Traces.{HasStates, IsRunTrace, first_states, recorded_members, shown_messages, shown_run, states_cost}
+use Rattle.json_views.specs.Weights.{IsTooLongBehind, tokens_weight}
 use Rattle.json_views.proofs.StateRuns.{states_grow}
 use Rattle.json_views.proofs.Steps.{◌then◌}
 use Rattle.json_views.proofs.TokenRuns.{closed}

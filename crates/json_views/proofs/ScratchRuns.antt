@@ -1,5 +1,5 @@
 -- The values of a scratch space, written one after another.
-use Rattle.std.proofs.Common.{◌≡◌, ◌∙◌, ℕ, zero, suc, ◌+◌, ◌-◌, ◌≤◌, List, [], ◌∷◌, ◌++◌, map, refl, sym, ap, append_assoc, append-nil, arith}
+use Rattle.std.proofs.Common.{◌≡◌, ◌∙◌, ℕ, zero, suc, ◌+◌, ◌-◌, List, ◌∷◌, ◌++◌, map, sym, ap, append_assoc, append-nil, arith}
 use Rattle.std.specs.Prelude.{replicate}
 use Rattle.json.specs.Token.{Token}
 use Rattle.json.specs.Tree.{items_tokens, json_tokens}

@@ -1,5 +1,5 @@
 -- The states of a call's program, written one after another.
-use Rattle.std.proofs.Common.{◌≡◌, ◌∙◌, ℕ, zero, suc, ◌+◌, ◌*◌, ◌-◌, ◌<◌, ◌≤◌, Bool, true, false, not, List, [], ◌∷◌, ◌++◌, Option, Some, None, Result, Ok, Err, refl, sym, ap, subst, inl, inr, append_assoc, append-nil, arith}
+use Rattle.std.proofs.Common.{◌≡◌, ◌∙◌, ℕ, zero, suc, ◌+◌, ◌*◌, ◌-◌, ◌<◌, ◌≤◌, Bool, true, false, not, List, [], ◌∷◌, ◌++◌, Option, Some, None, Ok, Err, refl, sym, ap, subst, inl, inr, append_assoc, append-nil, arith}
 use Rattle.std.specs.Prelude.{option_map}
 use Rattle.std.proofs.lemmas.Bool.{cases_lt}
 use Rattle.std.proofs.lemmas.List.Sums.{sum_by_push}
@@ -14,10 +14,10 @@ use Rattle.avm_items.specs.declared.call_data.CallData.{CallData}
 use Rattle.avm_call.specs.Views.{NextStep, Runs, Faults, AtEnd, View, view_after}
 use Rattle.avm_stepper.specs.declared.faults.StepFault.{StepFault}
 use Rattle.avm_stepper.specs.declared.faults.StepFault.TheVariants as fault
-use Rattle.avm_stepper.specs.Debugging.{Debugged, debug_view, steps_shown}
+use Rattle.avm_stepper.specs.Debugging.{Debugged}
 use Rattle.avm_stepper.specs.DebugSteps.{StepsTo}
 use Rattle.avm_stepper.specs.Shown.{MachineState, machine_of}
-use Rattle.avm_commands.specs.DebugCommands.{CanGo, HasNext, next_after}
+use Rattle.avm_commands.specs.DebugCommands.{CanGo, HasNext}
 use Rattle.avm_commands.specs.DebugRuns.{HasMade}
 use Rattle.avm_commands.proofs.StepsMade.{ended_there, made_more}
 use Rattle.json_views.specs.Documents.{array_of}

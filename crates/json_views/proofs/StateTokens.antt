@@ -1,5 +1,5 @@
 -- The tokens of one state, a member after another.
-use Rattle.std.proofs.Common.{◌≡◌, ◌∙◌, List, [], ◌∷◌, ◌++◌, sym, ap}
+use Rattle.std.proofs.Common.{◌∙◌, List, [], ◌∷◌, ◌++◌, sym, ap}
 use Rattle.json.specs.Token.{Token, begin_object}
 use Rattle.json.specs.Tree.{json_tokens, members_tokens}
 use Rattle.json_views.specs.Documents.{Member, member_tokens, members_of, object_of}

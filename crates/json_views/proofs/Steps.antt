@@ -1,5 +1,5 @@
 -- Writes one after another.
-use Rattle.std.proofs.Common.{◌≡◌, ◌∙◌, List, ◌++◌, ap, append_assoc, Result}
+use Rattle.std.proofs.Common.{◌∙◌, List, ◌++◌, ap, append_assoc, Result}
 use Rattle.std.specs.Result.{OnOk}
 use Rattle.std.proofs.lemmas.Result.{on_ok_weaker}
 use Rattle.json.specs.Token.{Token}

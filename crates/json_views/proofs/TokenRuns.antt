@@ -3,9 +3,9 @@ use Rattle.std.proofs.Common.{◌≡◌, ◌∙◌, List, [], ◌∷◌, ◌++�
 use Rattle.std.specs.List.{flat_map}
 use Rattle.std.proofs.lemmas.Grind.{flat_map-append}
 use Rattle.json.specs.Json.{Json}
-use Rattle.json.specs.Token.{Token, begin_array, end_array, key}
+use Rattle.json.specs.Token.{Token, end_array, key}
 use Rattle.json.specs.Tree.{items_tokens, json_tokens, members_tokens}
-use Rattle.json_views.specs.Documents.{Member, array_of, items_of, member_tokens, members_of}
+use Rattle.json_views.specs.Documents.{Member, items_of, member_tokens, members_of}
 
 module _ {A : Type 0} (shown : A → Json) where
   -- the tokens of items, without the brackets of their array

@@ -10,24 +10,42 @@ use Rattle.avm_ledger.specs.declared.header.Header.{Header}
 use Rattle.avm_ledger.specs.Ledgers.{Ledger}
 use Rattle.avm_items.specs.declared.call_data.CallData.{CallData}
 use Rattle.avm_call.specs.declared.outcome.Outcome.{Outcome}
+use Rattle.avm_block.specs.Blocks.{Block}
+use Rattle.avm_stepper.specs.Opening.{IsDebugRefusal}
 use Rattle.json_views.specs.Documents.{document_text, items_of, members_of}
 use Rattle.json_views.specs.declared.refusal.TraceRefusal.{TraceRefusal}
 use Rattle.json_views.specs.declared.refusal.TraceRefusal.TheVariants as refusal
-use Rattle.json_views.specs.Traces.{AreCallTraces, IsCallTrace, response_members}
+use Rattle.json_views.specs.Traces.{AreCallTraces, HasTrace, IsCallTrace, IsEntryTrace, response_members}
 use Rattle.json_views.specs.Weights.{IsTooLongBehind, most_text, tokens_weight}
 use Rattle.json_views.specs.Writing.{Adds}
+
+-- ---- one document
+
+-- a document of this kind was written
+abbrev pub AddsDocument : (Json → Type 0) → List Token → List Token → Type 0
+AddsDocument Is old new = (document : Json) × Is document × Adds old new (json_tokens document)
+
+-- why none is written
+abbrev pub IsDocumentFailure : (Json → Type 0) → List Token → Failure TraceRefusal → Type 0
+IsDocumentFailure Is old failure.Memory = Unit {0}
+IsDocumentFailure Is old (failure.Fault refusal.TooLong) = IsTooLongBehind old Is
+IsDocumentFailure Is old (failure.Fault (refusal.Opening fault)) = ⊥
+
+-- why the trace of an entry's call is not written
+abbrev pub IsEntryFailure : Ledger → Block → ℕ → List Token → Failure TraceRefusal → Type 0
+IsEntryFailure base b number old failure.Memory = Unit {0}
+IsEntryFailure base b number old (failure.Fault refusal.TooLong) = HasTrace base b number × IsTooLongBehind old (IsEntryTrace base b number)
+IsEntryFailure base b number old (failure.Fault (refusal.Opening fault)) = IsDebugRefusal base b number (failure.Fault fault)
 
 -- ---- one call
 
 -- the trace of a call was written
 abbrev pub AddsCallTrace : Ledger → Header → CallData × Option Outcome → List Token → List Token → Type 0
-AddsCallTrace l header c old new = (document : Json) × IsCallTrace l c.0 header c.1 document × Adds old new (json_tokens document)
+AddsCallTrace l header c old new = AddsDocument (IsCallTrace l c.0 header c.1) old new
 
 -- why it is not written
 abbrev pub IsCallTraceFailure : Ledger → Header → CallData × Option Outcome → List Token → Failure TraceRefusal → Type 0
-IsCallTraceFailure l header c old failure.Memory = Unit {0}
-IsCallTraceFailure l header c old (failure.Fault refusal.TooLong) = IsTooLongBehind old (IsCallTrace l c.0 header c.1)
-IsCallTraceFailure l header c old (failure.Fault (refusal.Opening fault)) = ⊥
+IsCallTraceFailure l header c old why = IsDocumentFailure (IsCallTrace l c.0 header c.1) old why
 
 -- ---- calls one after another
 

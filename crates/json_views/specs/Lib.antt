@@ -19,4 +19,3 @@ pub mod TraceReplies
 pub mod Runs
 pub mod ValueTokens
 pub mod StateRuns
-pub mod Commands

@@ -17,7 +17,7 @@ use crate::writing::{
     Writer, begin_array, begin_object, end_array, end_object, put_digits_member, put_name,
     put_text_member, put_uint_member,
 };
-use avm_block::{Block, BlockError, Entry, decode};
+use avm_block::{Block, BlockError, Entry, decode, encode};
 use avm_input::outcome_text;
 use avm_ledger::{Header, Profile};
 use avm_replay::Base;
@@ -53,7 +53,17 @@ impl DigestedBlock {
         Ok(DigestedBlock { block, digest })
     }
 
-    fn block(&self) -> &Block
+    /// The block, with the digest that its bytes end with.
+    pub fn of(alloc: Global, block: Block) -> Result<DigestedBlock, AllocError>
+        ensures { IfOk result (λ digested. digested ≡ block) }
+    {
+        let bytes = encode(alloc, &block)?;
+        let digest = last_digest(bytes.as_slice(), &block);
+        Ok(DigestedBlock { block, digest })
+    }
+
+    /// The block.
+    pub fn block(&self) -> &Block
         ensures { result.now ≡ self.now }
     {
         &self.block

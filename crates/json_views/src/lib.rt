@@ -8,21 +8,17 @@
 //! (`specs/Runs.antt`), and `avm_json trace` for those of a block (`specs/TraceReplies.antt`). What the trace of a call is stands in
 //! `specs/Traces.antt`. Its states are those that the debugger shows (`avm_stepper`), from before the first instruction to the
 //! fault or the end. They are written one after another, and none is kept.
-//!
-//! The commands of the program `avm_json` stand here too (`commands`), and not in the program: a program is dear to prove, and its
-//! must-fail edits would prove it again.
 #![tactic(auto)]
 
 mod accounts;
 mod applications;
-mod block;
+pub mod block;
 pub mod by_account;
 mod call;
 mod call_trace;
 mod changes;
-mod commands;
 mod disassembly;
-mod ledger;
+pub mod ledger;
 mod machine;
 mod refusal;
 mod run;
@@ -33,9 +29,9 @@ mod trace_replies;
 mod trace_states;
 pub mod writing;
 
-pub use commands::{JsonCommand, answer};
 pub use refusal::TraceRefusal;
 pub use run::run_reply;
 pub use show::show_reply;
 pub use states::put_value;
-pub use trace_replies::trace_reply;
+pub use trace::{put_block_trace, put_entry_trace};
+pub use trace_replies::{found_reply, trace_reply};

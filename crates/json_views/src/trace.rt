@@ -1,11 +1,12 @@
 //! The traces of the calls of a block, or of one of its entries.
 
-ghost use Rattle.std.specs.Prelude.{◌≡◌, IfErr, IfOk, OnOk, Some, map, string_bytes};
+ghost use Rattle.std.specs.Prelude.{◌≡◌, IfErr, IfOk, List, OnOk, Some, map, string_bytes};
+ghost use Rattle.json.specs.Token.{Token};
 ghost use Rattle.avm_ledger.specs.Spellings.{ledger_digest};
 ghost use Rattle.avm_stepper.specs.Opening.{IsOpened};
-ghost use Rattle.json_views.specs.CallTraces.{AddsTraces, FindsRefusal, FindsText, IsTextFailure, IsTextWithin, IsTracesFailure, array_tokens, response_tokens};
+ghost use Rattle.json_views.specs.CallTraces.{AddsDocument, AddsTraces, FindsRefusal, FindsText, IsDocumentFailure, IsEntryFailure, IsTextFailure, IsTextWithin, IsTracesFailure, array_tokens, response_tokens};
 ghost use Rattle.json_views.specs.StateRuns.{AddsTrace, IsStartOver, IsTraceFailure};
-ghost use Rattle.json_views.specs.Traces.{FindsBlock, FindsEntry};
+ghost use Rattle.json_views.specs.Traces.{FindsBlock, FindsEntry, IsBlockTrace, IsEntryTrace};
 
 use crate::call_trace::{Ending, Traced, put_call_trace, put_run_trace};
 use crate::refusal::TraceRefusal;
@@ -38,6 +39,24 @@ pub(crate) fn entry_trace<O: Op>(
         (λ text. FindsText (FindsEntry (ledger.now, block.now) number) (string_bytes text)) }
     ensures refused { IfErr result (FindsRefusal (FindsEntry (ledger.now, block.now) number)) }
 {
+    let mut out = Writer::new(alloc);
+    put_entry_trace(alloc, &mut out, ledger, block, number, ops)?;
+    text_within(out)
+}
+
+/// Writes the trace of the call of an entry over the ledger before its block. Entries are numbered from 1.
+pub fn put_entry_trace<O: Op>(
+    alloc: Global,
+    out: &mut Writer,
+    ledger: &Ledger,
+    block: &Block,
+    number: usize,
+    ops: &FullOps<O>,
+) -> Result<(), Failure<TraceRefusal>>
+    ensures written { OnOk result
+        (AddsDocument (IsEntryTrace ledger.now block.now number) out.old out.new) }
+    ensures refused { IfErr result (IsEntryFailure ledger.now block.now number out.old) }
+{
     let mut stepper = opened(alloc, ledger, block, number, ops)?;
     let Some(entry) = entry_of(block.entries(), number) else {
         unreachable!()
@@ -47,9 +66,7 @@ pub(crate) fn entry_trace<O: Op>(
         ops,
         header: block.header(),
     };
-    let mut out = Writer::new(alloc);
-    put_entry_trace::<Brand, O>(&context, &mut out, &mut stepper, entry, Blank::new(2))?;
-    text_within(out)
+    put_opened_trace::<Brand, O>(&context, out, &mut stepper, entry, Blank::new(2))
 }
 
 /// The call of an entry, before the first instruction of its program.
@@ -61,7 +78,8 @@ fn opened<O: Op>(
     ops: &FullOps<O>,
 ) -> Result<Stepper, Failure<TraceRefusal>>
     ensures opened { IfOk result (λ stepper. IsOpened ledger.now block.now number stepper) }
-    ensures refused { IfErr result (FindsRefusal (FindsEntry (ledger.now, block.now) number)) }
+    ensures refused { IfErr result
+        (λ why. (old : List Token) → IsEntryFailure ledger.now block.now number old why) }
 {
     match Stepper::open_block(alloc, ledger, block, number, ops) {
         Ok(stepper) => Ok(stepper),
@@ -71,7 +89,7 @@ fn opened<O: Op>(
 }
 
 /// Writes the trace of an entry's call, by a stepper before its first instruction.
-fn put_entry_trace<L: ledger::Ledger, O: Op>(
+fn put_opened_trace<L: ledger::Ledger, O: Op>(
     context: &RunContext<'_, O>,
     out: &mut Writer,
     stepper: &mut Stepper,
@@ -113,16 +131,33 @@ pub(crate) fn block_trace<O: Op>(
     ensures refused { IfErr result (FindsRefusal (FindsBlock (base, block.now))) }
 {
     let ledger = ledger_under(base, block)?;
+    let mut out = Writer::new(alloc);
+    put_block_trace(alloc, &mut out, ledger, block, ops)?;
+    text_within(out)
+}
+
+/// Writes the traces of all calls of a block over the ledger before it.
+pub fn put_block_trace<O: Op>(
+    alloc: Global,
+    out: &mut Writer,
+    ledger: Ledger,
+    block: &Block,
+    ops: &FullOps<O>,
+) -> Result<(), Failure<TraceRefusal>>
+    requires base { block.now.base ≡ ledger_digest ledger }
+    ensures written { OnOk result
+        (AddsDocument (IsBlockTrace ledger block.now) out.old out.new) }
+    ensures refused { IfErr result
+        (IsDocumentFailure (IsBlockTrace ledger block.now) out.old) }
+{
     let context = RunContext {
         alloc,
         ops,
         header: block.header(),
     };
-    let mut out = Writer::new(alloc);
-    begin_object(&mut out)?;
+    begin_object(out)?;
     let blank = Blank::new(2);
-    put_response::<Brand, Entry, O>(&context, &mut out, ledger, block.entries(), blank)?;
-    text_within(out)
+    put_response::<Brand, Entry, O>(&context, out, ledger, block.entries(), blank)
 }
 
 /// The ledger before a block, unless the block stands over another one.

@@ -79,7 +79,7 @@ fn block_reply<O: Op>(
 }
 
 /// The answer of what is found; a text that is too long is refused in these words.
-pub(crate) fn found_reply(
+pub fn found_reply(
     alloc: Global,
     found: Result<String, Failure<TraceRefusal>>,
     too_long: &str,

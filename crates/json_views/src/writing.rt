@@ -1,6 +1,7 @@
 //! Documents written token by token.
 
 ghost use Rattle.std.specs.Prelude.{◌≡◌, ◌∷◌, ◌++◌, ◌<◌, ◌≤◌, [], IfOk, OnOk, codes, string_bytes, true};
+ghost use Rattle.json.specs.Json.{null};
 ghost use Rattle.json.specs.Layout.{pretty};
 ghost use Rattle.json.specs.Print.{IsPrintable};
 ghost use Rattle.json.specs.Reads.{token_of};
@@ -16,7 +17,7 @@ use std::alloc::{AllocError, Global};
 use std::marker::Model;
 use teal_value::{Address, address_text};
 
-/// How many bytes the text of a trace or a run may have: 64 MiB.
+/// How many bytes the text of a trace, a run or a page may have: 64 MiB.
 pub const TEXT_LIMIT: u64 = 67_108_864;
 
 /// A document that is being written, token by token, with how many bytes its text surely has by now, so that one that gets too
@@ -125,6 +126,13 @@ pub fn put_text(out: &mut Writer, content: &str) -> Result<(), AllocError>
     ensures { OnOk result (Adds out.old out.new (json_tokens (text content.now))) }
 {
     out.token(Token::String(content))
+}
+
+/// No value.
+pub fn put_null(out: &mut Writer) -> Result<(), AllocError>
+    ensures { OnOk result (Adds out.old out.new (json_tokens null)) }
+{
+    out.token(Token::Null)
 }
 
 /// Bytes in base64.

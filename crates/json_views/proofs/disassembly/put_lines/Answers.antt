@@ -1,4 +1,4 @@
-use Rattle.std.proofs.Common.{◌≡◌, ◌∙◌, ◌++◌, None, sym, rules, arith}
+use Rattle.std.proofs.Common.{rules, arith}
 use Rattle.json_views.proofs.Steps.{last}
 use Rattle.json_views.proofs.ListedLines.{line_written, lines_written}
 use Rattle.json_views.proofs.disassembly.put_lines.Goals as goal

@@ -1,4 +1,4 @@
-use Rattle.std.proofs.Common.{◌≡◌, ◌∙◌, ◌+◌, ◌≤◌, Err, ap, subst, arith}
+use Rattle.std.proofs.Common.{◌≡◌, ◌+◌, Err, ap, subst, arith}
 use Rattle.avm_stepper.specs.DebugSteps.{StepsTo}
 use Rattle.json_views.proofs.StateRuns.{WrittenOn, all_on, bound_on, first_on, goes_if, heavy_end, heavy_on, never_on, next_on, stops_if, written_on}
 use Rattle.json_views.proofs.trace_states.put_states.Goals as goal

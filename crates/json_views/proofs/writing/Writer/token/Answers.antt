@@ -1,4 +1,4 @@
-use Rattle.std.proofs.Common.{◌≡◌, ◌∷◌, [], ap, arith}
+use Rattle.std.proofs.Common.{◌∷◌, [], ap, arith}
 use Rattle.json.specs.Reads.{token_of}
 use Rattle.json_views.specs.Weights.{tokens_weight}
 use Rattle.json_views.proofs.Weights.{weight-append}
