@@ -165,3 +165,16 @@ def far_too_long():
     """The input of a trace with as many `dup`s as a program can pay, of more than a gigabyte."""
     program = program_of(steps_of([], 0, MOST_COST - len(steps_of([], 0, 0))))
     return block_lines(program, len(program))
+
+
+def of_pages():
+    """Blocks of one call, with the trace that a page has of it, `null` where the page would be too long, and how the call ends: a trace of
+    some 48 MiB, one that makes a page of more than 64 MiB, and one of more than a gigabyte."""
+    for name, doubled in (("a page with a long trace", 128), ("a page whose trace would be too long", 153)):
+        steps = steps_of([], 0, doubled)
+        program = program_of(steps)
+        given, trace = trace_case(steps, len(program))
+        yield name, given, trace.decode() if doubled == 128 else "null", f"faulted FinalDepth {len(program)}"
+    given = far_too_long()
+    place = bytes.fromhex(given.split()[1].decode())
+    yield "a page whose trace has more than a gigabyte", given, "null", f"faulted FinalDepth {int.from_bytes(place[-66:-64], 'big')}"

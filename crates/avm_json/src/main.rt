@@ -1,12 +1,12 @@
 //! The program `avm_json`: ledgers and blocks as JSON documents. Its words, standard input and standard output go to
-//! `json_views::answer`.
+//! `json_commands::answer`.
 #![tactic(auto)]
 
 use avm_input::FAILED;
 use avm_objects::filled_set;
 use avm_ops::{Op, Ops};
 use avm_run::FullOps;
-use json_views::answer;
+use json_commands::answer;
 use std::alloc::AllocError;
 use std::env;
 use std::io::{self, ErrorKind};

@@ -1,0 +1,4 @@
+pub mod Pages
+pub mod Found
+pub mod ReadingBack
+pub mod MadeCalls
