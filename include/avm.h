@@ -21,8 +21,8 @@
 
    How an answer is lent room
    - A function that answers bytes takes room for them, and a place for their number, `written`.
-   - AVM_DONE (of avm_c_answer: 0, 1 and 2; of avm_c_attempt AVM_NEEDS too): the answer stands at the beginning of the room, `written` is how many bytes it
-     has, and the room behind them is as it was.
+   - AVM_DONE (of avm_c_answer and avm_c_json: 0, 1 and 2; of avm_c_attempt AVM_NEEDS too): the answer stands at the beginning of
+     the room, `written` is how many bytes it has, and the room behind them is as it was.
    - AVM_NO_ROOM: the answer is longer than the room. `written` is how many bytes are wanted, and the room is as it was. A call
      with room for no bytes thus asks for the size.
    - Any other status: `written` is 0, and the room is as it was. */
@@ -39,8 +39,8 @@ extern "C" {
 /* What a call says: a number has one meaning, whatever function gives it. 0 to 3 are the exit statuses of the command line. */
 enum avm_status {
     AVM_DONE = 0,           /* It was done: the bytes are a program, the block agrees, the answer was written. */
-    AVM_REFUSED = 1,        /* The command refuses its input, and the answer says why. Of avm_c_answer alone. */
-    AVM_USAGE = 2,          /* The words are no command, and the answer is the usage line. Of avm_c_answer alone. */
+    AVM_REFUSED = 1,        /* The command refuses its input, and the answer says why. Of avm_c_answer and avm_c_json alone. */
+    AVM_USAGE = 2,          /* The words are no command, and the answer is the usage line. Of these two alone. */
     AVM_MEMORY = 3,         /* Memory was refused. Nothing was written, but for a 0 in `written`. */
     AVM_NO_ROOM = 4,        /* The answer is longer than the room. */
     AVM_PROPOSE = 5,        /* The words are `propose`, which takes threads: no command here. Of avm_c_answer alone. */
@@ -55,10 +55,10 @@ enum avm_status {
     AVM_NO_ENTRY = 14,      /* The block has no entry of this number. */
     AVM_NO_RUN = 15,        /* No program runs in the entry's call: it is refused, or clears what is left of a gone application. */
     AVM_ENDED = 16,         /* The program ends before so many steps. */
-    AVM_NEEDS = 17,         /* The call looks at an item that is not known: it was written. Of avm_c_attempt alone, as those below. */
+    AVM_NEEDS = 17,         /* The call looks at an item that is not known: it was written. Of avm_c_attempt alone. */
     AVM_NO_HEADER = 18,     /* The bytes are no header. */
     AVM_NO_CALL = 19,       /* The header's bytes are one, the call's are no call, or break a rule of calls. */
-    AVM_NO_ITEMS = 20       /* The header's and the call's bytes are one, the others are no items with their values. */
+    AVM_NO_ITEMS = 20       /* The header's and the call's bytes are one, the others are no items with their values. Of avm_c_attempt alone. */
 };
 
 /* How a call ends. */
@@ -187,6 +187,13 @@ uint32_t avm_c_list(const uint8_t *program, size_t program_len, uint8_t *room, s
 uint32_t avm_c_replay(const uint8_t *ledger, size_t ledger_len, const uint8_t *block, size_t block_len, uint8_t digest[32],
                       struct avm_difference *difference);
 
+/* The same verdict, with the bytes of the ledger after the block where it agrees, so that a node goes on from a block without making
+   its calls twice. A first guess for the room: the bytes of the ledger and of the block together. AVM_DONE, AVM_WRONG_BASE,
+   AVM_WRONG_OUTCOME with `difference` (else it is as it was), AVM_WRONG_STATE, AVM_NO_LEDGER, AVM_NO_BLOCK, AVM_NO_ROOM or
+   AVM_MEMORY. */
+uint32_t avm_c_apply(const uint8_t *ledger, size_t ledger_len, const uint8_t *block, size_t block_len, uint8_t *room,
+                     size_t room_len, size_t *written, struct avm_difference *difference);
+
 /* The bytes of the ledger after the calls of a block with timestamps up to this one; outcomes and the digest after are not
    compared. AVM_DONE, AVM_NO_LEDGER, AVM_NO_BLOCK, AVM_WRONG_BASE, AVM_NO_ROOM or AVM_MEMORY. */
 uint32_t avm_c_state(const uint8_t *ledger, size_t ledger_len, const uint8_t *block, size_t block_len, uint64_t timestamp,
@@ -204,6 +211,11 @@ uint32_t avm_c_view(const uint8_t *ledger, size_t ledger_len, const uint8_t *blo
    16 MiB is refused by every command. */
 uint32_t avm_c_answer(const uint8_t *words, size_t words_len, const uint8_t *input, size_t input_len, uint8_t *room,
                       size_t room_len, size_t *written);
+
+/* The same of the program `avm_json`: documents that are read, and ledgers, blocks, calls and pages that are shown. The status is
+   the exit status, 0 to 2, with the text in the room; else AVM_NO_ROOM or AVM_MEMORY. */
+uint32_t avm_c_json(const uint8_t *words, size_t words_len, const uint8_t *input, size_t input_len, uint8_t *room, size_t room_len,
+                    size_t *written);
 
 /* A call over items of a ledger that the caller keeps: how it ends and what it writes, or the first item that it looks at and that
    is not known. The bytes are a header of 40 bytes, a call, and items with their values, in any order and each once. Programs of
@@ -227,6 +239,18 @@ uint32_t avm_c_answer(const uint8_t *words, size_t words_len, const uint8_t *inp
    or counts over the keys, is the caller's to keep. */
 uint32_t avm_c_attempt(const uint8_t *header, size_t header_len, const uint8_t *call, size_t call_len, const uint8_t *known,
                        size_t known_len, uint8_t *room, size_t room_len, size_t *written, struct avm_end *end);
+
+/* What a call does over a whole ledger: the bytes of the ledger after it are answered, and `end` says how it ends. A ledger after a
+   call that is not approved, and clears nothing, is the one before. A first guess for the room: as many bytes as the ledger has, and
+   8,192 more. The ledger is read first, then the header, then the call. AVM_DONE, AVM_NO_LEDGER, AVM_NO_HEADER, AVM_NO_CALL with
+   the number of enum avm_call_fault in `end`, AVM_NO_ROOM (`end` says how the call ends all the same) or AVM_MEMORY, with `end` as it
+   was. */
+uint32_t avm_c_call(const uint8_t *ledger, size_t ledger_len, const uint8_t *header, size_t header_len, const uint8_t *call,
+                    size_t call_len, uint8_t *room, size_t room_len, size_t *written, struct avm_end *end);
+
+/* The version of the library, as AVM_VERSION is that of this header: 1,000,000 for each major version, 1,000 for each minor one. */
+#define AVM_VERSION 7000
+uint32_t avm_c_version(void);
 
 #ifdef __cplusplus
 }

@@ -10,6 +10,7 @@
     print(verdict)                                 # agrees 4fa5..
     after = avm.state(ledger, block, timestamp=3)  # the ledger in the middle of the block
     attempt = avm.attempt(header, call, known)     # a call over items that you keep yourself
+    values = ledger.items()                        # the items of a Ledger with their values, and Ledger.of_items back
 
 `Avm` has the eight functions of include/avm.h, which says what each promises. Programs, ledgers and blocks are given as `bytes`
 or as `Program`, `Ledger` and `Block`; docs/FORMATS.md has their layouts. What a function refuses is raised: an `AvmError` of the
@@ -27,12 +28,13 @@ import re
 import sys
 from dataclasses import dataclass
 from pathlib import Path
-from typing import Any, Callable, Dict, List, Optional, Sequence, Tuple, Type, TypeVar, Union
+from typing import Any, Callable, Dict, Iterator, List, Mapping, Optional, Sequence, Tuple, Type, TypeVar, Union
 
 __all__ = [
-    "Answer", "AsmFault", "Attempt", "Avm", "AvmError", "Block", "CallFault", "Difference", "End", "Ended", "Ending", "Fault", "Given",
-    "Ledger", "NeedsThreads", "NoBlock", "NoCall", "NoEntry", "NoHeader", "NoItems", "NoLedger", "NoProgram", "NoRun", "NoText",
-    "NotAssembled", "Program", "Rule", "Spelled", "Status", "Verdict", "View", "Why", "WrongBase", "WrongOutcome", "WrongState",
+    "ABSENT", "Answer", "AsmFault", "Attempt", "Avm", "AvmError", "Block", "Call", "CallFault", "Difference", "End", "Ended", "Ending",
+    "Fault", "Given", "Items", "Ledger", "NeedsThreads", "NoBlock", "NoCall", "NoEntry", "NoHeader", "NoItems", "NoLedger", "NoProgram",
+    "NoRun", "NoText", "NotAssembled", "Program", "Rule", "Spelled", "Status", "Verdict", "View", "Why", "WrongBase", "WrongOutcome",
+    "WrongState",
 ]  # fmt: skip
 
 
@@ -174,6 +176,88 @@ class AsmFault(enum.IntEnum):
     TooLong = 13
 
 
+# ---- items, read and spelled as docs/FORMATS.md says
+
+#: The value of an item that is not there.
+ABSENT = b"\0"
+_NEXT_ID, _ROW, _COUNTS, _KEY, _LOCAL_STATE = (bytes([kind]) for kind in range(5))
+
+
+class _Reader:
+    """Takes fields from bytes, one behind another, each as it is spelled. Where the bytes end early, it is a `ValueError`."""
+
+    def __init__(self, spelled: bytes) -> None:
+        self.spelled = spelled
+        self.place = 0
+
+    def take(self, count: int) -> bytes:
+        begin, self.place = self.place, self.place + count
+        if self.place > len(self.spelled):
+            raise ValueError("the bytes end inside a field")
+        return self.spelled[begin : self.place]
+
+    def number(self, size: int) -> int:
+        return int.from_bytes(self.take(size), "big")
+
+    def string(self, size: int) -> bytes:
+        """A byte string behind its length."""
+        length = self.take(size)
+        return length + self.take(int.from_bytes(length, "big"))
+
+    def value(self) -> bytes:
+        kind = self.take(1)
+        return kind + (self.take(8) if kind == b"\1" else self.string(1))
+
+    def state(self) -> bytes:
+        count = self.take(1)
+        return count + b"".join(self.string(1) + self.value() for _ in range(count[0]))
+
+    def counts(self) -> bytes:
+        return self.take(2)
+
+    def row(self) -> bytes:
+        return self.take(32) + self.string(2) + self.string(2) + self.take(4)
+
+
+_VALUES: Dict[bytes, Callable[[_Reader], bytes]] = {
+    _ROW: _Reader.row,
+    _COUNTS: _Reader.counts,
+    _KEY: _Reader.value,
+    _LOCAL_STATE: _Reader.state,
+}
+
+
+def _items_of(read: _Reader) -> Iterator[Tuple[bytes, bytes]]:
+    """The items of a ledger with their values."""
+    yield _NEXT_ID, read.take(8)
+    for _ in range(read.number(4)):
+        app = read.take(8)
+        yield _ROW + app, b"\1" + read.row()
+        entries = [(read.string(1), read.value()) for _ in range(read.number(1))]
+        kinds = [value[0] for _, value in entries]
+        yield _COUNTS + app, bytes([1, kinds.count(1), kinds.count(2)])
+        yield from ((_KEY + app + key, b"\1" + value) for key, value in entries)
+    for _ in range(read.number(4)):
+        yield _LOCAL_STATE + read.take(40), b"\1" + read.state()
+
+
+def _item_and_value(read: _Reader) -> Tuple[bytes, bytes]:
+    """An entry of items."""
+    kind = read.take(1)
+    if kind == _NEXT_ID:
+        return kind, read.take(8)
+    if kind not in _VALUES:
+        raise ValueError("no item has this kind")
+    item = kind + read.take(40 if kind == _LOCAL_STATE else 8) + (read.string(1) if kind == _KEY else b"")
+    present = read.take(1)
+    return item, present if present == ABSENT else present + _VALUES[kind](read)
+
+
+def _listed(parts: Sequence[bytes]) -> bytes:
+    """A list: its count in four bytes, then each."""
+    return len(parts).to_bytes(4, "big") + b"".join(parts)
+
+
 # ---- what is given and answered
 
 _S = TypeVar("_S", bound="Spelled")
@@ -210,9 +294,59 @@ class Program(Spelled):
 class Ledger(Spelled):
     """A ledger."""
 
+    def items(self) -> Dict[bytes, bytes]:
+        """Its items with their values. The bytes have to be a ledger: where they end early, it is a `ValueError`."""
+        return dict(_items_of(_Reader(self.spelled)))
+
+    @classmethod
+    def of_items(cls, values: Mapping[bytes, bytes]) -> "Ledger":
+        """The ledger that has these items with their values, and no others. Counts are those of the keys: they are not looked at."""
+        there = sorted((item, value[1:]) for item, value in values.items() if value != ABSENT and item != _NEXT_ID)
+        keys: Dict[bytes, List[Tuple[bytes, bytes]]] = {}
+        for item, value in there:
+            if item[:1] == _KEY:
+                # A key stands behind its length, by which a ledger does not order keys.
+                keys.setdefault(item[1:9], []).append((item[10:], item[9:] + value))
+        states = {app: bytes([len(of)]) + b"".join(spelled for _, spelled in sorted(of)) for app, of in keys.items()}
+        apps = [item[1:] + value + states.get(item[1:], b"\0") for item, value in there if item[:1] == _ROW]
+        local_states = [item[1:] + value for item, value in there if item[:1] == _LOCAL_STATE]
+        return cls(values[_NEXT_ID] + _listed(apps) + _listed(local_states))
+
 
 class Block(Spelled):
     """A block."""
+
+
+class Call(Spelled):
+    """A call."""
+
+    def parties(self) -> Tuple[int, List[bytes]]:
+        """The application, and the accounts: the sender's and those beside it. The bytes have to be a call: where they end early, it
+        is a `ValueError`."""
+        read = _Reader(self.spelled)
+        sender = read.take(32)
+        read.take(3 * 8)
+        read.string(2)
+        read.take(2 * 32)
+        application = read.number(8)
+        read.take(1)
+        for _ in range(read.number(1)):
+            read.string(2)
+        return application, [sender, *(read.take(32) for _ in range(read.number(1)))]
+
+
+class Items(Spelled):
+    """Items with their values, each by its bytes."""
+
+    @classmethod
+    def of(cls, values: Mapping[bytes, bytes]) -> "Items":
+        """These items with their values."""
+        return cls(_listed([item + value for item, value in values.items()]))
+
+    def values(self) -> Dict[bytes, bytes]:
+        """Each item and its value, in the order in which they stand. Where the bytes end early, it is a `ValueError`."""
+        read = _Reader(self.spelled)
+        return dict(_item_and_value(read) for _ in range(read.number(4)))
 
 
 #: What is taken for bytes.
@@ -300,7 +434,7 @@ class Attempt:
 
     needs: Optional[bytes] = None
     end: Optional[End] = None
-    writes: Optional[bytes] = None
+    writes: Optional[Items] = None
 
 
 @dataclass(frozen=True)
@@ -518,10 +652,14 @@ _FUNCTIONS = {
     "assemble": "bytes room",
     "list": "bytes room",
     "replay": "bytes bytes digest difference",
+    "apply": "bytes bytes room difference",
     "state": "bytes bytes number room",
     "view": "bytes bytes number number room",
     "answer": "bytes bytes room",
+    "json": "bytes bytes room",
     "attempt": "bytes bytes bytes room end",
+    "call": "bytes bytes bytes room end",
+    "version": "",
 }
 _SIZE = ctypes.c_size_t
 _TYPES: Dict[str, Tuple[Any, ...]] = {
@@ -613,6 +751,18 @@ class Avm:
             return Verdict(status, difference=Difference(found.entry, Ending(found.ending), found.number, found.place))
         return Verdict(status, digest.raw if status == Status.DONE else None)
 
+    def apply(self, ledger: Given, block: Given) -> Ledger:
+        """The ledger after a block that agrees. Else `NoLedger`, `NoBlock`, `WrongBase`, `WrongOutcome` or `WrongState`."""
+        found = _Difference()
+        sized = _sized(ledger, block)
+        status, after = self._lent("apply", *sized, guess=sized[1] + sized[3], behind=(found,))
+        if status == Status.WRONG_OUTCOME:
+            difference = Difference(found.entry, Ending(found.ending), found.number, found.place)
+            raise WrongOutcome(status, f"wrong outcome {difference.named}", difference)
+        if after is None:
+            raise self._refusal(status, "replay", ledger, block)
+        return Ledger(after)
+
     def state(self, ledger: Given, block: Given, timestamp: int = _MOST_NUMBER) -> Ledger:
         """The ledger after the calls of a block with timestamps up to this one; where none is given, after all calls. Outcomes and
         the digest after are not compared. Else `NoLedger`, `NoBlock` or `WrongBase`."""
@@ -632,12 +782,27 @@ class Avm:
 
     def answer(self, words: Sequence[str], given: Given = b"") -> Answer:
         """What the program `avm` writes for these words and this input, also a refusal. `NeedsThreads` for `propose`."""
-        if any("\0" in word for word in words):
-            raise ValueError("a word has a zero byte")
-        status, output = self._lent("answer", *_sized("\0".join(words).encode(), given))
-        if output is None:
-            raise self._refusal(status)
-        return Answer(status, output)
+        return self._answered("answer", words, given)
+
+    def json(self, words: Sequence[str], given: Given = b"") -> Answer:
+        """What the program `avm_json` writes for these words and this input, also a refusal."""
+        return self._answered("json", words, given)
+
+    def call(self, ledger: Given, header: Given, call: Given) -> Tuple[End, Ledger]:
+        """How a call ends over a ledger, and the ledger after it. Else `NoLedger`, `NoHeader` or `NoCall`."""
+        end = _End()
+        sized = _sized(ledger, header, call)
+        status, after = self._lent("call", *sized, guess=sized[1] + 8192, behind=(end,))
+        if status == Status.NO_CALL:
+            raise self._no_call(status, end)
+        if after is None:
+            raise self._refusal(status, "replay", ledger)
+        return End(Ending(end.ending), end.number, end.place), Ledger(after)
+
+    def version(self) -> str:
+        """The version of the library, as MAJOR.MINOR.PATCH."""
+        number = self._functions["version"]()
+        return f"{number // 1_000_000}.{number // 1_000 % 1_000}.{number % 1_000}"
 
     def attempt(self, header: Given, call: Given, known: Given = bytes(4)) -> Attempt:
         """A call over items that are known, in the layouts of docs/FORMATS.md: the first item that it looks at and that is not among
@@ -646,13 +811,27 @@ class Avm:
         end = _End()
         status, told = self._lent("attempt", *_sized(header, call, known), behind=(end,))
         if status == Status.NO_CALL:
-            fault = CallFault(end.number)
-            raise NoCall(status, f"no call {fault.name}", fault)
+            raise self._no_call(status, end)
         if told is None:
             raise self._refusal(status)
         if status == Status.NEEDS:
             return Attempt(needs=told)
-        return Attempt(end=End(Ending(end.ending), end.number, end.place), writes=told)
+        return Attempt(end=End(Ending(end.ending), end.number, end.place), writes=Items(told))
+
+    def _answered(self, name: str, words: Sequence[str], given: Given) -> Answer:
+        """What a program writes for words and an input."""
+        if any("\0" in word for word in words):
+            raise ValueError("a word has a zero byte")
+        status, output = self._lent(name, *_sized("\0".join(words).encode(), given))
+        if output is None:
+            raise self._refusal(status)
+        return Answer(status, output)
+
+    @staticmethod
+    def _no_call(status: Status, end: _End) -> "NoCall":
+        """Why bytes are no call."""
+        fault = CallFault(end.number)
+        return NoCall(status, f"no call {fault.name}", fault)
 
     def _lent(self, name: str, *given: Any, guess: int = 0, behind: Sequence[Any] = ()) -> Tuple[Status, Optional[bytes]]:
         """Calls a function that answers bytes, with more room where the first is too little."""

@@ -2,7 +2,8 @@
 
 #include <string.h>
 
-const char *const function_names[FUNCTIONS] = {"check", "assemble", "list", "replay", "state", "view", "answer", "attempt"};
+const char *const function_names[FUNCTIONS] = {"check", "assemble", "list", "replay", "apply", "state",
+                                                   "view", "answer", "json", "attempt", "call"};
 
 void clear(struct answer *answer) {
     memset(answer, MARK, sizeof *answer);
@@ -16,6 +17,10 @@ void make(const struct call *call, struct answer *answer, size_t room) {
     case ASSEMBLE: answer->status = avm_c_assemble(first, length, answer->room, room, &answer->written); break;
     case LIST: answer->status = avm_c_list(first, length, answer->room, room, &answer->written); break;
     case REPLAY: answer->status = avm_c_replay(first, length, second, other, answer->digest, &answer->difference); break;
+    case APPLY:
+        answer->status =
+            avm_c_apply(first, length, second, other, answer->room, room, &answer->written, &answer->difference);
+        break;
     case STATE:
         answer->status = avm_c_state(first, length, second, other, call->number, answer->room, room, &answer->written);
         break;
@@ -24,9 +29,14 @@ void make(const struct call *call, struct answer *answer, size_t room) {
             avm_c_view(first, length, second, other, call->entry, call->number, answer->room, room, &answer->written);
         break;
     case ANSWER: answer->status = avm_c_answer(first, length, second, other, answer->room, room, &answer->written); break;
+    case JSON: answer->status = avm_c_json(first, length, second, other, answer->room, room, &answer->written); break;
     case ATTEMPT:
         answer->status = avm_c_attempt(first, length, second, other, call->third.at, call->third.length, answer->room, room,
                                        &answer->written, &answer->end);
+        break;
+    case CALL:
+        answer->status = avm_c_call(first, length, second, other, call->third.at, call->third.length, answer->room, room,
+                                    &answer->written, &answer->end);
         break;
     }
 }

@@ -4,7 +4,7 @@
 
 #include "avm.h"
 
-enum function { CHECK, ASSEMBLE, LIST, REPLAY, STATE, VIEW, ANSWER, ATTEMPT };
+enum function { CHECK, ASSEMBLE, LIST, REPLAY, APPLY, STATE, VIEW, ANSWER, JSON, ATTEMPT, CALL };
 
 struct bytes {
     uint8_t *at;
@@ -12,7 +12,7 @@ struct bytes {
 };
 
 /* One call: of a program or a text the first bytes, of a ledger and a block both, of words and an input both, of a header, a call and
-   items all three. */
+   items all three, and so of a ledger, a header and a call. */
 struct call {
     enum function function;
     struct bytes first, second;
@@ -20,7 +20,7 @@ struct call {
     struct bytes third;
 };
 
-enum { FUNCTIONS = ATTEMPT + 1, ROOM = 1 << 16, MARK = 0xA5 };
+enum { FUNCTIONS = CALL + 1, ROOM = 1 << 16, MARK = 0xA5 };
 
 struct answer {
     uint32_t status;

@@ -52,6 +52,10 @@ static void add_answer(struct call *calls, size_t *count, const char *words, siz
     add(calls, count, ANSWER, copy_of(words, length), input);
 }
 
+static void add_json(struct call *calls, size_t *count, const char *words, size_t length, struct bytes input) {
+    add(calls, count, JSON, copy_of(words, length), input);
+}
+
 static void add_source(struct call *calls, size_t *count, struct bytes text) {
     static struct answer answer;
     struct bytes none = copy_of("", 0);
@@ -107,17 +111,42 @@ static size_t put_value(uint8_t *at, uint8_t kind) {
     return 8;
 }
 
-/* The first call of a block of format 2: over no items, and then over each item that it asks for, to its end. */
-static void add_attempts(struct call *calls, size_t *count, struct bytes block) {
+enum { HEADER = 4 + 2 + 32, FIRST = HEADER + 40 + 4 + 8, MOST_KNOWN = 1 << 10 };
+
+/* The header of a block of format 2, and its first call. */
+static struct bytes header_in(struct bytes block) {
+    return copy_of(block.at + HEADER, 40);
+}
+
+static struct bytes first_in(struct bytes block) {
+    return copy_of(block.at + FIRST, behind_call(block, FIRST) - FIRST);
+}
+
+/* That call over these items. */
+static struct call *add_attempt(struct call *calls, size_t *count, struct bytes block, const uint8_t *known, size_t length) {
+    struct call *call = add(calls, count, ATTEMPT, header_in(block), first_in(block));
+    call->third = copy_of(known, length);
+    return call;
+}
+
+/* That call with bytes that are no header, no call, or no items. */
+static void add_no_attempts(struct call *calls, size_t *count, struct bytes block) {
+    static const uint8_t none[4];
+    add_attempt(calls, count, block, none, sizeof none)->first.length--;
+    add_attempt(calls, count, block, none, sizeof none)->second.length--;
+    add_attempt(calls, count, block, none, sizeof none)->third.length--;
+}
+
+/* That call over the ledger; and over no items, and then over each item that it asks for, to its end. */
+static void add_calls(struct call *calls, size_t *count, struct bytes ledger, struct bytes block) {
     static struct answer answer;
-    enum { HEADER = 4 + 2 + 32, CALL = HEADER + 40 + 4 + 8, MOST_KNOWN = 1 << 10 };
     if (number_at(block, 4, 2) != 0x0203 || number_at(block, HEADER + 40, 4) == 0) return;
+    add_no_attempts(calls, count, block);
+    add(calls, count, CALL, ledger, header_in(block))->third = first_in(block);
     uint8_t known[MOST_KNOWN] = {0};
     size_t length = 4;
     do {
-        struct call *call = add(calls, count, ATTEMPT, copy_of(block.at + HEADER, 40), copy_of(block.at + CALL, behind_call(block, CALL) - CALL));
-        call->third = copy_of(known, length);
-        make(call, &answer, ROOM);
+        make(add_attempt(calls, count, block, known, length), &answer, ROOM);
         if (answer.status != AVM_DONE && answer.status != AVM_NEEDS) fail("is not attempted", "a call of examples/");
         if (length + answer.written + 8 > sizeof known) fail("asks for many items", "a call of examples/");
         memcpy(known + length, answer.room, answer.written);
@@ -131,13 +160,16 @@ static void add_block(struct call *calls, size_t *count, struct bytes text) {
     size_t place = 0;
     struct bytes ledger = line_of(text, &place), block = line_of(text, &place);
     add(calls, count, REPLAY, ledger, block);
+    add(calls, count, APPLY, ledger, block);
     add(calls, count, STATE, ledger, block)->number = 0;
     add(calls, count, STATE, ledger, block)->number = UINT64_MAX;
     add_views(calls, count, ledger, block);
-    add_attempts(calls, count, block);
+    add_calls(calls, count, ledger, block);
     add_answer(calls, count, "replay", 6, text);
     add_answer(calls, count, "state\0--at\0" "3", 12, text);
     add_answer(calls, count, "debug\0--entry\0" "3\0--steps\0" "9", 25, text);
+    add_json(calls, count, "show", 4, text);
+    add_json(calls, count, "trace\0--entry=3", 15, text);
 }
 
 size_t calls_for(char **names, int files, struct call *calls) {

@@ -1,5 +1,6 @@
 """The stored rows of commands, asked of the shared object LIBRARY: by avm_c_answer with the words of the row, and by the function that
-does what the command does, with the bytes that the row's digits spell. What is wanted was worked out outside the programs.
+does what the command does, with the bytes that the row's digits spell; and the cases of tests/json_cases by avm_c_json. What is wanted
+was worked out outside the programs.
 
     python3 tests/embedding/rows.py LIBRARY
 
@@ -44,22 +45,24 @@ STATUSES = {
 class Lending(Avm):
     """Calls with lent room, made with every kind of room."""
 
-    def _lent(self, name, *given, guess=0):
+    def _lent(self, name, *given, guess=0, behind=()):
         function = self._functions[name]
-        status, answer = self.with_room(function, given, MOST)
+        status, answer = self.with_room(function, given, behind, MOST)
+        if status == Status.NO_ROOM:
+            status, answer = self.with_room(function, given, behind, answer)
         if answer is not None:
             sizes = {0, max(len(answer) - 1, 0), len(answer), len(answer) + 1}
             for size in sizes:
                 wanted = (status, answer) if size >= len(answer) else (Status.NO_ROOM, len(answer))
-                found = self.with_room(function, given, size)
+                found = self.with_room(function, given, behind, size)
                 if found != wanted:
                     raise AssertionError(f"room for {size} of {len(answer)} bytes: {found[0]!r}")
         return status, answer
 
-    def with_room(self, function, given, size):
+    def with_room(self, function, given, behind, size):
         """The status, and the answer, or how many bytes are wanted. A byte stands behind the room, also where it is of none."""
         room, written = ctypes.create_string_buffer(MARK * (size + 1), size + 1), ctypes.c_size_t(1)
-        status = Status(function(*given, room, size, written))
+        status = Status(function(*given, room, size, written, *behind))
         filled = written.value if status in ANSWERED else 0
         if filled > size or room.raw[filled:].strip(MARK):
             raise AssertionError(f"{status!r} wrote beyond its answer of {written.value} bytes")
@@ -157,6 +160,16 @@ def verdict_of(avm, ledger, block):
     return verdict.status, verdict.digest, None, str(verdict)
 
 
+def applied(avm, ledger, block):
+    """The status, the digest of the ledger after, and the difference."""
+    try:
+        after = avm.apply(ledger, block)
+    except AvmError as error:
+        found = getattr(error, "difference", None)
+        return error.status, None, found and (found.entry, found.ending, found.number, found.place)
+    return Status.DONE, hashlib.sha256(bytes(after)).digest(), None
+
+
 def wanted_verdict(status, text):
     words = text.split()
     digest = bytes.fromhex(words[1]) if status == Status.DONE else None
@@ -168,7 +181,8 @@ def of_block(avm, words, given, text):
     options = options_in(words)
     status = status_of(text)
     if words[0] == "replay":
-        return verdict_of(avm, ledger, block), wanted_verdict(status, text)
+        wanted = wanted_verdict(status, text)
+        return (verdict_of(avm, ledger, block), applied(avm, ledger, block)), (wanted, wanted[:3])
     if words[0] == "state":
         found, after = asked(avm.state, ledger, block, options["--at"])
         return (found, after and after.hex()), (status, text.rstrip("\n") if status == Status.DONE else None)
@@ -222,10 +236,14 @@ def main(library):
             counts[words[0]] += 1
             if pair[0] != pair[1]:
                 wrong.append(f"{words} {given[:60]}: {pair[0]}, and not {pair[1]}")
+    for name, words, given, answer, status in stored.json_cases():
+        counts["json"] += 1
+        if asked(avm.json, words, given) != (Status.DONE, Answer(Status(status), answer)):
+            wrong.append(f"avm_c_json: {name}")
     for line in wrong[:20]:
         print(f"WRONG {line}")
     print("rows of commands:", ", ".join(f"{count} by {name}" for name, count in sorted(counts.items())))
-    few = [name for name in ("answer", "asm", "check", "debug", "dis", "replay", "state") if counts[name] < 5]
+    few = [name for name in ("answer", "asm", "check", "debug", "dis", "json", "replay", "state") if counts[name] < 5]
     if few:
         print(f"WRONG fewer than five rows of {', '.join(few)}")
     return 1 if wrong or few else 0

@@ -2,8 +2,6 @@
 use Rattle.std.specs.Prelude.{◌≡◌, ◌+◌, ◌⊎◌, ℕ, List, Result, Ok, Err}
 use Rattle.teal_value.specs.Answer.{◌>>=◌}
 use Rattle.avm_ledger.specs.declared.header.Header.{Header}
-use Rattle.avm_ledger.specs.declared.header.Profile.TheVariants as profile
-use Rattle.avm_ledger.specs.FieldReader.{alone}
 use Rattle.avm_items.specs.declared.call_data.CallData.{CallData}
 use Rattle.avm_items.specs.Items.{ItemMap}
 use Rattle.avm_item_codec.specs.ItemReader.{items_at}
@@ -13,11 +11,10 @@ use Rattle.avm_call.specs.FaultNumbers.{call_fault_number}
 use Rattle.avm_run.specs.declared.call_run.Advance.{Advance}
 use Rattle.avm_run.specs.declared.call_run.Advance.TheVariants as advance
 use Rattle.avm_attempt.specs.Attempts.{IsAttempt}
-use Rattle.avm_block.specs.BlockReader.{header_at}
-use Rattle.avm_block.specs.declared.block_fault.BlockFault.TheVariants as block
 use Rattle.avm_input.specs.declared.call_line.CallLineFault.{CallLineFault}
 use Rattle.avm_input.specs.declared.call_line.CallLineFault.TheVariants as line
 use Rattle.avm_input.specs.CallLines.{checked_call}
+use Rattle.avm_input.specs.ProposeInputs as inputs
 use Rattle.avm_c.specs.declared.attempts.Asked.{Asked}
 use Rattle.avm_c.specs.declared.attempts.Attempted.{Attempted as WrittenAttempted}
 use Rattle.avm_c.specs.declared.attempts.NoAttempt.{NoAttempt}
@@ -40,7 +37,7 @@ header_or (Ok header) = Ok header
 header_or (Err fault) = Err (why status.NoHeader 0)
 
 abbrev pub header_of : List ℕ → Result Header NoAttempt
-header_of bytes = header_or (header_at profile.Three bytes >>= alone block.Rest)
+header_of bytes = header_or (inputs.header_of bytes)
 
 -- Faults of a call's bytes have the numbers 1 to 3, broken rules of calls those from 17 on.
 abbrev pub call_number : CallLineFault → ℕ
@@ -101,7 +98,7 @@ pub record IsNotAttempted (room told : List ℕ) (end shown : End) (written resu
   pub end_kept : shown ≡ end
 
 -- Memory was refused; or a right answer was put into the room, and how the call ends was told.
-abbrev pub IsToldOf : Result Asked NoAttempt → List ℕ → List ℕ → End → End → ℕ → ℕ → Type 0
-IsToldOf asked room told end shown written result =
+abbrev pub IsTold : (Attempted → Type 0) → List ℕ → List ℕ → End → End → ℕ → ℕ → Type 0
+IsTold answers room told end shown written result =
     IsNotAttempted room told end shown written result
-    ⊎ ((a : Attempted) × IsAttempted asked a × IsPlaced a.answer room told written result × (shown ≡ a.end))
+    ⊎ ((a : Attempted) × answers a × IsPlaced a.answer room told written result × (shown ≡ a.end))

@@ -8,3 +8,5 @@ pub mod Findings
 pub mod ViewAnswers
 pub mod WordAnswers
 pub mod Attempts
+pub mod Calls
+pub mod Applied

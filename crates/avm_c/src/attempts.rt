@@ -11,13 +11,12 @@ use crate::ends::{End, end_of};
 use crate::questions::Question;
 use crate::statuses::Status;
 use avm_attempt::attempt;
-use avm_block::header_codec::header_of as header_in;
 use avm_call::Call;
 use avm_call_codec::CallDataFault;
-use avm_input::{CallLineFault, checked_call};
+use avm_input::{CallLineFault, checked_call, header_of as header_in};
 use avm_item_codec::{item_bytes, items_bytes, read_items};
 use avm_items::{Item, ItemMap};
-use avm_ledger::{Fields, Header, Profile};
+use avm_ledger::Header;
 use avm_ops::{Op, OpSet, Ops};
 use avm_run::{Advance, Finished, FullOps};
 use std::alloc::{AllocError, Global};
@@ -89,20 +88,16 @@ fn asked_of(
 }
 
 /// The header that the bytes are, of a block that may have calls of all versions.
-fn header_of(bytes: &[u8]) -> Result<Header, Failure<NoAttempt>>
+pub(crate) fn header_of(bytes: &[u8]) -> Result<Header, Failure<NoAttempt>>
     ensures { Gives (λ header. header) result (header_of bytes.now) }
 {
-    match header_in(Profile::Three, Fields::new(bytes)) {
-        Ok((header, rest)) if rest.is_empty() => Ok(header),
-        Ok(_) | Err(Failure::Fault(_)) => Err(Failure::Fault(NoAttempt {
-            status: Status::NoHeader,
-            number: 0,
-        })),
-        Err(Failure::Memory) => Err(Failure::Memory),
-    }
+    header_in(bytes).map_err(|failure| failure.map(|_fault| NoAttempt {
+        status: Status::NoHeader,
+        number: 0,
+    }))
 }
 
-fn call_of(alloc: Global, bytes: &[u8]) -> Result<Call, Failure<NoAttempt>>
+pub(crate) fn call_of(alloc: Global, bytes: &[u8]) -> Result<Call, Failure<NoAttempt>>
     ensures { Gives (λ call. call) result (call_of bytes.now) }
 {
     checked_call(alloc, bytes).map_err(|failure| failure.map(|fault| NoAttempt {
@@ -133,7 +128,7 @@ fn items_of(alloc: Global, bytes: &[u8]) -> Result<ItemMap, Failure<NoAttempt>>
 }
 
 /// That the bytes are none.
-fn refused(alloc: Global, why: NoAttempt) -> Attempted
+pub(crate) fn refused(alloc: Global, why: NoAttempt) -> Attempted
     ensures { attempted_shown result ≡ refused why }
 {
     Attempted {

@@ -6,8 +6,10 @@
 #![tactic(auto)]
 
 mod answers;
+mod applied;
 mod attempts;
 mod blocks;
+mod calls;
 mod ends;
 mod findings;
 mod programs;
@@ -20,27 +22,42 @@ ghost use Rattle.std.specs.Prelude.{◌≡◌, ◌≢◌};
 ghost use Rattle.teal_check.specs.WellFormed.{checked};
 ghost use Rattle.avm_c.specs.declared.statuses.Status.TheVariants as status;
 ghost use Rattle.avm_c.specs.Answers.{IsAnswered};
-ghost use Rattle.avm_c.specs.Attempts.{IsToldOf, asked_of};
+ghost use Rattle.avm_c.specs.Applied.{IsToldApplied};
+ghost use Rattle.avm_c.specs.Attempts.{IsAttempted, IsTold, asked_of};
 ghost use Rattle.avm_c.specs.BlockAnswers.{ledger_and_block, state_answer_at};
+ghost use Rattle.avm_c.specs.Calls.{called, on_ledger};
 ghost use Rattle.avm_c.specs.Findings.{IsFound};
 ghost use Rattle.avm_c.specs.Programs.{assembled_answer, check_status, listed_answer};
 ghost use Rattle.avm_c.specs.Statuses.{status_number};
 ghost use Rattle.avm_c.specs.ViewAnswers.{IsViewAnswer};
-ghost use Rattle.avm_c.specs.WordAnswers.{IsCommandAnswer, command_of};
+ghost use Rattle.avm_c.specs.WordAnswers.{IsCommandAnswer, IsJsonAnswer, command_of, json_command_of};
 
 use crate::answers::{place, place_nothing};
+use crate::applied::{Apply, write_difference};
 use crate::attempts::CallOver;
 use crate::blocks::{Replay, State};
+use crate::calls::CallOn;
 use crate::ends::End;
 use crate::findings::{Difference, write_finding};
 use crate::programs::{assembled_answer, listed_answer};
 use crate::questions::ask;
 use crate::statuses::Status;
 use crate::views::ViewAfter;
-use crate::words::Command;
+use crate::words::{Command, JsonCommand};
 use std::alloc::Global;
 use teal_check::check;
 use teal_value::Failure;
+
+/// The version of the library: 1,000,000 for each major version, 1,000 for each minor one, and 1 for each patch.
+pub const VERSION: u32 = 7_000;
+
+/// The version of the library.
+#[unsafe(no_mangle)]
+pub extern "C" fn avm_c_version() -> u32
+    ensures { result ≡ VERSION }
+{
+    VERSION
+}
 
 /// Whether the bytes are a program.
 #[unsafe(no_mangle)]
@@ -105,6 +122,29 @@ pub extern "C" fn avm_c_replay(
     match ask(alloc, &Replay { ledger, block }) {
         Ok(finding) => write_finding(finding, digest, difference),
         Err(_) => Status::Memory.number(),
+    }
+}
+
+/// The verdict on a block over the ledger before it, with the bytes of the ledger after it where it agrees, and with the first entry
+/// that differs where one does.
+#[unsafe(no_mangle)]
+pub extern "C" fn avm_c_apply(
+    alloc: Global,
+    ledger: &[u8],
+    block: &[u8],
+    room: &mut [u8],
+    written: &mut usize,
+    difference: &mut Difference,
+) -> u32
+    ensures { IsToldApplied (ledger_and_block ledger.now block.now)
+        room.old room.new difference.old difference.new written.new result }
+{
+    match ask(alloc, &Apply { ledger, block }) {
+        Ok(applied) => {
+            write_difference(applied.difference, difference);
+            place(&applied.answer, room, written)
+        }
+        Err(_) => place_nothing(written),
     }
 }
 
@@ -177,6 +217,24 @@ pub extern "C" fn avm_c_answer(
     }
 }
 
+/// What the program `avm_json` writes for these words, parted by zero bytes, and this input, with its exit status.
+#[unsafe(no_mangle)]
+pub extern "C" fn avm_c_json(
+    alloc: Global,
+    words: &[u8],
+    input: &[u8],
+    room: &mut [u8],
+    written: &mut usize,
+) -> u32
+    ensures { IsAnswered (IsJsonAnswer (json_command_of words.now) input.now)
+        room.old room.new written.new result }
+{
+    match ask(alloc, &JsonCommand { words, input }) {
+        Ok(answer) => place(&answer, room, written),
+        Err(_) => place_nothing(written),
+    }
+}
+
 /// A call over items that the caller knows: how it ends and what it writes, or the first item that it looks at and that is not
 /// known.
 #[unsafe(no_mangle)]
@@ -189,7 +247,7 @@ pub extern "C" fn avm_c_attempt(
     written: &mut usize,
     end: &mut End,
 ) -> u32
-    ensures { IsToldOf (asked_of header.now call.now known.now)
+    ensures { IsTold (IsAttempted (asked_of header.now call.now known.now))
         room.old room.new end.old end.new written.new result }
 {
     match ask(
@@ -198,6 +256,36 @@ pub extern "C" fn avm_c_attempt(
             header,
             call,
             known,
+        },
+    ) {
+        Ok(attempted) => {
+            *end = attempted.end;
+            place(&attempted.answer, room, written)
+        }
+        Err(_) => place_nothing(written),
+    }
+}
+
+/// A call over a ledger: how it ends, and the bytes of the ledger after it.
+#[unsafe(no_mangle)]
+pub extern "C" fn avm_c_call(
+    alloc: Global,
+    ledger: &[u8],
+    header: &[u8],
+    call: &[u8],
+    room: &mut [u8],
+    written: &mut usize,
+    end: &mut End,
+) -> u32
+    ensures { IsTold (λ a. a ≡ called (on_ledger ledger.now header.now call.now))
+        room.old room.new end.old end.new written.new result }
+{
+    match ask(
+        alloc,
+        &CallOn {
+            ledger,
+            header,
+            call,
         },
     ) {
         Ok(attempted) => {
