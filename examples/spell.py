@@ -204,4 +204,5 @@ def main(words):
             sys.exit(f"{name} is not what {path} describes")
 
 
-main(sys.argv[1:])
+if __name__ == "__main__":
+    main(sys.argv[1:])

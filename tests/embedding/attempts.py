@@ -113,7 +113,7 @@ def replay(machine, path):
         assert ends_as(attempt.end, entry["outcome"]), f"{path}, {entry['timestamp']}: ends {attempt.end}"
         for more in (known, {**table, **known}):
             assert machine.attempt(header, call, items(more)) == attempt, f"{path}, {entry['timestamp']}: another end over more items"
-        put(table, attempt.writes)
+        put(table, bytes(attempt.writes))
         after = machine.state(ledger, block, entry["timestamp"]).spelled
         assert table == table_of(after), f"{path}, {entry['timestamp']}: the table is not the ledger after the call"
         asked += len(known)
@@ -130,8 +130,31 @@ def refusal(machine, header, call, known):
     return None
 
 
+def bounds():
+    """Items whose value, or whose name, is at a bound of docs/FORMATS.md or behind it, and whether they are items."""
+    program = bytes.fromhex("0220010122")
+
+    def key(name, text):
+        return entry_of({"kind": 3, "application": 1, "key": name}, key_value={"present": 1, "value": {"kind": 2, "byte string": text}})
+
+    def local_state(count):
+        entries = [{"key": bytes([at]), "value": {"kind": 1, "uint": at}} for at in range(count)]
+        return entry_of({"kind": 4, "account": bytes(32), "application": 1}, local_state={"present": 1, "state": {"entries": entries}})
+
+    def row(approval=program, uints=64, own=16):
+        schemas = {"global schema": {"uints": uints, "byte strings": 0}, "local schema": {"uints": 0, "byte strings": own}}
+        programs = {"approval program": approval, "clear program": program}
+        return entry_of({"kind": 1, "application": 1}, row={"present": 1, "creator": bytes(32), **programs, **schemas})
+
+    return [
+        (key(bytes(64), bytes(64)), True), (key(bytes(65), b""), False), (key(b"", bytes(65)), False),
+        (local_state(16), True), (local_state(17), False), (row(), True), (row(uints=65), False), (row(own=17), False),
+        (row(program + b"\x22" * 698), True), (row(program + b"\x22" * 699), False), (row(b"\x04\x22"), False), (row(b""), False),
+    ]  # fmt: skip
+
+
 def refusals(machine):
-    """Bytes that are none, and rooms of every size."""
+    """Bytes that are none, items at their bounds, and rooms of every size."""
     page = formats.examples(formats.PAGE.read_text())
     header, call, known = (page[name][0] for name in ("header", "call", "items"))
     record, _ = formats.read(LAYOUTS, "call", call)
@@ -144,6 +167,18 @@ def refusals(machine):
         ((header, call, known + b"\0"), no_items), ((header, call, bytes.fromhex("00000002") + known[4:29] * 2), no_items),
     ):  # fmt: skip
         assert refusal(machine, *given) == wanted, f"{refusal(machine, *given)} and not {wanted}"
+    for data, wanted, given in (
+        (header, avm.Status.NO_HEADER, lambda part: (part, call, known)), (call, avm.CallFault.Truncated, lambda part: (header, part, known)),
+        (known, no_items, lambda part: (header, call, part)),
+    ):  # fmt: skip
+        assert {refusal(machine, *given(data[:end])) for end in range(len(data))} == {wanted}, f"a beginning is not {wanted}"
+    for name, spelled, fault in formats.EDGES:
+        if name == "items":
+            found = refusal(machine, header, call, bytes.fromhex(spelled))
+            assert found == (fault and no_items), f"items {spelled} are {found}, and by docs/FORMATS.md {fault}"
+    for number, (entry, are_items) in enumerate(bounds()):
+        found = refusal(machine, header, call, items(dict([entry])))
+        assert found == (None if are_items else no_items), f"bound {number}: {found}"
     wanted = machine.attempt(header, call).needs
     for size in range(len(wanted) + 2):
         room, written, end = ctypes.create_string_buffer(b"\x77" * 80, 80), ctypes.c_size_t(), avm._End(7, 7, 7)

@@ -1,6 +1,6 @@
 /* refusals FILE..: refuses each allocation of each call in turn, and each with all after it. The call has to say so, and to have
    written nothing; where one alone is refused it may also do without it, and give its very answer. Nothing may stay allocated,
-   and the same call without a refusal has to give its answer still.
+   and the same call without a refusal has to give its answer still. Of avm_c_attempt each status has to come.
    Linked with -Wl,--wrap=malloc,--wrap=realloc,--wrap=free. */
 #include "examples.h"
 
@@ -41,6 +41,20 @@ void __wrap_free(void *old) {
 
 static struct answer untouched, wanted, found;
 
+/* The statuses of avm_c_attempt, and those that came. */
+static const uint32_t statuses[] = {AVM_DONE, AVM_MEMORY, AVM_NO_ROOM, AVM_NEEDS, AVM_NO_HEADER, AVM_NO_CALL, AVM_NO_ITEMS};
+static uint32_t came;
+
+static void note_status(const struct call *call, const struct answer *answer) {
+    if (call->function == ATTEMPT) came |= UINT32_C(1) << answer->status;
+}
+
+static void look_at_statuses(void) {
+    uint32_t all = 0;
+    for (size_t i = 0; i < sizeof statuses / sizeof *statuses; i++) all |= UINT32_C(1) << statuses[i];
+    if (came != all) fail("a status does not come, or another", function_names[ATTEMPT]);
+}
+
 /* Makes a call with the refusals that are set, and tells whether something stays allocated. */
 static bool leaves(const struct call *call, struct answer *answer) {
     long before = used;
@@ -48,6 +62,7 @@ static bool leaves(const struct call *call, struct answer *answer) {
     clear(answer);
     make(call, answer, ROOM);
     refused = 0;
+    note_status(call, answer);
     return used != before;
 }
 
@@ -74,6 +89,8 @@ static long refuse_each(const struct call *call) {
         refuse(call, number, true);
     }
     if (leaves(call, &found) || memcmp(&found, &wanted, sizeof found)) fail("another answer", function_names[call->function]);
+    make(call, &found, 0);
+    note_status(call, &found);
     return most;
 }
 
@@ -86,6 +103,7 @@ int main(int words, char **names) {
         numbers[calls[i].function] += refuse_each(&calls[i]);
         made[calls[i].function]++;
     }
+    look_at_statuses();
     printf("refusals:");
     for (int i = 0; i < FUNCTIONS; i++) {
         if (made[i] == 0 || numbers[i] == 0) fail("no allocation", function_names[i]);

@@ -1,21 +1,14 @@
 #include "blocks.h"
 
 #include "programs.h"
+#include "reader.h"
 #include "sha256.h"
 
 #include <string.h>
 
-enum { PROFILE = 3, OUTCOME = 4, MOST_KEY = 64, MOST_GLOBAL = 64, MOST_LOCAL = 16 };
+enum { OUTCOME = 4 };
 
-/* A place in bytes that are read, until they end or something is none. */
-struct reader {
-    struct bytes bytes;
-    size_t place;
-    bool fails;
-    struct parts *parts;
-};
-
-static const uint8_t *take(struct reader *reader, size_t count) {
+const uint8_t *take(struct reader *reader, size_t count) {
     static const uint8_t nothing[256];
     if (reader->fails || count > reader->bytes.length - reader->place) {
         reader->fails = true;
@@ -25,16 +18,16 @@ static const uint8_t *take(struct reader *reader, size_t count) {
     return reader->bytes.at + reader->place - count;
 }
 
-static uint64_t number(struct reader *reader, size_t size) {
+uint64_t read_number(struct reader *reader, size_t size) {
     const uint8_t *at = take(reader, size);
     uint64_t value = 0;
     for (size_t i = 0; i < size; i++) value = value << 8 | at[i];
     return value;
 }
 
-static struct bytes string(struct reader *reader, size_t size, bool is_program) {
+struct bytes read_string(struct reader *reader, size_t size, bool is_program) {
     struct field field = {.place = reader->place, .size = size, .is_program = is_program};
-    field.length = number(reader, size);
+    field.length = read_number(reader, size);
     if (reader->fails || field.length > reader->bytes.length - reader->place) {
         reader->fails = true;
         return bytes_of(reader->bytes.at, 0);
@@ -50,27 +43,39 @@ static int order_of(struct bytes one, struct bytes other) {
     return order ? order : (one.length > other.length) - (one.length < other.length);
 }
 
-/* Entries by rising key; keys and values are of 64 bytes at most. */
-static void read_state(struct reader *reader) {
-    struct bytes last = {0};
-    for (uint64_t count = number(reader, 1); count > 0 && !reader->fails; count--) {
-        struct bytes key = string(reader, 1, false), value = {0};
-        if (key.length > MOST_KEY || (last.at && order_of(last, key) >= 0)) reader->fails = true;
-        last = key;
-        uint64_t kind = number(reader, 1);
-        if (kind == 1) number(reader, 8);
-        else if (kind == 2) value = string(reader, 1, false);
-        if (kind < 1 || kind > 2 || value.length > MOST_KEY) reader->fails = true;
-    }
+void read_value(struct reader *reader) {
+    struct bytes text = {0};
+    uint64_t kind = read_number(reader, 1);
+    if (kind == 1) read_number(reader, 8);
+    else if (kind == 2) text = read_string(reader, 1, false);
+    if (kind < 1 || kind > 2 || text.length > MOST_KEY) reader->fails = true;
 }
 
-static struct reader reader_of(struct bytes bytes, struct parts *parts) {
+struct bytes read_key(struct reader *reader) {
+    struct bytes key = read_string(reader, 1, false);
+    if (key.length > MOST_KEY) reader->fails = true;
+    return key;
+}
+
+uint64_t read_state(struct reader *reader) {
+    struct bytes last = {0};
+    uint64_t count = read_number(reader, 1);
+    for (uint64_t left = count; left > 0 && !reader->fails; left--) {
+        struct bytes key = read_key(reader);
+        if (last.at && order_of(last, key) >= 0) reader->fails = true;
+        last = key;
+        read_value(reader);
+    }
+    return count;
+}
+
+struct reader reader_of(struct bytes bytes, struct parts *parts) {
     struct reader reader = {bytes, 0, false, parts};
     parts->field_count = parts->application_count = parts->entry_count = 0;
     return reader;
 }
 
-static bool is_read(const struct reader *reader) {
+bool is_read(const struct reader *reader) {
     return !reader->fails && reader->place == reader->bytes.length;
 }
 
@@ -79,16 +84,20 @@ static bool keeps_schemas(uint64_t schemas) {
     return global <= MOST_GLOBAL && local <= MOST_LOCAL;
 }
 
-static struct application read_application(struct reader *reader, uint64_t last, uint64_t next) {
+void read_row(struct reader *reader, struct application *it) {
     static struct program program;
-    struct application it = {.id = number(reader, 8)};
-    if (it.id <= last || it.id >= next) reader->fails = true;
     take(reader, 32);
-    it.approval = string(reader, 2, true);
-    it.clear = string(reader, 2, true);
-    bool are_programs = read_program(it.approval, &program) && program.cost <= MOST_COST;
-    are_programs = are_programs && read_program(it.clear, &program) && program.cost <= MOST_COST;
-    if (!are_programs || !keeps_schemas(number(reader, 4))) reader->fails = true;
+    it->approval = read_string(reader, 2, true);
+    it->clear = read_string(reader, 2, true);
+    bool are_programs = read_program(it->approval, &program) && program.cost <= MOST_COST;
+    are_programs = are_programs && read_program(it->clear, &program) && program.cost <= MOST_COST;
+    if (!are_programs || !keeps_schemas(read_number(reader, 4))) reader->fails = true;
+}
+
+static struct application read_application(struct reader *reader, uint64_t last, uint64_t next) {
+    struct application it = {.id = read_number(reader, 8)};
+    if (it.id <= last || it.id >= next) reader->fails = true;
+    read_row(reader, &it);
     read_state(reader);
     return it;
 }
@@ -96,9 +105,9 @@ static struct application read_application(struct reader *reader, uint64_t last,
 /* Local states by rising account and application. */
 static void read_local_states(struct reader *reader, uint64_t next) {
     struct bytes last = {0};
-    for (uint64_t count = number(reader, 4); count > 0 && !reader->fails; count--) {
+    for (uint64_t count = read_number(reader, 4); count > 0 && !reader->fails; count--) {
         struct bytes key = bytes_of(take(reader, 32), 32 + 8);
-        uint64_t id = number(reader, 8);
+        uint64_t id = read_number(reader, 8);
         if (id < 1 || id >= next || (last.at && order_of(last, key) >= 0)) reader->fails = true;
         last = key;
         read_state(reader);
@@ -107,9 +116,9 @@ static void read_local_states(struct reader *reader, uint64_t next) {
 
 bool read_ledger(struct bytes bytes, struct parts *parts) {
     struct reader reader = reader_of(bytes, parts);
-    uint64_t next = number(&reader, 8), last = 0;
+    uint64_t next = read_number(&reader, 8), last = 0;
     if (next < 1) return false;
-    for (uint64_t count = number(&reader, 4); count > 0 && !reader.fails; count--) {
+    for (uint64_t count = read_number(&reader, 4); count > 0 && !reader.fails; count--) {
         struct application it = read_application(&reader, last, next);
         last = it.id;
         if (parts->application_count == MOST_APPLICATIONS) return false;
@@ -120,27 +129,27 @@ bool read_ledger(struct bytes bytes, struct parts *parts) {
 }
 
 static void read_outcome(struct reader *reader) {
-    uint64_t kind = number(reader, 1);
-    if (kind == AVM_CLEARED_GONE) kind = number(reader, 1);
-    if (kind == AVM_FAULTED) number(reader, 3);
-    else if (kind == AVM_CALL_REFUSED) number(reader, 1);
+    uint64_t kind = read_number(reader, 1);
+    if (kind == AVM_CLEARED_GONE) kind = read_number(reader, 1);
+    if (kind == AVM_FAULTED) read_number(reader, 3);
+    else if (kind == AVM_CALL_REFUSED) read_number(reader, 1);
     else if (kind > AVM_FAULTED) reader->fails = true;
 }
 
 static struct entry read_entry(struct reader *reader) {
     struct entry it = {.begin = reader->place};
-    it.timestamp = number(reader, 8);
+    it.timestamp = read_number(reader, 8);
     take(reader, 32 + 3 * 8);
-    string(reader, 2, false);
+    read_string(reader, 2, false);
     take(reader, 32 + 32);
-    it.application = number(reader, 8);
-    it.completion = (uint8_t)number(reader, 1);
-    for (uint64_t count = number(reader, 1); count > 0 && !reader->fails; count--) string(reader, 2, false);
-    for (uint64_t count = number(reader, 1); count > 0 && !reader->fails; count--) take(reader, 32);
-    for (uint64_t count = number(reader, 1); count > 0 && !reader->fails; count--) take(reader, 8);
-    it.approval = string(reader, 2, true);
-    it.clear = string(reader, 2, true);
-    number(reader, 4);
+    it.application = read_number(reader, 8);
+    it.completion = (uint8_t)read_number(reader, 1);
+    for (uint64_t count = read_number(reader, 1); count > 0 && !reader->fails; count--) read_string(reader, 2, false);
+    for (uint64_t count = read_number(reader, 1); count > 0 && !reader->fails; count--) take(reader, 32);
+    for (uint64_t count = read_number(reader, 1); count > 0 && !reader->fails; count--) take(reader, 8);
+    it.approval = read_string(reader, 2, true);
+    it.clear = read_string(reader, 2, true);
+    read_number(reader, 4);
     it.outcome = reader->place;
     read_outcome(reader);
     it.end = reader->place;
@@ -150,12 +159,12 @@ static struct entry read_entry(struct reader *reader) {
 bool read_block(struct bytes bytes, struct parts *parts) {
     struct reader reader = reader_of(bytes, parts);
     if (memcmp(take(&reader, 4), "AVMB", 4)) return false;
-    uint64_t format = number(&reader, 1), last = 0;
-    if (format == 2 ? number(&reader, 1) != PROFILE : format != 1) return false;
+    uint64_t format = read_number(&reader, 1), last = 0;
+    if (format == 2 ? read_number(&reader, 1) != PROFILE : format != 1) return false;
     parts->base = reader.place;
     take(&reader, DIGEST + 5 * 8);
     parts->count_place = reader.place;
-    for (uint64_t count = number(&reader, 4); count > 0 && !reader.fails; count--) {
+    for (uint64_t count = read_number(&reader, 4); count > 0 && !reader.fails; count--) {
         if (parts->entry_count == MOST_ENTRIES) return false;
         struct entry it = read_entry(&reader);
         if (it.timestamp <= last) reader.fails = true;
@@ -210,7 +219,7 @@ uint32_t viewed(struct bytes ledger, struct bytes block, uint64_t entry, uint64_
 
 /* ---- blocks that agree */
 
-static size_t spell_outcome(const struct avm_difference *found, uint8_t *to) {
+size_t spell_outcome(const struct avm_difference *found, uint8_t *to) {
     size_t length = 0;
     bool clears = found->ending >= AVM_CLEARED_GONE, faults = found->ending == AVM_FAULTED || found->ending == AVM_CLEARED_FAULTED;
     to[length++] = clears ? OUTCOME : (uint8_t)found->ending;

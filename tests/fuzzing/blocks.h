@@ -10,6 +10,7 @@ enum {
     MOST_APPLICATIONS = 64,
     DIGEST = 32,
     LONGEST_BLOCK = 1 << 17,
+    PROFILE = 3,
     CREATES = 0,
     CLEARS = 3,
 };
@@ -64,6 +65,9 @@ void seal(struct bytes block);
    after are right: what replays of the copy say is put into it, and that has to lead to a block that agrees. Gives whether it
    did; it does not where the ledger or the block is none. */
 bool settle(const struct pair *pair, struct bytes *block);
+
+/* The bytes of an outcome, at most five; gives how many they are. The entry is not looked at. */
+size_t spell_outcome(const struct avm_difference *found, uint8_t *to);
 
 /* The block without entries over a ledger, into room for as many bytes as it has. */
 enum { EMPTY_BLOCK = 4 + 2 + DIGEST + 5 * 8 + 4 + DIGEST + DIGEST };

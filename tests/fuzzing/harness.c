@@ -144,6 +144,8 @@ uint32_t called(struct call call, struct answer *answer) {
     make_whole(&call, answer, ROOM);
     long most = allocations;
     uint32_t status = answer->status, chosen = hash_of(call.first.at, call.first.length) ^ (uint32_t)call.number;
+    /* Headers are mostly the same. */
+    if (call.function == ATTEMPT) chosen ^= hash_of(call.second.at, call.second.length) ^ hash_of(call.third.at, call.third.length);
     demand(status != AVM_MEMORY, "memory was refused by nobody");
     note(STATUSES, (unsigned)call.function * 32 + status);
     if (chosen % ONE_IN == 0 && is_lent_room(&call) && has_text(&call, status) && answer->written > 0) {

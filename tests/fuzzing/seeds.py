@@ -1,7 +1,8 @@
 """The first inputs of the fuzz targets, from examples/ and the rows of crates/rows, and the stored ones of corpus/.
 
-A stored input is a line of digits in corpus/TARGET. Inputs of check and list are programs, those of assemble texts; of replay, state
-and view a ledger's length, two numbers that choose, a ledger and a block; of answer a byte that chooses, and what the command reads.
+A stored input is a line of digits in corpus/TARGET. Inputs of check and list are programs, those of assemble texts; of replay, state,
+view and attempt a ledger's length, two numbers that choose, a ledger and a block; of answer a byte that chooses, and what the command
+reads.
 """
 
 import hashlib
@@ -13,9 +14,9 @@ TOP = HERE.parent.parent
 sys.path.insert(0, str(TOP / "tests"))
 import stored  # noqa: E402
 
-TARGETS = ("check", "assemble", "list", "replay", "state", "view", "answer")
-PROGRAMS, TEXTS, BLOCKS = ("check", "list"), ("assemble",), ("replay", "state", "view")
-LONGEST = {"check": 1100, "list": 1100, "assemble": 4096, "replay": 6000, "state": 6000, "view": 6000, "answer": 6000}
+TARGETS = ("check", "assemble", "list", "replay", "state", "view", "answer", "attempt")
+PROGRAMS, TEXTS, BLOCKS = ("check", "list"), ("assemble",), ("replay", "state", "view", "attempt")
+LONGEST = {"check": 1100, "list": 1100, "assemble": 4096, "replay": 6000, "state": 6000, "view": 6000, "answer": 6000, "attempt": 6000}
 ANN, BOB = b"\xaa" * 32, b"\xbb" * 32
 NOOP, OPT_IN, CLEAR = 0, 1, 3
 AS_DIGITS, WORDS = 8, 16
