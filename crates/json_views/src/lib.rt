@@ -33,5 +33,5 @@ pub use refusal::TraceRefusal;
 pub use run::run_reply;
 pub use show::show_reply;
 pub use states::put_value;
-pub use trace::{put_block_trace, put_entry_trace};
+pub use trace::{block_trace, entry_trace, put_block_trace, put_entry_trace};
 pub use trace_replies::{found_reply, trace_reply};

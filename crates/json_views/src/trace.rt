@@ -28,7 +28,7 @@ use teal_value::Failure;
 
 /// The text of the trace of a block's entry over the ledger before the block, or why there is none. Entries are numbered
 /// from 1.
-pub(crate) fn entry_trace<O: Op>(
+pub fn entry_trace<O: Op>(
     alloc: Global,
     ledger: &Ledger,
     block: &Block,
@@ -120,7 +120,7 @@ fn put_opened_trace<L: ledger::Ledger, O: Op>(
 }
 
 /// The text of the traces of all calls of a block over the ledger before it, or why there is none.
-pub(crate) fn block_trace<O: Op>(
+pub fn block_trace<O: Op>(
     alloc: Global,
     base: Base,
     block: &Block,
