@@ -6,7 +6,7 @@ ghost use Rattle.avm_replay.specs.declared.verdict.Verdict.TheVariants as verdic
 ghost use Rattle.avm_commands.specs.BlockCommands.{HasDigest, IsReplayReply, IsVerdictReply, ledger_reply, past_ledger_at, state_reply, verdict_reply, verdict_status, verdict_text};
 ghost use Rattle.avm_input.specs.Shown.{reply_shown};
 
-use crate::leftovers::let_go;
+use crate::leftovers::leak_at_exit;
 use avm_block::Block;
 use avm_call::Outcome;
 use avm_input::{
@@ -20,7 +20,7 @@ use std::alloc::{AllocError, Global};
 use teal_value::Failure;
 
 /// What `replay` answers to its input: whether the block replays over the ledger, or the first thing that differs.
-pub fn replay_reply<O: Op, const ENDS: bool>(
+pub fn replay_reply<O: Op, const EXITS: bool>(
     alloc: Global,
     input: Vec<u8>,
     ops: &FullOps<O>,
@@ -29,8 +29,8 @@ pub fn replay_reply<O: Op, const ENDS: bool>(
 {
     match ledger_and_block(alloc, input) {
         Ok((base, block)) => {
-            let reply = verdict_on::<O, ENDS>(alloc, base, &block, ops);
-            let_go::<Block, ENDS>(block);
+            let reply = verdict_on::<O, EXITS>(alloc, base, &block, ops);
+            leak_at_exit::<Block, EXITS>(block);
             reply
         }
         Err(failure) => refusal_reply(alloc, failure.into_fault()?),
@@ -38,7 +38,7 @@ pub fn replay_reply<O: Op, const ENDS: bool>(
 }
 
 /// What `state` answers to its input: the ledger after the calls with timestamps up to this one.
-pub fn state_reply<O: Op, const ENDS: bool>(
+pub fn state_reply<O: Op, const EXITS: bool>(
     alloc: Global,
     timestamp: u64,
     input: Vec<u8>,
@@ -46,10 +46,10 @@ pub fn state_reply<O: Op, const ENDS: bool>(
 ) -> Result<Reply, AllocError>
     ensures { IfOk result (λ reply. reply_shown reply ≡ state_reply timestamp input.items) }
 {
-    match past_ledger::<O, ENDS>(alloc, timestamp, input, ops) {
+    match past_ledger::<O, EXITS>(alloc, timestamp, input, ops) {
         Ok(ledger) => {
             let reply = ledger_reply(alloc, &ledger);
-            let_go::<Ledger, ENDS>(ledger);
+            leak_at_exit::<Ledger, EXITS>(ledger);
             reply
         }
         Err(failure) => refusal_reply(alloc, failure.into_fault()?),
@@ -65,7 +65,7 @@ fn ledger_reply(alloc: Global, ledger: &Ledger) -> Result<Reply, AllocError>
 }
 
 /// The verdict on a block, as an answer.
-fn verdict_on<O: Op, const ENDS: bool>(
+fn verdict_on<O: Op, const EXITS: bool>(
     alloc: Global,
     base: Base,
     block: &Block,
@@ -75,7 +75,7 @@ fn verdict_on<O: Op, const ENDS: bool>(
 {
     let verdict = replay_owned(alloc, base, block, ops)?;
     let reply = verdict_reply(alloc, &verdict, block.after());
-    let_go::<Verdict, ENDS>(verdict);
+    leak_at_exit::<Verdict, EXITS>(verdict);
     reply
 }
 
@@ -131,7 +131,7 @@ fn wrong_outcome_text(alloc: Global, entry: usize, found: Outcome) -> Result<Str
 }
 
 /// The ledger after the calls with timestamps up to this one.
-fn past_ledger<O: Op, const ENDS: bool>(
+fn past_ledger<O: Op, const EXITS: bool>(
     alloc: Global,
     timestamp: u64,
     input: Vec<u8>,
@@ -141,7 +141,7 @@ fn past_ledger<O: Op, const ENDS: bool>(
 {
     let (base, block) = ledger_and_block(alloc, input)?;
     let past = state_at_owned(alloc, base, &block, timestamp, ops);
-    let_go::<Block, ENDS>(block);
+    leak_at_exit::<Block, EXITS>(block);
     match past {
         Ok(past) => Ok(past),
         Err(Failure::Fault(fault)) => Err(Failure::Fault(Refusal::State(fault))),

@@ -29,9 +29,9 @@ const USAGE_TEXT: &str = "usage: avm asm|dis|check|propose|replay|debug|state\n"
 /// which a beginning of the answer may have been written. Words that are no command read nothing. The set has an object of
 /// every opcode.
 ///
-/// `ENDS` says whether the process ends with the answer. If so, the ledger and the block that were read are left to the
+/// `EXITS` says whether the process ends with the answer. If so, the ledger and the block that were read are left to the
 /// operating system, which takes all memory back at once: to give it back piece by piece takes a part of a command's time.
-pub fn answer<'a, R: Read, W: Write, O: Op, const ENDS: bool>(
+pub fn answer<'a, R: Read, W: Write, O: Op, const EXITS: bool>(
     alloc: Global,
     words: &'a [&'a str],
     reader: &mut R,
@@ -55,14 +55,14 @@ pub fn answer<'a, R: Read, W: Write, O: Op, const ENDS: bool>(
     match command_in(alloc, words) {
         Ok(command) => match workers_of(command) {
             Some(_workers) => None,
-            None => Some(answer_to::<R, W, O, ENDS>(alloc, command, reader, writer, ops)),
+            None => Some(answer_to::<R, W, O, EXITS>(alloc, command, reader, writer, ops)),
         },
         Err(_) => Some(FAILED),
     }
 }
 
 /// Executes a command that is not `propose`, as [`answer`] does.
-pub fn answer_to<R: Read, W: Write, O: Op, const ENDS: bool>(
+pub fn answer_to<R: Read, W: Write, O: Op, const EXITS: bool>(
     alloc: Global,
     command: Option<NodeCommand>,
     reader: &mut R,
@@ -79,7 +79,7 @@ pub fn answer_to<R: Read, W: Write, O: Op, const ENDS: bool>(
 {
     match command {
         None => write_reply(writer, USAGE_TEXT.as_bytes(), USAGE),
-        Some(command) => match reply_of::<R, O, ENDS>(alloc, command, reader, ops) {
+        Some(command) => match reply_of::<R, O, EXITS>(alloc, command, reader, ops) {
             Ok(reply) => write_reply(writer, reply.text.as_slice(), reply.status),
             Err(_) => FAILED,
         },
@@ -87,7 +87,7 @@ pub fn answer_to<R: Read, W: Write, O: Op, const ENDS: bool>(
 }
 
 /// What a command answers to its whole input.
-fn reply_of<R: Read, O: Op, const ENDS: bool>(
+fn reply_of<R: Read, O: Op, const EXITS: bool>(
     alloc: Global,
     command: NodeCommand,
     reader: &mut R,
@@ -101,11 +101,11 @@ fn reply_of<R: Read, O: Op, const ENDS: bool>(
     if input.len() > INPUT_LIMIT {
         return Ok(input_refusal(alloc)?);
     }
-    Ok(command_reply::<O, ENDS>(alloc, command, input, ops)?)
+    Ok(command_reply::<O, EXITS>(alloc, command, input, ops)?)
 }
 
 /// What a command answers to an input that is not too long.
-fn command_reply<O: Op, const ENDS: bool>(
+fn command_reply<O: Op, const EXITS: bool>(
     alloc: Global,
     command: NodeCommand,
     input: Vec<u8>,
@@ -118,11 +118,11 @@ fn command_reply<O: Op, const ENDS: bool>(
         NodeCommand::Asm => asm_reply(alloc, input.as_slice()),
         NodeCommand::Dis => dis_reply(alloc, input.as_slice()),
         NodeCommand::Check => check_reply(alloc, input.as_slice()),
-        NodeCommand::Replay => replay_reply::<O, ENDS>(alloc, input, ops),
-        NodeCommand::Debug { entry, steps } => debug_reply::<O, ENDS>(
+        NodeCommand::Replay => replay_reply::<O, EXITS>(alloc, input, ops),
+        NodeCommand::Debug { entry, steps } => debug_reply::<O, EXITS>(
             alloc, entry, steps, input, ops,
         ),
-        NodeCommand::State(timestamp) => state_reply::<O, ENDS>(alloc, timestamp, input, ops),
+        NodeCommand::State(timestamp) => state_reply::<O, EXITS>(alloc, timestamp, input, ops),
         NodeCommand::Propose(_workers) => unreachable!(),
     }
 }

@@ -6,7 +6,7 @@ ghost use Rattle.avm_commands.specs.DebugCommands.{FindsText, IsDebugReply, IsFo
 ghost use Rattle.avm_commands.specs.DebugRuns.{HasCome, IsDebugRefused, ShowsText};
 ghost use Rattle.avm_input.specs.Shown.{reply_shown};
 
-use crate::leftovers::let_go;
+use crate::leftovers::leak_at_exit;
 use crate::view_text::view_text;
 use avm_block::Block;
 use avm_input::{DONE, Refusal, Reply, ledger_and_block, refusal_reply};
@@ -28,7 +28,7 @@ pub struct DebugPoint {
 
 /// What `debug` answers to its input: what stands where the program of an entry's call is after so many steps. Entries are
 /// numbered from 1. It costs no more steps than the program has.
-pub fn debug_reply<O: Op, const ENDS: bool>(
+pub fn debug_reply<O: Op, const EXITS: bool>(
     alloc: Global,
     entry: u64,
     steps: u64,
@@ -44,8 +44,8 @@ pub fn debug_reply<O: Op, const ENDS: bool>(
     match ledger_and_block(alloc, input) {
         Ok((base, block)) => {
             let reply = found_reply(alloc, base.ledger(), &block, point, ops);
-            let_go::<Base, ENDS>(base);
-            let_go::<Block, ENDS>(block);
+            leak_at_exit::<Base, EXITS>(base);
+            leak_at_exit::<Block, EXITS>(block);
             reply
         }
         Err(failure) => refusal_reply(alloc, failure.into_fault()?),

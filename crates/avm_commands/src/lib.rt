@@ -16,4 +16,4 @@ mod view_text;
 pub use block_commands::verdict_text;
 pub use commands::{answer, answer_to};
 pub use debug_command::{DebugPoint, one_finding, view_found};
-pub use leftovers::let_go;
+pub use leftovers::leak_at_exit;

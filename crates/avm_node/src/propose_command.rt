@@ -12,7 +12,7 @@ ghost use Rattle.avm_node.specs.WorkerSets.{AreWorkerSets};
 
 use crate::propose_input::{ProposeInput, propose_input};
 use avm_block::Block;
-use avm_commands::let_go;
+use avm_commands::leak_at_exit;
 use avm_input::{DONE, REFUSED, Reply, refusal_reply, write_digits_reply};
 use avm_ops::{Op, Ops};
 use avm_pool::{Draft, OpenGate, PoolFault, Proposal, SharedBase, ThreadSets, propose_on};
@@ -56,7 +56,7 @@ impl ProposeReply {
 }
 
 /// What `propose` answers to its input, by a worker of each set.
-pub fn propose_reply<R: Threads + Wait + Sync, O: Op, const ENDS: bool>(
+pub fn propose_reply<R: Threads + Wait + Sync, O: Op, const EXITS: bool>(
     rt: &R,
     alloc: Global,
     input: Vec<u8>,
@@ -67,7 +67,7 @@ pub fn propose_reply<R: Threads + Wait + Sync, O: Op, const ENDS: bool>(
     ensures { IfOk result (λ reply. IsProposeReply input.items (propose_shown reply)) }
 {
     match propose_input(rt, alloc, sets.len(), input) {
-        Ok(read) => pool_answer::<R, O, ENDS>(rt, alloc, read, sets, own),
+        Ok(read) => pool_answer::<R, O, EXITS>(rt, alloc, read, sets, own),
         Err(failure) => {
             let reply = refusal_reply(alloc, failure.into_fault()?)?;
             Ok(ProposeReply::without_block(alloc, reply))
@@ -76,7 +76,7 @@ pub fn propose_reply<R: Threads + Wait + Sync, O: Op, const ENDS: bool>(
 }
 
 /// The block that the workers make of what was read, or why there is none.
-fn pool_answer<R: Threads + Wait + Sync, O: Op, const ENDS: bool>(
+fn pool_answer<R: Threads + Wait + Sync, O: Op, const EXITS: bool>(
     rt: &R,
     alloc: Global,
     read: ProposeInput,
@@ -98,10 +98,10 @@ fn pool_answer<R: Threads + Wait + Sync, O: Op, const ENDS: bool>(
         calls,
     };
     let sets = ThreadSets { workers: sets, own };
-    match propose_on::<_, _, _, ENDS>(rt, alloc, draft, sets, &OpenGate) {
+    match propose_on::<_, _, _, EXITS>(rt, alloc, draft, sets, &OpenGate) {
         Ok(proposal) => {
-            let_go::<SharedBase, ENDS>(base);
-            proposal_reply::<ENDS>(alloc, proposal)
+            leak_at_exit::<SharedBase, EXITS>(base);
+            proposal_reply::<EXITS>(alloc, proposal)
         }
         Err(Failure::Fault(fault)) => {
             let reply = pool_reply(alloc, fault)?;
@@ -112,7 +112,7 @@ fn pool_answer<R: Threads + Wait + Sync, O: Op, const ENDS: bool>(
 }
 
 /// The bytes of a block, and a text of the calls that it leaves.
-fn proposal_reply<const ENDS: bool>(
+fn proposal_reply<const EXITS: bool>(
     alloc: Global,
     proposal: Proposal,
 ) -> Result<ProposeReply, AllocError>
@@ -124,7 +124,7 @@ fn proposal_reply<const ENDS: bool>(
         left,
         ..
     } = proposal;
-    let_go::<Block, ENDS>(block);
+    leak_at_exit::<Block, EXITS>(block);
     let mut text = String::from_str(alloc, "\n")?;
     add_left(alloc, &mut text, left.as_slice())?;
     Ok(ProposeReply {

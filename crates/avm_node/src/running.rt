@@ -23,7 +23,7 @@ use std::thread::Threads;
 /// but for `propose`, whose calls are executed in as many threads as it has workers.
 ///
 /// There are nine sets with an object of every opcode: one for each worker, and the last for the thread that calls.
-pub fn run<'a, T: Threads + Wait + Sync, R: Read, W: Write, O: Op, const ENDS: bool>(
+pub fn run<'a, T: Threads + Wait + Sync, R: Read, W: Write, O: Op, const EXITS: bool>(
     rt: &T,
     alloc: Global,
     words: &'a [&'a str],
@@ -48,12 +48,12 @@ pub fn run<'a, T: Threads + Wait + Sync, R: Read, W: Write, O: Op, const ENDS: b
         Ok(command) => match workers_of(command) {
             Some(workers) => {
                 sets.truncate(usize::from(workers));
-                match proposed::<T, R, O, ENDS>(rt, alloc, workers, reader, sets, own) {
+                match proposed::<T, R, O, EXITS>(rt, alloc, workers, reader, sets, own) {
                     Ok(reply) => reply.write(alloc, writer),
                     Err(_) => FAILED,
                 }
             }
-            None => answer_to::<R, W, O, ENDS>(
+            None => answer_to::<R, W, O, EXITS>(
                 alloc,
                 command,
                 reader,
@@ -66,7 +66,7 @@ pub fn run<'a, T: Threads + Wait + Sync, R: Read, W: Write, O: Op, const ENDS: b
 }
 
 /// What `propose` answers to its whole input.
-fn proposed<T: Threads + Wait + Sync, R: Read, O: Op, const ENDS: bool>(
+fn proposed<T: Threads + Wait + Sync, R: Read, O: Op, const EXITS: bool>(
     rt: &T,
     alloc: Global,
     workers: u8,
@@ -83,5 +83,5 @@ fn proposed<T: Threads + Wait + Sync, R: Read, O: Op, const ENDS: bool>(
         let reply = input_refusal(alloc)?;
         return Ok(ProposeReply::without_block(alloc, reply));
     }
-    Ok(propose_reply::<T, O, ENDS>(rt, alloc, input, sets, own)?)
+    Ok(propose_reply::<T, O, EXITS>(rt, alloc, input, sets, own)?)
 }

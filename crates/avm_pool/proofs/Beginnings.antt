@@ -7,7 +7,7 @@ use Rattle.avm_ledger.specs.declared.header.Header.{Header}
 use Rattle.avm_ledger.specs.Spellings.{header_bytes, u32_bytes}
 use Rattle.avm_block.specs.declared.entry.Entry.{Entry}
 use Rattle.avm_block.specs.BlockSpelling.{block_entry_bytes, format_bytes, front_bytes, front_start, magic}
-use Rattle.avm_pool.specs.Ahead.{Beginning, Begins, beginning_bytes}
+use Rattle.avm_pool.specs.BlockPrefix.{Beginning, Begins, beginning_bytes}
 
 -- with the entries that are left behind it, it is the front of the block
 pub front_begun : (b : Beginning) (base : List ℕ) (header : Header) (entries more : List Entry) → Begins b base header entries → more ≡ drop (length b.entries) entries

@@ -1,6 +1,6 @@
-pub mod Ahead
+pub mod BlockPrefix
 pub mod Finishing
-pub mod Holding
+pub mod LockedWork
 pub mod Proposals
 pub mod Refusals
 pub mod Resting

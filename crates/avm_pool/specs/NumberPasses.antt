@@ -2,8 +2,8 @@
 use Rattle.crossbeam_queue.specs.Passes.{Pass, IsPassOf}
 pub use Rattle.crossbeam_queue.specs.Passes.{view}
 use Rattle.std.specs.Prelude.{ℕ}
-use Rattle.avm_pool.specs.declared.call_numbers.Hand.{Hand}
+use Rattle.avm_pool.specs.declared.call_numbers.PassState.{PassState}
 use Rattle.avm_pool.specs.declared.call_numbers.Numbers.{Numbers}
 
-abbrev pub IsWith : Numbers → Pass ℕ Hand → Type 0
+abbrev pub IsWith : Numbers → Pass ℕ PassState → Type 0
 IsWith n p = IsPassOf n.queue p

@@ -16,16 +16,16 @@ use std::sync::Wait;
 pub const ROOM: usize = 4096;
 
 /// What a pass knows: whether it may put, how many numbers it has put, and which it has drawn. No value of it is made.
-pub struct Hand {
+pub struct PassState {
     pub puts: bool,
     pub put: u64,
     pub drawn: LinkedList<u32>,
 }
 
 /// The rule: what is queued and what the passes have drawn are the numbers put, each once.
-pub struct EachOnce;
+pub struct FifoRule;
 
-impl Protocol<u32, Hand> for EachOnce {
+impl Protocol<u32, PassState> for FifoRule {
     ghost use Rattle.std.specs.Prelude.{true, []};
     ghost use Rattle.avm_pool.specs.NumberRule.{Numbered, hand};
 
@@ -37,7 +37,7 @@ impl Protocol<u32, Hand> for EachOnce {
 /// A worker's pass is made beside another, which stays as it is.
 struct Worker;
 
-impl Split<Hand> for Worker {
+impl Split<PassState> for Worker {
     ghost use Rattle.std.specs.Prelude.{false, []};
     ghost use Rattle.avm_pool.specs.NumberRule.{hand};
 
@@ -49,14 +49,14 @@ impl Split<Hand> for Worker {
 /// The next number was put.
 struct Puts;
 
-impl Outcome<u32, Hand> for Puts {
+impl Outcome<u32, PassState> for Puts {
     ghost use Rattle.std.specs.Prelude.{◌≡◌, ◌+◌};
     ghost use Rattle.avm_pool.specs.NumberRule.{hand};
 
     ghost then = { λ v x w. w ≡ hand v.puts (v.put + 1) v.drawn };
 }
 
-impl Lesson<u32, Hand> for Puts {
+impl Lesson<u32, PassState> for Puts {
     ghost use Rattle.avm_pool.specs.NumberRule.{Allows};
 
     ghost fact = { Allows };
@@ -65,26 +65,26 @@ impl Lesson<u32, Hand> for Puts {
 /// The front of the queue joined what the pass has drawn.
 struct Draws;
 
-impl Outcome<u32, Hand> for Draws {
+impl Outcome<u32, PassState> for Draws {
     ghost use Rattle.std.specs.Prelude.{◌≡◌, ◌++◌, ◌∷◌, []};
     ghost use Rattle.avm_pool.specs.NumberRule.{hand};
 
     ghost then = { λ v x w. w ≡ hand v.puts v.put (v.drawn ++ x ∷ []) };
 }
 
-impl Lesson<u32, Hand> for Draws {
+impl Lesson<u32, PassState> for Draws {
     ghost use Rattle.avm_pool.specs.NumberRule.{Allows};
 
     ghost fact = { Allows };
 }
 
 /// What a thread shows to put numbers or to draw them.
-pub type NumberPass = Pass<u32, Hand>;
+pub type NumberPass = Pass<u32, PassState>;
 
 /// A bounded queue of the numbers 1, 2, 3 and so on, for one thread that puts them and many that draw them.
 #[derive(Drop)]
 pub struct Numbers {
-    queue: RuledArrayQueue<u32, Hand, EachOnce>,
+    queue: RuledArrayQueue<u32, PassState, FifoRule>,
     ghost room: { ruled_capacity queue ≡ 4096 },
 }
 

@@ -7,7 +7,7 @@ pub(crate) enum AttemptEnd {
     /// A further attempt may end otherwise.
     Again,
     /// The call stays as it is: another thread has it or it is committed, or memory was refused to it.
-    Left,
+    Skipped,
     /// The last timestamp was given.
     ClockEnd,
 }

@@ -10,10 +10,10 @@ ghost use Rattle.mv_parts.specs.Sealing.{IsJournalOf};
 ghost use Rattle.avm_pool.specs.Finishing.{AreBegun, AreParts};
 ghost use Rattle.avm_pool.specs.Proposals.{IsProposal};
 
-use crate::ahead::{Ahead, front_of};
+use crate::block_prefix::{BlockPrefix, front_of};
 use crate::draft::SharedDraft;
-use crate::holding::ShardLock;
-use crate::left::left_of;
+use crate::left_numbers::left_of;
+use crate::locked_work::ShardLock;
 use crate::proposal::Proposal;
 use avm_block::{Entry, Front};
 use avm_ledger::Header;
@@ -28,7 +28,7 @@ pub(crate) struct Remains {
     /// None where the process ends with the proposal.
     pub shards: Option<Vec<ShardLock>>,
     /// The front of the block so far.
-    pub ahead: Option<Ahead>,
+    pub prefix: Option<BlockPrefix>,
 }
 
 /// What the bytes of a block are made of.
@@ -41,7 +41,7 @@ pub(crate) struct Parts {
 }
 
 /// The proposal of a journal, if it is of this draft.
-pub(crate) fn proposal_of<R: Threads + Sync, const ENDS: bool>(
+pub(crate) fn proposal_of<R: Threads + Sync, const EXITS: bool>(
     rt: &R,
     draft: &SharedDraft,
     journal: Journal,
@@ -53,7 +53,7 @@ pub(crate) fn proposal_of<R: Threads + Sync, const ENDS: bool>(
         draft.now.base.now draft.now.header (arc_value draft.now.calls).items → ⊥)) }
 {
     let made = made_of(rt, draft, &journal, remains);
-    to_free::<Journal, ENDS>(journal);
+    to_free::<Journal, EXITS>(journal);
     made
 }
 
@@ -113,7 +113,7 @@ fn test_and_parts<R: Threads + Sync>(
         (arc_value draft.now.calls).items }
     ensures parts { IfOk result.1 (AreParts journal.now draft.now.base.now draft.now.header) }
 {
-    let Remains { shards, ahead } = remains;
+    let Remains { shards, prefix } = remains;
     let alloc = draft.alloc;
     let (base, header, calls) = (draft.base, &draft.header, draft.calls.as_slice());
     join(
@@ -128,7 +128,7 @@ fn test_and_parts<R: Threads + Sync>(
         move || -> Result<Parts, AllocError>
             ensures { IfOk result
                 (AreParts journal.entry.now base.entry.now header.entry.now) }
-        { parts_of(rt, alloc, journal, ahead, base, header) },
+        { parts_of(rt, alloc, journal, prefix, base, header) },
     )
 }
 
@@ -137,7 +137,7 @@ fn parts_of<R: Threads + Sync>(
     rt: &R,
     alloc: Global,
     journal: &Journal,
-    ahead: Option<Ahead>,
+    prefix: Option<BlockPrefix>,
     base: &SharedBase,
     header: &Header,
 ) -> Result<Parts, AllocError>
@@ -152,7 +152,7 @@ fn parts_of<R: Threads + Sync>(
         move || -> Result<(Vec<Entry>, Front), AllocError>
             ensures { IfOk result (λ begun. AreBegun journal.entry.now
                 base.entry.now header.entry.now (begun.0.items, begun.1)) }
-        { begun_of(alloc, journal, ahead, base, header) },
+        { begun_of(alloc, journal, prefix, base, header) },
     );
     let (entries, front) = begun?;
     let after = after?;
@@ -167,7 +167,7 @@ fn parts_of<R: Threads + Sync>(
 fn begun_of(
     alloc: Global,
     journal: &Journal,
-    ahead: Option<Ahead>,
+    prefix: Option<BlockPrefix>,
     base: &SharedBase,
     header: &Header,
 ) -> Result<(Vec<Entry>, Front), AllocError>
@@ -175,13 +175,13 @@ fn begun_of(
         (λ begun. AreBegun journal.now base.now header.now (begun.0.items, begun.1)) }
 {
     let entries = journal.block_entries(alloc)?;
-    let front = front_of(alloc, ahead, base.digest(), header, entries.as_slice())?;
+    let front = front_of(alloc, prefix, base.digest(), header, entries.as_slice())?;
     Ok((entries, front))
 }
 
 /// What is to be freed: nothing, where the process ends, which takes all memory back.
-pub(crate) fn to_free<T: Drop, const ENDS: bool>(value: T) -> Option<T> {
-    if ENDS {
+pub(crate) fn to_free<T: Drop, const EXITS: bool>(value: T) -> Option<T> {
+    if EXITS {
         mem::forget(value);
         None
     } else {

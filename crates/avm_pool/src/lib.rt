@@ -6,19 +6,19 @@
 //! specs/Proposals.antt says so without a word about them.
 #![tactic(auto)]
 
-mod ahead;
+mod block_prefix;
 mod call_numbers;
 mod draft;
 mod ends;
 mod finishing;
 mod gate;
-mod holding;
-mod left;
+mod left_numbers;
+mod locked_work;
 mod pool_fault;
 mod proposal;
 mod proposing;
 mod refusals;
-mod rest;
+mod remaining;
 mod running;
 mod thread_room;
 mod waiting;

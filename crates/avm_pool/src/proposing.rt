@@ -8,15 +8,15 @@ ghost use Rattle.avm_pool.specs.Proposals.{IsProposal};
 ghost use Rattle.avm_pool.specs.Refusals.{IsRefusal, IsWant, MayPropose};
 ghost use Rattle.avm_pool.specs.Resting.{IsStill};
 
-use crate::ahead::Ahead;
+use crate::block_prefix::BlockPrefix;
 use crate::draft::{Crew, Draft, SharedDraft, ThreadSets};
 use crate::finishing::{Remains, proposal_of, to_free};
 use crate::gate::Gate;
-use crate::holding::ShardLock;
+use crate::locked_work::ShardLock;
 use crate::pool_fault::{PoolError, PoolFault};
 use crate::proposal::Proposal;
 use crate::refusals::pool_fault;
-use crate::rest::run_rest;
+use crate::remaining::run_remaining;
 use crate::running::Shared;
 use crate::workers::run_sets;
 use avm_ledger::Ledger;
@@ -61,9 +61,9 @@ pub fn propose<G: Gate, R: Threads + Wait + Sync, O: Op>(
 
 /// As [`propose`], on a ledger that is shared and has its digest: it is not copied, and not encoded again.
 ///
-/// `ENDS` says whether the process ends with the proposal. If so, what the workers kept is left to the operating system, which
+/// `EXITS` says whether the process ends with the proposal. If so, what the workers kept is left to the operating system, which
 /// takes all memory back at once; else other threads give it back while the block is made.
-pub fn propose_on<G: Gate, R: Threads + Wait + Sync, O: Op, const ENDS: bool>(
+pub fn propose_on<G: Gate, R: Threads + Wait + Sync, O: Op, const EXITS: bool>(
     rt: &R,
     alloc: Global,
     draft: Draft<SharedBase>,
@@ -82,7 +82,7 @@ pub fn propose_on<G: Gate, R: Threads + Wait + Sync, O: Op, const ENDS: bool>(
         None => {
             let ThreadSets { workers, own } = sets;
             let own = FullOps::from_full(own);
-            proposed::<G, R, O, ENDS>(rt, alloc, draft, Crew { workers, own }, gate)
+            proposed::<G, R, O, EXITS>(rt, alloc, draft, Crew { workers, own }, gate)
         }
     }
 }
@@ -115,7 +115,7 @@ fn proposed_over<G: Gate, R: Threads + Wait + Sync, O: Op>(
 }
 
 /// What comes out where no test fails.
-fn proposed<G: Gate, R: Threads + Wait + Sync, O: Op, const ENDS: bool>(
+fn proposed<G: Gate, R: Threads + Wait + Sync, O: Op, const EXITS: bool>(
     rt: &R,
     alloc: Global,
     draft: Draft<SharedBase>,
@@ -140,9 +140,9 @@ fn proposed<G: Gate, R: Threads + Wait + Sync, O: Op, const ENDS: bool>(
         calls,
     };
     let Crew { workers, own } = crew;
-    match by_workers::<G, R, O, ENDS>(rt, &draft, workers, &own, gate)? {
+    match by_workers::<G, R, O, EXITS>(rt, &draft, workers, &own, gate)? {
         Some(proposal) => Ok(proposal),
-        None => proposed_anew::<G, R, O, ENDS>(rt, &draft, &own, gate),
+        None => proposed_anew::<G, R, O, EXITS>(rt, &draft, &own, gate),
     }
 }
 
@@ -151,12 +151,12 @@ fn proposed<G: Gate, R: Threads + Wait + Sync, O: Op, const ENDS: bool>(
 struct Opened {
     journal: Journal,
     shards: Vec<ShardLock>,
-    ahead: Option<Ahead>,
+    prefix: Option<BlockPrefix>,
 }
 
 impl Opened {
     /// Runs the calls that are left, by one thread, and tells whether it did: it does not where calls are live.
-    fn run_rest<G: Gate, R: Wait, O: Op>(
+    fn run_remaining<G: Gate, R: Wait, O: Op>(
         &mut self,
         rt: &R,
         draft: &SharedDraft,
@@ -178,10 +178,10 @@ impl Opened {
             shards: self.shards.as_slice(),
             calls: draft.calls.as_slice(),
             header: &draft.header,
-            ahead: &nobody,
+            prefix: &nobody,
             gate,
         };
-        if run_rest(rt, &shared, &mut self.journal, own) {
+        if run_remaining(rt, &shared, &mut self.journal, own) {
             Ok(true)
         } else {
             Err(Failure::Fault(PoolFault::ClockEnd))
@@ -191,7 +191,7 @@ impl Opened {
 
 /// What workers make of the calls, and one thread of those that they leave; none where the journal is not the one that was
 /// opened, or calls are live in it.
-fn by_workers<G: Gate, R: Threads + Wait + Sync, O: Op, const ENDS: bool>(
+fn by_workers<G: Gate, R: Threads + Wait + Sync, O: Op, const EXITS: bool>(
     rt: &R,
     draft: &SharedDraft,
     workers: Vec<Ops<O>>,
@@ -203,7 +203,7 @@ fn by_workers<G: Gate, R: Threads + Wait + Sync, O: Op, const ENDS: bool>(
         (IsProposal draft.now.base.now draft.now.header (arc_value draft.now.calls).items)) }
     ensures want { IfErr result IsWant }
 {
-    let ahead = Mutex::new(draft.ahead(workers.len())?);
+    let prefix = Mutex::new(draft.prefix(workers.len())?);
     let (journal, shards) = draft.open()?;
     let journal = Mutex::new(journal);
     let shared = Shared {
@@ -211,21 +211,21 @@ fn by_workers<G: Gate, R: Threads + Wait + Sync, O: Op, const ENDS: bool>(
         shards: shards.as_slice(),
         calls: draft.calls.as_slice(),
         header: &draft.header,
-        ahead: &ahead,
+        prefix: &prefix,
         gate,
     };
     run_sets(rt, &journal, &shared, workers)?;
     let left = Opened {
         journal: journal.into_inner(),
         shards,
-        ahead: ahead.into_inner(),
+        prefix: prefix.into_inner(),
     };
-    by_rest::<G, R, O, ENDS>(rt, draft, own, gate, left)
+    by_rest::<G, R, O, EXITS>(rt, draft, own, gate, left)
 }
 
 /// What one thread makes of all calls. It is for a journal that is not the one that was opened, which nothing rules out that
 /// is known of a value behind a lock.
-fn proposed_anew<G: Gate, R: Threads + Wait + Sync, O: Op, const ENDS: bool>(
+fn proposed_anew<G: Gate, R: Threads + Wait + Sync, O: Op, const EXITS: bool>(
     rt: &R,
     draft: &SharedDraft,
     own: &FullOps<O>,
@@ -240,16 +240,16 @@ fn proposed_anew<G: Gate, R: Threads + Wait + Sync, O: Op, const ENDS: bool>(
     let opened = Opened {
         journal,
         shards,
-        ahead: None,
+        prefix: None,
     };
-    match by_rest::<G, R, O, ENDS>(rt, draft, own, gate, opened)? {
+    match by_rest::<G, R, O, EXITS>(rt, draft, own, gate, opened)? {
         Some(proposal) => Ok(proposal),
         None => unreachable!(),
     }
 }
 
 /// What one thread makes of the calls that are left; none where the journal is not of the draft, or calls are live in it.
-fn by_rest<G: Gate, R: Threads + Wait + Sync, O: Op, const ENDS: bool>(
+fn by_rest<G: Gate, R: Threads + Wait + Sync, O: Op, const EXITS: bool>(
     rt: &R,
     draft: &SharedDraft,
     own: &FullOps<O>,
@@ -263,8 +263,8 @@ fn by_rest<G: Gate, R: Threads + Wait + Sync, O: Op, const ENDS: bool>(
     ensures want { IfErr result IsWant }
 {
     let mut opened = opened;
-    match opened.run_rest(rt, draft, own, gate) {
-        Ok(true) => Ok(finished::<R, ENDS>(rt, draft, opened)?),
+    match opened.run_remaining(rt, draft, own, gate) {
+        Ok(true) => Ok(finished::<R, EXITS>(rt, draft, opened)?),
         Ok(false) => {
             drop(opened);
             Ok(None)
@@ -277,7 +277,7 @@ fn by_rest<G: Gate, R: Threads + Wait + Sync, O: Op, const ENDS: bool>(
 }
 
 /// The proposal of a journal on which all calls have run, if it is of the draft.
-fn finished<R: Threads + Sync, const ENDS: bool>(
+fn finished<R: Threads + Sync, const EXITS: bool>(
     rt: &R,
     draft: &SharedDraft,
     opened: Opened,
@@ -290,28 +290,28 @@ fn finished<R: Threads + Sync, const ENDS: bool>(
     let Opened {
         journal,
         shards,
-        ahead,
+        prefix,
     } = opened;
     let remains = Remains {
-        shards: to_free::<Vec<ShardLock>, ENDS>(shards),
-        ahead,
+        shards: to_free::<Vec<ShardLock>, EXITS>(shards),
+        prefix,
     };
-    proposal_of::<R, ENDS>(rt, draft, journal, remains)
+    proposal_of::<R, EXITS>(rt, draft, journal, remains)
 }
 
 impl<'a> SharedDraft<'a> {
     /// What stands before all calls of the draft in a block, if there are several workers, who go ahead with it.
-    fn ahead(&self, workers: usize) -> Result<Option<Ahead>, AllocError> {
+    fn prefix(&self, workers: usize) -> Result<Option<BlockPrefix>, AllocError> {
         if workers < 2 {
             return Ok(None);
         }
-        let ahead = Ahead::begin(
+        let prefix = BlockPrefix::begin(
             self.alloc,
             self.base.digest(),
             &self.header,
             self.calls.len(),
         )?;
-        Ok(Some(ahead))
+        Ok(Some(prefix))
     }
 
     /// A journal of which no call has begun, and its shards behind locks of their own.

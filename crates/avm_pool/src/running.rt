@@ -3,10 +3,10 @@
 ghost use Rattle.std.specs.Prelude.{◌≡◌, ℕ};
 ghost use Rattle.avm_pool.specs.Running.{IsSameAttempt};
 
-use crate::ahead::{Ahead, Kept};
+use crate::block_prefix::{BlockPrefix, Kept};
 use crate::ends::AttemptEnd;
 use crate::gate::{Gate, GateEvent};
-use crate::holding::ShardLock;
+use crate::locked_work::ShardLock;
 use crate::waiting::lock_soon;
 use avm_block::Entry;
 use avm_call::Call;
@@ -37,13 +37,13 @@ pub(crate) struct Shared<'a, G> {
     pub calls: &'a [Call],
     pub header: &'a Header,
     /// The front of the block so far; none where nobody makes it ahead, or memory was refused to whoever did.
-    pub ahead: &'a Mutex<Option<Ahead>>,
+    pub prefix: &'a Mutex<Option<BlockPrefix>>,
     pub gate: &'a G,
 }
 
 /// An attempt that runs, and how many its call has had with it; 0 where one thread runs what the workers left.
 #[derive(Drop)]
-pub(crate) struct Trial<'a, 'b, G, R> {
+pub(crate) struct RunningAttempt<'a, 'b, G, R> {
     pub shared: &'a Shared<'b, G>,
     pub rt: &'a R,
     pub attempt: Attempt,
@@ -76,18 +76,18 @@ impl<'a, G: Gate> Shared<'a, G> {
     }
 }
 
-impl<'a, 'b, G: Gate, R: Wait> Trial<'a, 'b, G, R> {
+impl<'a, 'b, G: Gate, R: Wait> RunningAttempt<'a, 'b, G, R> {
     /// Runs the call of the attempt to its end. It fails with `Again` where an item could not be read at the attempt's
-    /// timestamp, and with `Left` where memory was refused.
+    /// timestamp, and with `Skipped` where memory was refused.
     pub fn run<O: Op>(&mut self, executor: &mut Executor<O>) -> Result<Finished, AttemptEnd>
         ensures { IsSameAttempt self.old.attempt self.new.attempt }
     {
         let Some(call) = self.shared.call(self.attempt.number()) else {
-            return Err(AttemptEnd::Left);
+            return Err(AttemptEnd::Skipped);
         };
         match self.run_call::<Brand, O>(executor, call, Blank::new(2)) {
             Ok(finished) => Ok(finished),
-            Err(Failure::Memory) => Err(AttemptEnd::Left),
+            Err(Failure::Memory) => Err(AttemptEnd::Skipped),
             Err(Failure::Fault(end)) => Err(end),
         }
     }
@@ -118,7 +118,7 @@ impl<'a, 'b, G: Gate, R: Wait> Trial<'a, 'b, G, R> {
     }
 }
 
-impl<'a, 'b, G: Gate, R: Wait> Reader<AttemptEnd> for Trial<'a, 'b, G, R> {
+impl<'a, 'b, G: Gate, R: Wait> Reader<AttemptEnd> for RunningAttempt<'a, 'b, G, R> {
     ghost kept = { λ t. (t.attempt.number, t.attempt.timestamp) };
 
     /// Reads an item under the lock of its shard.

@@ -3,12 +3,12 @@
 ghost use Rattle.std.specs.Prelude.{◌≡◌};
 ghost use Rattle.avm_pool.specs.NumberPasses.{IsWith, view};
 
-use crate::ahead::{Ahead, Kept};
+use crate::block_prefix::{BlockPrefix, Kept};
 use crate::call_numbers::{NumberPass, Numbers};
 use crate::ends::{AttemptEnd, ThreadEnd};
 use crate::gate::{Gate, GateEvent};
-use crate::holding::{Wanted, Work, Worked, work_with};
-use crate::running::{Executor, Shared, Trial};
+use crate::locked_work::{CommitResult, LockedWork, Wanted, work_with};
+use crate::running::{Executor, RunningAttempt, Shared};
 use crate::thread_room::take_room;
 use crate::waiting::{lock_soon, stand_back};
 use avm_ops::{Op, Ops};
@@ -23,7 +23,7 @@ use teal_value::Failure;
 const COMMITS_BETWEEN: u32 = 64;
 
 /// How many entries it adds at most, for those that others have committed meanwhile too.
-const ENTRIES_AHEAD: usize = 256;
+const PREFIX_STEP: usize = 256;
 
 /// What the attempts of a call and its entry take, in bytes. A worker may run all calls.
 const CALL_ROOM: usize = 2048;
@@ -71,7 +71,7 @@ impl<'a, O: Op> Worker<'a, O> {
         let Ok(ops) = FullOps::of(ops) else {
             return ThreadEnd::Over;
         };
-        let site = Site {
+        let context = WorkerContext {
             rt,
             journal,
             shared,
@@ -82,19 +82,19 @@ impl<'a, O: Op> Worker<'a, O> {
         };
         take_room(shared.alloc, shared.calls.len(), CALL_ROOM);
         let mut held = Held::new(shared.alloc);
-        site.run_numbers(&mut executor, &mut held, numbers, &mut pass)
+        context.run_numbers(&mut executor, &mut held, numbers, &mut pass)
     }
 }
 
 /// Where workers run calls: the runtime in which they wait, the journal behind its lock, and what all attempts share.
 #[derive(Drop)]
-struct Site<'a, 'b, 'c, G, R> {
+struct WorkerContext<'a, 'b, 'c, G, R> {
     rt: &'a R,
     journal: &'a Mutex<Journal>,
     shared: &'b Shared<'c, G>,
 }
 
-impl<'a, 'b, 'c, G: Gate, R: Wait> Site<'a, 'b, 'c, G, R> {
+impl<'a, 'b, 'c, G: Gate, R: Wait> WorkerContext<'a, 'b, 'c, G, R> {
     /// Runs the calls of the numbers that are drawn, and prunes after every so many commits.
     fn run_numbers<O: Op>(
         &self,
@@ -114,11 +114,11 @@ impl<'a, 'b, 'c, G: Gate, R: Wait> Site<'a, 'b, 'c, G, R> {
                 AttemptEnd::Committed => {
                     commits = commits.saturating_add(1);
                     if commits % COMMITS_BETWEEN == 0 {
-                        self.go_ahead();
+                        self.extend_prefix();
                         self.prune(held);
                     }
                 }
-                AttemptEnd::Left | AttemptEnd::Again => {}
+                AttemptEnd::Skipped | AttemptEnd::Again => {}
                 AttemptEnd::ClockEnd => return ThreadEnd::ClockEnd,
             }
         }
@@ -157,44 +157,49 @@ impl<'a, 'b, 'c, G: Gate, R: Wait> Site<'a, 'b, 'c, G, R> {
         let attempt = match begun {
             Ok(attempt) => attempt,
             Err(Failure::Fault(BeginFault::ClockEnd)) => return AttemptEnd::ClockEnd,
-            Err(_) => return AttemptEnd::Left,
+            Err(_) => return AttemptEnd::Skipped,
         };
-        let mut trial = Trial {
+        let mut running = RunningAttempt {
             shared: self.shared,
             rt: self.rt,
             attempt,
             tries,
         };
-        trial.tell(GateEvent::Begun);
-        match trial.run(executor) {
-            Ok(finished) => self.commit(held, trial, finished),
-            Err(end) => self.abandon(trial.attempt, end),
+        running.tell(GateEvent::Begun);
+        match running.run(executor) {
+            Ok(finished) => self.commit(held, running, finished),
+            Err(end) => self.abandon(running.attempt, end),
         }
     }
 
     /// Commits an attempt whose call has ended, or abandons it.
-    fn commit(&self, held: &mut Held, trial: Trial<G, R>, finished: Finished) -> AttemptEnd {
-        trial.tell(GateEvent::BeforeCommit);
-        let (number, tries) = (trial.attempt.number(), trial.tries);
-        match self.worked(held, trial.attempt, finished) {
-            Worked::Done => {
+    fn commit(
+        &self,
+        held: &mut Held,
+        running: RunningAttempt<G, R>,
+        finished: Finished,
+    ) -> AttemptEnd {
+        running.tell(GateEvent::BeforeCommit);
+        let (number, tries) = (running.attempt.number(), running.tries);
+        match self.worked(held, running.attempt, finished) {
+            CommitResult::Done => {
                 self.shared.gate.pause(number, tries, GateEvent::Committed);
                 AttemptEnd::Committed
             }
-            Worked::Again(attempt) => self.abandon(attempt, AttemptEnd::Again),
-            Worked::Memory(attempt) => self.abandon(attempt, AttemptEnd::Left),
+            CommitResult::Again(attempt) => self.abandon(attempt, AttemptEnd::Again),
+            CommitResult::Memory(attempt) => self.abandon(attempt, AttemptEnd::Skipped),
         }
     }
 
     /// What comes of a commit.
-    fn worked(&self, held: &mut Held, attempt: Attempt, finished: Finished) -> Worked {
+    fn worked(&self, held: &mut Held, attempt: Attempt, finished: Finished) -> CommitResult {
         let wanted = shards_of(&attempt, &finished);
-        let mut work = Work::commit(self.shared.alloc, attempt, finished);
+        let mut work = LockedWork::commit(self.shared.alloc, attempt, finished);
         self.under_locks(held, &wanted, &mut work)
     }
 
     /// Takes the journal's lock, and then those of the shards that are wanted.
-    fn under_locks(&self, held: &mut Held, wanted: &[bool], work: &mut Work) -> Worked {
+    fn under_locks(&self, held: &mut Held, wanted: &[bool], work: &mut LockedWork) -> CommitResult {
         let mut guard = lock_soon(self.rt, self.journal);
         let locks = Wanted {
             rt: self.rt,
@@ -211,29 +216,29 @@ impl<'a, 'b, 'c, G: Gate, R: Wait> Site<'a, 'b, 'c, G, R> {
     }
 
     /// Adds the entries that stay as they are to the front of the block, unless another worker does so at this moment.
-    fn go_ahead(&self) {
-        let Some(mut guard) = self.shared.ahead.try_lock() else {
+    fn extend_prefix(&self) {
+        let Some(mut guard) = self.shared.prefix.try_lock() else {
             return;
         };
         let slot = &mut *guard;
-        if let Some(ahead) = slot.take() {
-            *slot = self.further(ahead).ok();
+        if let Some(prefix) = slot.take() {
+            *slot = self.further(prefix).ok();
         }
     }
 
     /// With the entries that stay as they are by now.
-    fn further(&self, ahead: Ahead) -> Result<Ahead, AllocError> {
-        let kept = self.settled_from(ahead.len())?;
-        ahead.with(self.shared.entries_of(kept.as_slice())?)
+    fn further(&self, prefix: BlockPrefix) -> Result<BlockPrefix, AllocError> {
+        let kept = self.settled_from(prefix.len())?;
+        prefix.with(self.shared.entries_of(kept.as_slice())?)
     }
 
     /// The entries that stay as they are, from an index on. Room is made before the journal is locked, and entries that don't
     /// fit wait for the next time.
     fn settled_from(&self, from: usize) -> Result<Vec<Kept>, AllocError> {
-        let mut kept = Vec::with_capacity(self.shared.alloc, ENTRIES_AHEAD)?;
+        let mut kept = Vec::with_capacity(self.shared.alloc, PREFIX_STEP)?;
         let journal = lock_soon(self.rt, self.journal);
         let entries = journal.entries();
-        let end = journal.settled().min(from.saturating_add(ENTRIES_AHEAD));
+        let end = journal.settled().min(from.saturating_add(PREFIX_STEP));
         for index in from..end {
             let entry = &entries[index];
             kept.push_reserved((entry.timestamp(), entry.number(), entry.outcome()));
@@ -244,7 +249,7 @@ impl<'a, 'b, 'c, G: Gate, R: Wait> Site<'a, 'b, 'c, G, R> {
     /// Drops the versions that no attempt can ask for any more.
     fn prune(&self, held: &mut Held) {
         let all = [true; SHARD_COUNT];
-        self.under_locks(held, &all, &mut Work::Prune);
+        self.under_locks(held, &all, &mut LockedWork::Prune);
     }
 }
 

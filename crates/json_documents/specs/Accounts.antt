@@ -6,7 +6,7 @@ use Rattle.avm_ledger.specs.LedgerReader.{local_room}
 use Rattle.avm_ledger.specs.Ledgers.{Ledger, application_at}
 use Rattle.json.specs.Json.{Json}
 use Rattle.json_documents.specs.Faults.{Fault}
-use Rattle.json_documents.specs.Members.{needed, optional}
+use Rattle.json_documents.specs.Members.{required, optional}
 use Rattle.json_documents.specs.Deleted.{still_known}
 use Rattle.json_documents.specs.Arrays.{each}
 use Rattle.json_documents.specs.Placeholders.{unless_placeholder}
@@ -20,7 +20,7 @@ use Rattle.json_documents.specs.Tables.{account_names, local_names}
 abbrev pub local : ℕ → Address → Ledger → Json → Result Ledger Fault
 local end who l j = do
   _ ← still_known local_names j
-  id ← needed (codes "id") (id_below end) j
+  id ← required (codes "id") (id_below end) j
   entries ← optional (codes "key-value") (state (local_room (application_at l id))) [] j
   add_local_state l who id entries
 
@@ -28,5 +28,5 @@ local end who l j = do
 abbrev pub account : Bool → ℕ → Ledger → Json → Result Ledger Fault
 account there end l j = do
   _ ← still_known account_names j
-  who ← needed (codes "address") address j
+  who ← required (codes "address") address j
   optional (codes "apps-local-state") (each (unless_placeholder there (local end who)) l) l j

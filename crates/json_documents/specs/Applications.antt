@@ -9,7 +9,7 @@ use Rattle.avm_ledger.specs.LedgerReader.{room_of_schema}
 use Rattle.avm_ledger.specs.Ledgers.{Ledger}
 use Rattle.json.specs.Json.{Json}
 use Rattle.json_documents.specs.Faults.{Fault}
-use Rattle.json_documents.specs.Members.{known, needed, optional}
+use Rattle.json_documents.specs.Members.{reject_unknown, required, optional}
 use Rattle.json_documents.specs.Deleted.{still_known}
 use Rattle.json_documents.specs.Plain.{address}
 use Rattle.json_documents.specs.declared.sources.SourceField.TheVariants as field
@@ -37,10 +37,10 @@ limits j = do
 -- what an application of this id is made with
 abbrev pub params : Sources → ℕ → Json → Result StoredApplication Fault
 params sources id j = do
-  _ ← known params_names j
-  approval ← given_or (program_at sources field.Approval id) (needed (codes "approval-program") program j)
-  clear ← given_or (program_at sources field.Clear id) (needed (codes "clear-state-program") program j)
-  creator ← needed (codes "creator") address j
+  _ ← reject_unknown params_names j
+  approval ← given_or (program_at sources field.Approval id) (required (codes "approval-program") program j)
+  clear ← given_or (program_at sources field.Clear id) (required (codes "clear-state-program") program j)
+  creator ← required (codes "creator") address j
   l ← limits j
   Ok (
       record {
@@ -53,6 +53,6 @@ params sources id j = do
 abbrev pub application : ℕ → Sources → Ledger → Json → Result Ledger Fault
 application end sources l j = do
   _ ← still_known application_names j
-  id ← needed (codes "id") (id_below end) j
-  app ← needed (codes "params") (params sources id) j
+  id ← required (codes "id") (id_below end) j
+  app ← required (codes "params") (params sources id) j
   add_application l id app

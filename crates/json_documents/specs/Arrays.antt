@@ -3,7 +3,7 @@ use Rattle.std.specs.Prelude.{ℕ, ◌+◌, List, Option, option_and_then, Resul
 use Rattle.teal_value.specs.Answer.{◌>>=◌}
 use Rattle.json.specs.Json.{Json, Items, no_items, item}
 use Rattle.json.specs.Find.{as_array}
-use Rattle.json_documents.specs.declared.what.What.TheVariants.{NotArray}
+use Rattle.json_documents.specs.declared.document_fault.DocumentFault.TheVariants.{NotArray}
 use Rattle.json_documents.specs.Steps.{at_index}
 use Rattle.json_documents.specs.Faults.{Fault, in_step, or_else_fault}
 use Rattle.json_documents.specs.Members.{member}

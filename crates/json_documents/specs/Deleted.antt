@@ -2,9 +2,9 @@
 use Rattle.std.specs.Prelude.{ℕ, Bool, if◌then◌else◌, List, codes, Result, Ok, Err}
 use Rattle.teal_value.specs.Answer.{◌>>=◌}
 use Rattle.json.specs.Json.{Json}
-use Rattle.json_documents.specs.declared.what.What.TheVariants.{Deleted}
+use Rattle.json_documents.specs.declared.document_fault.DocumentFault.TheVariants.{Deleted}
 use Rattle.json_documents.specs.Faults.{Fault, here}
-use Rattle.json_documents.specs.Members.{known, optional}
+use Rattle.json_documents.specs.Members.{reject_unknown, optional}
 use Rattle.json_documents.specs.Plain.{boolean}
 
 abbrev pub only_false : Bool → Result (Unit {0}) Fault
@@ -15,4 +15,4 @@ not_deleted j = boolean j >>= only_false
 
 -- an object whose names are among these, and which is there still
 abbrev pub still_known : List (List ℕ) → Json → Result (Unit {0}) Fault
-still_known names j = known names j >>= λ _. optional (codes "deleted") not_deleted tt j
+still_known names j = reject_unknown names j >>= λ _. optional (codes "deleted") not_deleted tt j

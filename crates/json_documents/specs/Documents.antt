@@ -7,7 +7,7 @@ use Rattle.avm_ledger.specs.Ledgers.{Ledger, empty_ledger}
 use Rattle.avm_items.specs.declared.call_data.CallData.{CallData}
 use Rattle.json.specs.Json.{Json}
 use Rattle.json_documents.specs.Faults.{Fault}
-use Rattle.json_documents.specs.Members.{known, optional}
+use Rattle.json_documents.specs.Members.{reject_unknown, optional}
 use Rattle.json_documents.specs.Arrays.{each}
 use Rattle.json_documents.specs.Placeholders.{has_placeholders, unless_placeholder}
 use Rattle.json_documents.specs.Plain.{uint}
@@ -75,4 +75,4 @@ members there j = do
 
 -- what a document says, or its first fault: names first
 abbrev pub document : Json → Result Document Fault
-document j = known document_names j >>= λ _. members (has_placeholders j) j
+document j = reject_unknown document_names j >>= λ _. members (has_placeholders j) j

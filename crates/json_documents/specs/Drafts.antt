@@ -6,7 +6,7 @@ use Rattle.avm_states.specs.Entries.{Entries, is_same_entry}
 use Rattle.avm_ledger.specs.declared.application.StoredApplication.{StoredApplication}
 use Rattle.avm_ledger.specs.Ledgers.{Ledger, application_at, local_state_at, with_application, with_local_state}
 use Rattle.avm_items.specs.SameValues.{is_same_application}
-use Rattle.json_documents.specs.declared.what.What.TheVariants.{Differs}
+use Rattle.json_documents.specs.declared.document_fault.DocumentFault.TheVariants.{Differs}
 use Rattle.json_documents.specs.Faults.{Fault, here}
 
 abbrev pub is_same_state : Entries → Entries → Bool

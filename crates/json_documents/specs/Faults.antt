@@ -2,16 +2,16 @@
 use Rattle.std.specs.Prelude.{◌≡◌, List, [], ◌∷◌, ◌++◌, Option, Some, None, Result, Ok, Err}
 use Rattle.teal_value.specs.declared.failure.Failure.{Failure}
 use Rattle.teal_value.specs.declared.failure.Failure.TheVariants as failure
-use Rattle.json_documents.specs.declared.what.What.{What}
+use Rattle.json_documents.specs.declared.document_fault.DocumentFault.{DocumentFault}
 use Rattle.json_documents.specs.Steps.{Step}
 
 -- what is wrong with a value, and the steps to it from the document, the last one first
 pub record Fault : Type 0 where
   pub path : List Step
-  pub what : What
+  pub what : DocumentFault
 
 -- the value itself is at fault
-abbrev pub here : What → Fault
+abbrev pub here : DocumentFault → Fault
 here what = record { path = []; what = what }
 
 abbrev pub further : Step → Fault → Fault
@@ -23,7 +23,7 @@ in_step step (Ok x) = Ok x
 in_step step (Err f) = Err (further step f)
 
 -- the value, where it is there
-abbrev pub or_else_fault : {A : Type 0} → Option A → What → Result A Fault
+abbrev pub or_else_fault : {A : Type 0} → Option A → DocumentFault → Result A Fault
 or_else_fault (Some x) what = Ok x
 or_else_fault None what = Err (here what)
 

@@ -6,7 +6,7 @@ use Rattle.std.specs.BTreeSet.{insert_key}
 use Rattle.teal_value.specs.Answer.{◌>>=◌}
 use Rattle.avm_states.specs.Entries.{byte_cmp}
 use Rattle.json.specs.Json.{Json}
-use Rattle.json_documents.specs.declared.what.What.TheVariants as what
+use Rattle.json_documents.specs.declared.document_fault.DocumentFault.TheVariants as what
 use Rattle.json_documents.specs.Faults.{Fault, here}
 use Rattle.json_documents.specs.Plain.{bytes}
 

@@ -2,7 +2,7 @@
 use Rattle.std.specs.Prelude.{ℕ, ◌-◌, ◌^◌, ◌&&◌, nat_le, nat_lt, if◌then◌else◌, Option, Some, None, Result, Ok, Err}
 use Rattle.teal_value.specs.Answer.{◌>>=◌}
 use Rattle.json.specs.Json.{Json}
-use Rattle.json_documents.specs.declared.what.What.TheVariants.{IdRange}
+use Rattle.json_documents.specs.declared.document_fault.DocumentFault.TheVariants.{IdRange}
 use Rattle.json_documents.specs.Faults.{Fault, here}
 use Rattle.json_documents.specs.Plain.{uint}
 

@@ -6,7 +6,7 @@ use Rattle.std.specs.Ordering.{nat_cmp, is_lt}
 use Rattle.std.specs.Cmp.Lexicographic.{slice_cmp}
 use Rattle.json.specs.Json.{Json, Members, no_members, member as member_of}
 use Rattle.json.specs.Find.{get, is_null, as_object}
-use Rattle.json_documents.specs.declared.what.What.TheVariants.{Missing, NotObject, Unknown}
+use Rattle.json_documents.specs.declared.document_fault.DocumentFault.TheVariants.{Missing, NotObject, Unknown}
 use Rattle.json_documents.specs.Steps.{at_name}
 use Rattle.json_documents.specs.Faults.{Fault, here, in_step}
 
@@ -28,8 +28,8 @@ optional_in name meaning default None = Ok default
 optional_in name meaning default (Some j) = in_step (at_name name) (meaning j)
 
 -- a member that has to be there
-abbrev pub needed : {A : Type 0} → List ℕ → (Json → Result A Fault) → Json → Result A Fault
-needed name meaning j = needed_in name meaning (member name j)
+abbrev pub required : {A : Type 0} → List ℕ → (Json → Result A Fault) → Json → Result A Fault
+required name meaning j = needed_in name meaning (member name j)
 
 -- a member, or the default where it is missing
 abbrev pub optional : {A : Type 0} → List ℕ → (Json → Result A Fault) → A → Json → Result A Fault
@@ -62,5 +62,5 @@ known_in names None = Err (here NotObject)
 known_in names (Some ms) = unless_unknown (least_unknown names ms)
 
 -- an object whose names are among these
-abbrev pub known : List (List ℕ) → Json → Result (Unit {0}) Fault
-known names j = known_in names (as_object j)
+abbrev pub reject_unknown : List (List ℕ) → Json → Result (Unit {0}) Fault
+reject_unknown names j = known_in names (as_object j)

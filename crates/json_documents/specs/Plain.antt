@@ -11,8 +11,8 @@ use Rattle.teal_value.specs.declared.address_spelling.AddressFault.TheVariants a
 use Rattle.teal_text.specs.Numbers.{number_of}
 use Rattle.json.specs.Json.{Json}
 use Rattle.json.specs.Find.{as_bool, as_number, as_str}
-use Rattle.json_documents.specs.declared.what.What.{What}
-use Rattle.json_documents.specs.declared.what.What.TheVariants.{NotUint, NotBool, NotText, BadBase64, BadAddress, BadChecksum}
+use Rattle.json_documents.specs.declared.document_fault.DocumentFault.{DocumentFault}
+use Rattle.json_documents.specs.declared.document_fault.DocumentFault.TheVariants.{NotUint, NotBool, NotText, BadBase64, BadAddress, BadChecksum}
 use Rattle.json_documents.specs.Faults.{Fault, here, or_else_fault}
 
 -- zeros stand in front, behind which source text has numbers of another base
@@ -43,7 +43,7 @@ base64 s = or_else_fault (result_ok (decode_of standard s)) BadBase64
 abbrev pub bytes : Json → Result (List ℕ) Fault
 bytes j = text j >>= base64
 
-abbrev pub address_what : AddressFault → What
+abbrev pub address_what : AddressFault → DocumentFault
 address_what address_fault.BadText = BadAddress
 address_what address_fault.BadChecksum = BadChecksum
 

@@ -6,7 +6,7 @@ use Rattle.teal_check.specs.WellFormed.{WellFormed, checked}
 use Rattle.teal_source.specs.declared.fault.AsmFault.{AsmFault}
 use Rattle.teal_asm.specs.Program.{assembled}
 use Rattle.json.specs.Json.{Json}
-use Rattle.json_documents.specs.declared.what.What.TheVariants as what
+use Rattle.json_documents.specs.declared.document_fault.DocumentFault.TheVariants as what
 use Rattle.json_documents.specs.Faults.{Fault, here}
 use Rattle.json_documents.specs.Plain.{bytes}
 

@@ -7,7 +7,7 @@ use Rattle.json.specs.Token.{Token}
 use Rattle.json.specs.Token as token
 use Rattle.json.specs.Lex.{tokens}
 use Rattle.json.specs.Json.{Json, if_last, value}
-use Rattle.json_documents.specs.declared.what.What.TheVariants.{Syntax}
+use Rattle.json_documents.specs.declared.document_fault.DocumentFault.TheVariants.{Syntax}
 use Rattle.json_documents.specs.Faults.{Fault, here}
 use Rattle.json_documents.specs.Documents.{Document, document}
 

@@ -6,9 +6,9 @@ use Rattle.teal_source.specs.FaultNames.{asm_fault_name}
 use Rattle.avm_input.specs.Refusals.{check_place}
 use Rattle.avm_input.specs.Replies.{Reply, input_refusal, refused, succeeded}
 use Rattle.json.specs.Print.{quoted}
-use Rattle.json_documents.specs.declared.what.What.{What}
-use Rattle.json_documents.specs.declared.what.What.TheVariants as what
-use Rattle.json_documents.specs.FaultNames.{what_name}
+use Rattle.json_documents.specs.declared.document_fault.DocumentFault.{DocumentFault}
+use Rattle.json_documents.specs.declared.document_fault.DocumentFault.TheVariants as what
+use Rattle.json_documents.specs.FaultNames.{document_fault_name}
 use Rattle.json_documents.specs.Steps.{path_text}
 use Rattle.json_documents.specs.Faults.{Fault}
 use Rattle.json_documents.specs.Documents.{Document}
@@ -20,14 +20,14 @@ place_text None = codes ""
 place_text (Some place) = codes " " ++ decimal place
 
 -- what stands behind the name of a fault
-abbrev pub rest_text : What → List ℕ
+abbrev pub rest_text : DocumentFault → List ℕ
 rest_text (what.Unknown name) = codes " " ++ quoted name
 rest_text (what.Program f) = codes " " ++ (check_fault_name f ++ place_text (check_place f))
 rest_text (what.Source f) = codes " " ++ (decimal f.line ++ (codes " " ++ asm_fault_name f.kind))
 rest_text _ = codes ""
 
 abbrev pub fault_text : Fault → List ℕ
-fault_text f = codes "refused json " ++ (path_text f.path ++ (codes " " ++ (what_name f.what ++ (rest_text f.what ++ codes "\n"))))
+fault_text f = codes "refused json " ++ (path_text f.path ++ (codes " " ++ (document_fault_name f.what ++ (rest_text f.what ++ codes "\n"))))
 
 abbrev pub document_reply : Result Document Fault → Reply
 document_reply (Ok x) = record { text = lines_text x; status = succeeded }

@@ -3,9 +3,9 @@ use Rattle.std.specs.Prelude.{ℕ, ◌+◌, nat_le, if◌then◌else◌, List, [
 use Rattle.teal_value.specs.Answer.{◌>>=◌}
 use Rattle.avm_states.specs.declared.schema.Schema.{Schema}
 use Rattle.json.specs.Json.{Json}
-use Rattle.json_documents.specs.declared.what.What.TheVariants.{SchemaSize}
+use Rattle.json_documents.specs.declared.document_fault.DocumentFault.TheVariants.{SchemaSize}
 use Rattle.json_documents.specs.Faults.{Fault, here}
-use Rattle.json_documents.specs.Members.{known, optional}
+use Rattle.json_documents.specs.Members.{reject_unknown, optional}
 use Rattle.json_documents.specs.Plain.{uint}
 
 -- a schema of at most so many entries
@@ -15,7 +15,7 @@ limited most bytes uints = if nat_le (bytes + uints) most then Ok (record { uint
 -- a schema whose members have these names
 abbrev pub schema : List ℕ → List ℕ → ℕ → Json → Result Schema Fault
 schema bytes_name uints_name most j = do
-  _ ← known (bytes_name ∷ uints_name ∷ []) j
+  _ ← reject_unknown (bytes_name ∷ uints_name ∷ []) j
   bytes ← optional bytes_name uint 0 j
   uints ← optional uints_name uint 0 j
   limited most bytes uints

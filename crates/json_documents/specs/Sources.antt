@@ -8,10 +8,10 @@ use Rattle.std.specs.BTreeMap.{insert_entry, is_at}
 use Rattle.teal_value.specs.Answer.{◌>>=◌}
 use Rattle.avm_ledger.specs.Ledgers.{Ledger, application_at}
 use Rattle.json.specs.Json.{Json}
-use Rattle.json_documents.specs.declared.what.What.TheVariants as what
+use Rattle.json_documents.specs.declared.document_fault.DocumentFault.TheVariants as what
 use Rattle.json_documents.specs.Steps.{at_name, at_index}
 use Rattle.json_documents.specs.Faults.{Fault, here, in_step}
-use Rattle.json_documents.specs.Members.{known, needed, optional}
+use Rattle.json_documents.specs.Members.{reject_unknown, required, optional}
 use Rattle.json_documents.specs.Placeholders.{is_source_of_placeholder}
 use Rattle.json_documents.specs.Plain.{text, uint}
 use Rattle.json_documents.specs.declared.sources.SourceField.{SourceField}
@@ -81,10 +81,10 @@ only_source s for n source =
 
 abbrev pub with_source : Sources → Json → Result Sources Fault
 with_source s j = do
-  _ ← known source_names j
+  _ ← reject_unknown source_names j
   app ← optional (codes "app-index") uint 0 j
-  for ← needed (codes "field-name") source_field j
-  source ← needed (codes "source") text j
+  for ← required (codes "field-name") source_field j
+  source ← required (codes "source") text j
   txn ← optional (codes "txn-index") uint 0 j
   only_source s for (index_of for app txn) source
 

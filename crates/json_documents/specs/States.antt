@@ -8,10 +8,10 @@ use Rattle.avm_states.specs.Entries.{Entries, most_value_bytes, value_of_key, wi
 use Rattle.avm_states.specs.Schemas.{counts_in, is_within}
 use Rattle.avm_ledger.specs.LedgerReader.{Room}
 use Rattle.json.specs.Json.{Json}
-use Rattle.json_documents.specs.declared.what.What.TheVariants as what
+use Rattle.json_documents.specs.declared.document_fault.DocumentFault.TheVariants as what
 use Rattle.json_documents.specs.Steps.{at_name}
 use Rattle.json_documents.specs.Faults.{Fault, here, in_step}
-use Rattle.json_documents.specs.Members.{known, needed, optional}
+use Rattle.json_documents.specs.Members.{reject_unknown, required, optional}
 use Rattle.json_documents.specs.Arrays.{each}
 use Rattle.json_documents.specs.Plain.{bytes, uint}
 use Rattle.json_documents.specs.Tables.{key_value_names, value_names}
@@ -34,8 +34,8 @@ value_of_kind false s n = if length s == 0 then Ok (Uint n) else Err (here what.
 
 abbrev pub value : Json → Result Value Fault
 value j = do
-  _ ← known value_names j
-  is_bytes ← needed (codes "type") kind j
+  _ ← reject_unknown value_names j
+  is_bytes ← required (codes "type") kind j
   s ← optional (codes "bytes") bytes [] j
   n ← optional (codes "uint") uint 0 j
   value_of_kind is_bytes s n
@@ -53,9 +53,9 @@ new_entry entries k v =
 
 abbrev pub with_key_value : Entries → Json → Result Entries Fault
 with_key_value entries j = do
-  _ ← known key_value_names j
-  k ← needed (codes "key") key j
-  v ← needed (codes "value") value j
+  _ ← reject_unknown key_value_names j
+  k ← required (codes "key") key j
+  v ← required (codes "value") value j
   new_entry entries k v
 
 -- entries for which there is room

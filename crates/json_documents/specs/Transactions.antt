@@ -13,10 +13,10 @@ use Rattle.avm_call.specs.declared.call_fault.CallFault.TheVariants as call
 use Rattle.avm_call.specs.CallRules.{call_fault}
 use Rattle.json.specs.Json.{Json}
 use Rattle.json.specs.Find.{as_object, at}
-use Rattle.json_documents.specs.declared.what.What.{What}
-use Rattle.json_documents.specs.declared.what.What.TheVariants as what
+use Rattle.json_documents.specs.declared.document_fault.DocumentFault.{DocumentFault}
+use Rattle.json_documents.specs.declared.document_fault.DocumentFault.TheVariants as what
 use Rattle.json_documents.specs.Faults.{Fault, here}
-use Rattle.json_documents.specs.Members.{known, needed, optional}
+use Rattle.json_documents.specs.Members.{reject_unknown, required, optional}
 use Rattle.json_documents.specs.Arrays.{each}
 use Rattle.json_documents.specs.Plain.{address, bytes, text, uint}
 use Rattle.json_documents.specs.declared.sources.SourceField.TheVariants as field
@@ -107,7 +107,7 @@ terms j = do
   own ← optional (codes "lx") lease zeros j
   note ← optional (codes "note") bytes [] j
   rekey ← optional (codes "rekey") address zero_address j
-  sender ← needed (codes "snd") address j
+  sender ← required (codes "snd") address j
   Ok (record { fee = fee; first_valid = first; last_valid = last; lease = own; note = note; rekey_to = rekey; sender = sender })
 
 abbrev pub fields : Target → Terms → CallData
@@ -132,21 +132,21 @@ fields of by = record {
 
 -- ---- the rules of calls
 
-abbrev pub call_what : CallFault → What
-call_what call.Accounts = what.Accounts
-call_what call.Args = what.Args
-call_what call.ArgBytes = what.ArgBytes
-call_what call.Foreign = what.Foreign
-call_what call.Note = what.Note
-call_what call.ProgramsMissing = what.ProgramsMissing
-call_what call.ProgramsGiven = what.ProgramsGiven
-call_what call.SchemaSize = what.SchemaSize
-call_what call.ClearOnCreate = what.ClearOnCreate
-call_what (call.Program f) = what.Program f
+abbrev pub call_fault_in : CallFault → DocumentFault
+call_fault_in call.Accounts = what.Accounts
+call_fault_in call.Args = what.Args
+call_fault_in call.ArgBytes = what.ArgBytes
+call_fault_in call.Foreign = what.Foreign
+call_fault_in call.Note = what.Note
+call_fault_in call.ProgramsMissing = what.ProgramsMissing
+call_fault_in call.ProgramsGiven = what.ProgramsGiven
+call_fault_in call.SchemaSize = what.SchemaSize
+call_fault_in call.ClearOnCreate = what.ClearOnCreate
+call_fault_in (call.Program f) = what.Program f
 
 abbrev pub unless_broken : CallData → Option CallFault → Result CallData Fault
 unless_broken c None = Ok c
-unless_broken c (Some f) = Err (here (call_what f))
+unless_broken c (Some f) = Err (here (call_fault_in f))
 
 -- fields that make a call
 abbrev pub checked_call : CallData → Result CallData Fault
@@ -157,13 +157,13 @@ checked_call c = unless_broken c (call_fault c)
 -- the group, if any, of a call of an application that is in a group with none before it; this is tested before the names
 abbrev pub lone_call : Groups → Json → Result (Option (List ℕ)) Fault
 lone_call groups j =
-    if is_some (as_object j) then (needed (codes "type") call_type j >>= λ _. optional (codes "grp") (group groups) None j) else Err (here what.NotObject)
+    if is_some (as_object j) then (required (codes "type") call_type j >>= λ _. optional (codes "grp") (group groups) None j) else Err (here what.NotObject)
 
 -- the call of the transaction with this index, behind others with these groups, and its own group
 abbrev pub transaction : Sources → Groups → ℕ → Json → Result (CallData × Option (List ℕ)) Fault
 transaction sources groups i j = do
   own ← lone_call groups j
-  _ ← known transaction_names j
+  _ ← reject_unknown transaction_names j
   of ← target sources i j
   by ← terms j
   call ← checked_call (fields of by)
@@ -183,8 +183,8 @@ with_call b call own = record { calls = b.calls ++ call ∷ []; groups = with_gr
 -- a transaction with its signatures, behind those before it
 abbrev pub with_signed : Sources → Batch → Json → Result Batch Fault
 with_signed sources so_far j = do
-  _ ← known signed_names j
-  t ← needed (codes "txn") (transaction sources so_far.groups (length so_far.calls)) j
+  _ ← reject_unknown signed_names j
+  t ← required (codes "txn") (transaction sources so_far.groups (length so_far.calls)) j
   Ok (with_call so_far t.0 t.1)
 
 -- the calls of all transactions

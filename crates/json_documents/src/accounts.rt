@@ -12,15 +12,15 @@ ghost use Rattle.json_documents.specs.States.{state};
 
 use crate::arrays::{Gather, optional_each};
 use crate::deleted::still_known;
+use crate::document_fault::DocumentFault;
 use crate::fault::{Fault, FieldError};
 use crate::ids::{Id, IdForm};
 use crate::ledger_draft::{ApplicationDraft, LedgerDraft};
-use crate::members::needed;
+use crate::members::required;
 use crate::placeholders::is_placeholder;
 use crate::plain::PlainAddress;
 use crate::states::{StateForm, optional_state};
 use crate::tables::{ACCOUNT, LOCAL};
-use crate::what::What;
 use avm_states::State;
 use json::Value;
 use std::alloc::Global;
@@ -52,7 +52,7 @@ impl Gather for LocalStates {
             return Ok(so_far);
         }
         still_known(alloc, &LOCAL, element)?;
-        let id = needed(alloc, &IdForm { end: self.end }, element, "id")?;
+        let id = required(alloc, &IdForm { end: self.end }, element, "id")?;
         let state = key_values(alloc, &so_far, id, element)?;
         add_local_state(alloc, so_far, self.who, id, state)
     }
@@ -95,7 +95,7 @@ fn add_local_state(
     match ledger.local_state(who, id.number()) {
         None => Ok(ledger.with_local_state(who, id, state)?),
         Some(old) if *old == state => Ok(ledger),
-        Some(_) => Err(Fault::here(alloc, What::Differs)),
+        Some(_) => Err(Fault::here(alloc, DocumentFault::Differs)),
     }
 }
 
@@ -120,7 +120,7 @@ impl Gather for Accounts {
         element: &Value<'_>,
     ) -> Result<LedgerDraft, FieldError> {
         still_known(alloc, &ACCOUNT, element)?;
-        let who = needed(alloc, &PlainAddress, element, "address")?;
+        let who = required(alloc, &PlainAddress, element, "address")?;
         let locals = LocalStates {
             placeholders: self.placeholders,
             end: self.end,

@@ -4,7 +4,7 @@ ghost use Rattle.std.specs.Prelude.{◌≡◌, [], codes};
 ghost use Rattle.teal_value.specs.Answer.{Gives};
 ghost use Rattle.avm_ledger.specs.LedgerReader.{room_of_schema};
 ghost use Rattle.json.specs.Value.{value_view};
-ghost use Rattle.json_documents.specs.Members.{needed, optional};
+ghost use Rattle.json_documents.specs.Members.{required, optional};
 ghost use Rattle.json_documents.specs.declared.sources.SourceField.TheVariants as field;
 ghost use Rattle.avm_states.specs.Schemas.{no_entries};
 ghost use Rattle.json_documents.specs.Applications.{application, limits, params};
@@ -17,10 +17,11 @@ ghost use Rattle.json_documents.specs.States.{state};
 
 use crate::arrays::Gather;
 use crate::deleted::still_known;
+use crate::document_fault::DocumentFault;
 use crate::fault::{Fault, FieldError};
 use crate::ids::{Id, IdForm};
 use crate::ledger_draft::{ApplicationDraft, LedgerDraft};
-use crate::members::{Form, known, needed, optional};
+use crate::members::{Form, optional, reject_unknown, required};
 use crate::placeholders::is_placeholder;
 use crate::plain::PlainAddress;
 use crate::programs::ProgramForm;
@@ -28,7 +29,6 @@ use crate::schemas::{NO_ENTRIES, SchemaForm};
 use crate::sources::{SourceField, Sources};
 use crate::states::{StateForm, optional_state};
 use crate::tables::{APPLICATION, PARAMS};
-use crate::what::What;
 use avm_states::{MAX_GLOBAL_ENTRIES, MAX_LOCAL_ENTRIES, Schema, State};
 use json::Value;
 use std::alloc::Global;
@@ -49,10 +49,10 @@ impl Form for ParamsForm<'_> {
     ghost meaning = { λ f. params f.sources.now f.id };
 
     fn read(&self, alloc: Global, value: &Value<'_>) -> Result<ApplicationDraft, FieldError> {
-        known(alloc, &PARAMS, value)?;
+        reject_unknown(alloc, &PARAMS, value)?;
         let approval = self.program(alloc, SourceField::Approval, value, "approval-program")?;
         let clear = self.program(alloc, SourceField::Clear, value, "clear-state-program")?;
-        let creator = needed(alloc, &PlainAddress, value, "creator")?;
+        let creator = required(alloc, &PlainAddress, value, "creator")?;
         let limits = limits(alloc, value)?;
         Ok(ApplicationDraft {
             creator,
@@ -75,11 +75,11 @@ impl ParamsForm<'_> {
         name: &'static str,
     ) -> Result<ByteString, FieldError>
         ensures { Gives (λ c. c) result (given_or (program_at self.now.sources.now
-            field self.now.id) (needed name.now program (value_view params.now))) }
+            field self.now.id) (required name.now program (value_view params.now))) }
     {
         match self.sources.program_at(field, self.id) {
             Some(code) => Ok(code.clone()?),
-            None => needed(alloc, &ProgramForm, params, name),
+            None => required(alloc, &ProgramForm, params, name),
         }
     }
 }
@@ -175,7 +175,7 @@ impl Applications<'_> {
             (application self.now.end self.now.sources.now so_far (value_view element.now)) }
     {
         still_known(alloc, &APPLICATION, element)?;
-        let id = needed(alloc, &IdForm { end: self.end }, element, "id")?;
+        let id = required(alloc, &IdForm { end: self.end }, element, "id")?;
         let application = self.params(alloc, id, element)?;
         add_application(alloc, so_far, id, application)
     }
@@ -188,13 +188,13 @@ impl Applications<'_> {
         element: &Value<'_>,
     ) -> Result<ApplicationDraft, FieldError>
         ensures { Gives (λ a. a) result
-            (needed (codes "params") (params self.now.sources.now id) (value_view element.now)) }
+            (required (codes "params") (params self.now.sources.now id) (value_view element.now)) }
     {
         let params = ParamsForm {
             sources: self.sources,
             id: id.number(),
         };
-        needed(alloc, &params, element, "params")
+        required(alloc, &params, element, "params")
     }
 }
 
@@ -210,6 +210,6 @@ fn add_application(
     match ledger.application(id.number()) {
         None => Ok(ledger.with_application(id, application)?),
         Some(old) if old.is_same(&application) => Ok(ledger),
-        Some(_) => Err(Fault::here(alloc, What::Differs)),
+        Some(_) => Err(Fault::here(alloc, DocumentFault::Differs)),
     }
 }

@@ -8,9 +8,9 @@ ghost use Rattle.json.specs.Value.{items_view, value_view};
 ghost use Rattle.json_documents.specs.Arrays.{each, gathered, items_in};
 ghost use Rattle.json_documents.specs.Members.{optional};
 
+use crate::document_fault::DocumentFault;
 use crate::fault::{Fault, FieldError, in_item, in_member};
 use crate::members::member;
-use crate::what::What;
 use json::Value;
 use std::alloc::Global;
 
@@ -88,7 +88,7 @@ pub fn each<G: Gather>(
 {
     match array_of(value) {
         Some(items) => gather_items(alloc, gatherer, start, items),
-        None => Err(Fault::here(alloc, What::NotArray)),
+        None => Err(Fault::here(alloc, DocumentFault::NotArray)),
     }
 }
 

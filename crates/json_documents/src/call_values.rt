@@ -5,10 +5,10 @@ ghost use Rattle.teal_value.specs.Answer.{Gives};
 ghost use Rattle.json_documents.specs.Transactions.{completion_of, only_appl, whole_lease};
 
 use crate::arrays::Gather;
+use crate::document_fault::DocumentFault;
 use crate::fault::{Fault, FieldError};
 use crate::members::Form;
 use crate::plain::{Bytes, PlainAddress, Uint, text_of};
-use crate::what::What;
 use avm_items::{Addresses, Completion};
 use json::Value;
 use std::alloc::Global;
@@ -37,7 +37,7 @@ fn only_appl(alloc: Global, name: &str) -> Result<(), FieldError>
     if name == "appl" {
         Ok(())
     } else {
-        Err(Fault::here(alloc, What::TxnType))
+        Err(Fault::here(alloc, DocumentFault::TxnType))
     }
 }
 
@@ -68,7 +68,7 @@ fn completion_of(alloc: Global, number: u64) -> Result<Completion, FieldError>
         3 => Ok(Completion::ClearState),
         4 => Ok(Completion::UpdateApplication),
         5 => Ok(Completion::DeleteApplication),
-        _ => Err(Fault::here(alloc, What::Completion)),
+        _ => Err(Fault::here(alloc, DocumentFault::Completion)),
     }
 }
 
@@ -97,7 +97,7 @@ fn whole_lease(alloc: Global, bytes: &[u8]) -> Result<[u8; 32], FieldError>
         lease.copy_from_slice(bytes);
         Ok(lease)
     } else {
-        Err(Fault::here(alloc, What::LeaseLength))
+        Err(Fault::here(alloc, DocumentFault::LeaseLength))
     }
 }
 

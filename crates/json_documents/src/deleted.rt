@@ -6,10 +6,10 @@ ghost use Rattle.json.specs.Value.{value_view};
 ghost use Rattle.json_documents.specs.Deleted.{only_false, still_known};
 ghost use Rattle.json_documents.specs.ShownSteps.{names_shown};
 
+use crate::document_fault::DocumentFault;
 use crate::fault::{Fault, FieldError};
-use crate::members::{Form, known, optional};
+use crate::members::{Form, optional, reject_unknown};
 use crate::plain::boolean_of;
-use crate::what::What;
 use json::Value;
 use std::alloc::Global;
 
@@ -34,13 +34,13 @@ fn only_false(alloc: Global, gone: bool) -> Result<(), FieldError>
     ensures { Gives (λ x. x) result (only_false gone) }
 {
     if gone {
-        Err(Fault::here(alloc, What::Deleted))
+        Err(Fault::here(alloc, DocumentFault::Deleted))
     } else {
         Ok(())
     }
 }
 
-/// Refuses what is no object of these names, as [`known`] does, and what is listed as deleted.
+/// Refuses what is no object of these names, as [`reject_unknown`] does, and what is listed as deleted.
 pub(crate) fn still_known(
     alloc: Global,
     names: &[&str],
@@ -48,6 +48,6 @@ pub(crate) fn still_known(
 ) -> Result<(), FieldError>
     ensures { Gives (λ x. x) result (still_known (names_shown names.now) (value_view object.now)) }
 {
-    known(alloc, names, object)?;
+    reject_unknown(alloc, names, object)?;
     optional(alloc, &DeletedForm, (), object, "deleted")
 }

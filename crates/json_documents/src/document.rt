@@ -13,7 +13,7 @@ use crate::calls::Calls;
 use crate::fault::FieldError;
 use crate::ids::{NextIdForm, end_of_ids, first_next_id};
 use crate::ledger_draft::LedgerDraft;
-use crate::members::{known, optional};
+use crate::members::{optional, reject_unknown};
 use crate::placeholders::has_placeholders;
 use crate::plain::Uint;
 use crate::sources::{SourceTexts, Sources};
@@ -42,7 +42,7 @@ struct Front {
 pub(crate) fn document_of(alloc: Global, value: &Value<'_>) -> Result<Document, FieldError>
     ensures { Gives document_shown result (document (value_view value.now)) }
 {
-    known(alloc, &DOCUMENT, value)?;
+    reject_unknown(alloc, &DOCUMENT, value)?;
     members(alloc, has_placeholders(value), value)
 }
 

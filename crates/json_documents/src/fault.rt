@@ -6,8 +6,8 @@ ghost use Rattle.json_documents.specs.Faults.{IsFurther, here};
 ghost use Rattle.json_documents.specs.ShownSteps.{step_shown};
 ghost use Rattle.json_documents.specs.Steps.{at_index, at_name, path_text, step_text};
 
+use crate::document_fault::DocumentFault;
 use crate::step::Step;
-use crate::what::What;
 use std::alloc::{AllocError, Global};
 use std::marker::Model;
 use teal_value::Failure;
@@ -16,7 +16,7 @@ use teal_value::Failure;
 #[derive(Debug, Drop)]
 pub struct Fault {
     path: Vec<Step>,
-    what: What,
+    what: DocumentFault,
 }
 
 impl Model for Fault {
@@ -34,7 +34,7 @@ pub type FieldError = Failure<Fault>;
 
 impl Fault {
     /// The fault of the value itself. It takes no memory.
-    pub fn of(alloc: Global, what: What) -> Fault
+    pub fn of(alloc: Global, what: DocumentFault) -> Fault
         ensures { result ≡ here what }
     {
         Fault {
@@ -44,14 +44,14 @@ impl Fault {
     }
 
     /// The failure with the fault of the value itself.
-    pub fn here(alloc: Global, what: What) -> FieldError
+    pub fn here(alloc: Global, what: DocumentFault) -> FieldError
         ensures { result ≡ failure.Fault (here what) }
     {
         Failure::Fault(Fault::of(alloc, what))
     }
 
     /// What is wrong with the value.
-    pub fn what(&self) -> &What
+    pub fn what(&self) -> &DocumentFault
         ensures { result.now ≡ self.now.what }
     {
         &self.what

@@ -7,8 +7,8 @@ ghost use Rattle.avm_input.specs.Refusals.{check_place};
 ghost use Rattle.json.specs.Print.{quoted};
 ghost use Rattle.json_documents.specs.Replies.{fault_text, place_text, rest_text};
 
+use crate::document_fault::DocumentFault;
 use crate::fault::Fault;
-use crate::what::What;
 use avm_input::check_place;
 use json::Writer;
 use std::alloc::{AllocError, Global};
@@ -27,13 +27,13 @@ pub(crate) fn fault_text(alloc: Global, fault: &Fault) -> Result<String, AllocEr
 }
 
 /// What stands behind the name of a fault.
-fn rest_text(alloc: Global, what: &What) -> Result<String, AllocError>
+fn rest_text(alloc: Global, what: &DocumentFault) -> Result<String, AllocError>
     ensures { IfOk result (λ text. string_bytes text ≡ rest_text what.now) }
 {
     match what {
-        What::Unknown(name) => unknown_text(alloc, name.as_str()),
-        What::Program(fault) => program_text(alloc, *fault),
-        What::Source(fault) => source_text(alloc, *fault),
+        DocumentFault::Unknown(name) => unknown_text(alloc, name.as_str()),
+        DocumentFault::Program(fault) => program_text(alloc, *fault),
+        DocumentFault::Source(fault) => source_text(alloc, *fault),
         _ => nothing(alloc),
     }
 }

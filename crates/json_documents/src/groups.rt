@@ -4,10 +4,10 @@ ghost use Rattle.std.specs.Prelude.{◌≡◌, [], IfOk, Some};
 ghost use Rattle.teal_value.specs.Answer.{Gives};
 ghost use Rattle.json_documents.specs.Groups.{has_group, new_group, whole_group, with_group};
 
+use crate::document_fault::DocumentFault;
 use crate::fault::{Fault, FieldError};
 use crate::members::Form;
 use crate::plain::Bytes;
-use crate::what::What;
 use json::Value;
 use std::alloc::{AllocError, Global};
 use std::collections::BTreeSet;
@@ -84,7 +84,7 @@ fn whole_group(alloc: Global, bytes: &[u8]) -> Result<[u8; 32], FieldError>
         group.copy_from_slice(bytes);
         Ok(group)
     } else {
-        Err(Fault::here(alloc, What::GroupLength))
+        Err(Fault::here(alloc, DocumentFault::GroupLength))
     }
 }
 
@@ -96,7 +96,7 @@ fn new_group(
     ensures { Gives (λ g. g) result (new_group groups.now group) }
 {
     if groups.has(&group) {
-        Err(Fault::here(alloc, What::Group))
+        Err(Fault::here(alloc, DocumentFault::Group))
     } else {
         Ok(Some(group))
     }

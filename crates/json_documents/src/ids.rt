@@ -4,10 +4,10 @@ ghost use Rattle.std.specs.Prelude.{◌≡◌, ◌+◌};
 ghost use Rattle.teal_value.specs.Answer.{Gives};
 ghost use Rattle.json_documents.specs.Ids.{in_range, some_positive, end_of_ids, first_next_id};
 
+use crate::document_fault::DocumentFault;
 use crate::fault::{Fault, FieldError};
 use crate::members::Form;
 use crate::plain::Uint;
-use crate::what::What;
 use json::Value;
 use std::alloc::Global;
 use std::marker::Model;
@@ -71,7 +71,7 @@ fn in_range(alloc: Global, end: u64, number: u64) -> Result<Id, FieldError>
     if 1 <= number && number < end {
         Ok(Id { number })
     } else {
-        Err(Fault::here(alloc, What::IdRange))
+        Err(Fault::here(alloc, DocumentFault::IdRange))
     }
 }
 
@@ -98,7 +98,7 @@ fn some_positive(alloc: Global, number: u64) -> Result<Option<u64>, FieldError>
     if 1 <= number {
         Ok(Some(number))
     } else {
-        Err(Fault::here(alloc, What::IdRange))
+        Err(Fault::here(alloc, DocumentFault::IdRange))
     }
 }
 

@@ -5,12 +5,12 @@ ghost use Rattle.std.specs.Option.{option_map};
 ghost use Rattle.teal_value.specs.Answer.{Fails, Gives};
 ghost use Rattle.json.specs.Find.{as_object};
 ghost use Rattle.json.specs.Value.{members_view, value_view};
-ghost use Rattle.json_documents.specs.Members.{is_among, is_below, known, least_unknown, lesser, member, needed, optional, unless_unknown};
+ghost use Rattle.json_documents.specs.Members.{is_among, is_below, reject_unknown, least_unknown, lesser, member, required, optional, unless_unknown};
 ghost use Rattle.json_documents.specs.ShownSteps.{names_shown};
 
+use crate::document_fault::DocumentFault;
 use crate::fault::{Fault, FieldError, in_member};
 use crate::text::Text;
-use crate::what::What;
 use json::Value;
 use std::alloc::Global;
 use std::cmp::Ordering;
@@ -44,16 +44,16 @@ pub fn member<'v, 'a>(object: &'v Value<'a>, name: &str) -> Option<&'v Value<'a>
 }
 
 /// What a member is read as that has to be there.
-pub fn needed<F: Form>(
+pub fn required<F: Form>(
     alloc: Global,
     form: &F,
     object: &Value<'_>,
     name: &'static str,
 ) -> Result<F::Read, FieldError>
-    ensures { Gives (λ x. x) result (needed name.now (F.meaning form.now) (value_view object.now)) }
+    ensures { Gives (λ x. x) result (required name.now (F.meaning form.now) (value_view object.now)) }
 {
     let Some(value) = member(object, name) else {
-        return Err(in_member(Fault::here(alloc, What::Missing), name));
+        return Err(in_member(Fault::here(alloc, DocumentFault::Missing), name));
     };
     match form.read(alloc, value) {
         Ok(read) => Ok(read),
@@ -93,11 +93,11 @@ fn object_of<'v, 'a>(value: &'v Value<'a>) -> Option<&'v [(&'a str, Value<'a>)]>
 }
 
 /// Refuses what is no object, and an object with a name that is not among these; of several the least by its bytes is named.
-pub fn known(alloc: Global, names: &[&str], object: &Value<'_>) -> Result<(), FieldError>
-    ensures { Gives (λ x. x) result (known (names_shown names.now) (value_view object.now)) }
+pub fn reject_unknown(alloc: Global, names: &[&str], object: &Value<'_>) -> Result<(), FieldError>
+    ensures { Gives (λ x. x) result (reject_unknown (names_shown names.now) (value_view object.now)) }
 {
     let Some(members) = object_of(object) else {
-        return Err(Fault::here(alloc, What::NotObject));
+        return Err(Fault::here(alloc, DocumentFault::NotObject));
     };
     match least_unknown(names, members) {
         None => Ok(()),
@@ -110,7 +110,7 @@ fn unknown(alloc: Global, name: &str) -> FieldError
     ensures { Fails result (unless_unknown (Some name.now)) }
 {
     match Text::of(alloc, name) {
-        Ok(name) => Fault::here(alloc, What::Unknown(name)),
+        Ok(name) => Fault::here(alloc, DocumentFault::Unknown(name)),
         Err(_) => Failure::Memory,
     }
 }

@@ -5,10 +5,10 @@ ghost use Rattle.teal_value.specs.Answer.{Gives};
 ghost use Rattle.json.specs.Value.{value_view};
 ghost use Rattle.json_documents.specs.Plain.{address, address_what, base64, boolean, bytes, decimal_of, text, uint, uint_of};
 
+use crate::document_fault::DocumentFault;
 use crate::fault::{Fault, FieldError};
 use crate::members::Form;
 use crate::text::Text;
-use crate::what::What;
 use base64::DecodeAllocError;
 use base64::engine::general_purpose::STANDARD;
 use json::Value;
@@ -91,7 +91,7 @@ fn uint_of(alloc: Global, value: &Value<'_>) -> Result<u64, FieldError>
 {
     match number_of(value) {
         Some(number) => Ok(number),
-        None => Err(Fault::here(alloc, What::NotUint)),
+        None => Err(Fault::here(alloc, DocumentFault::NotUint)),
     }
 }
 
@@ -122,7 +122,7 @@ pub(crate) fn boolean_of(alloc: Global, value: &Value<'_>) -> Result<bool, Field
 {
     match value.as_bool() {
         Some(boolean) => Ok(boolean),
-        None => Err(Fault::here(alloc, What::NotBool)),
+        None => Err(Fault::here(alloc, DocumentFault::NotBool)),
     }
 }
 
@@ -132,7 +132,7 @@ pub fn text_of<'a>(alloc: Global, value: &Value<'a>) -> Result<&'a str, FieldErr
 {
     match value.as_str() {
         Some(text) => Ok(text),
-        None => Err(Fault::here(alloc, What::NotText)),
+        None => Err(Fault::here(alloc, DocumentFault::NotText)),
     }
 }
 
@@ -142,15 +142,15 @@ fn base64_bytes(alloc: Global, text: &str) -> Result<ByteString, FieldError>
     match STANDARD.decode(alloc, text.as_bytes()) {
         Ok(bytes) => Ok(ByteString::from_vec(bytes)),
         Err(DecodeAllocError::OutOfMemory) => Err(Failure::Memory),
-        Err(DecodeAllocError::DecodeError(_)) => Err(Fault::here(alloc, What::BadBase64)),
+        Err(DecodeAllocError::DecodeError(_)) => Err(Fault::here(alloc, DocumentFault::BadBase64)),
     }
 }
 
-fn address_what(fault: AddressFault) -> What
+fn address_what(fault: AddressFault) -> DocumentFault
     ensures { result ≡ address_what fault }
 {
     match fault {
-        AddressFault::BadText => What::BadAddress,
-        AddressFault::BadChecksum => What::BadChecksum,
+        AddressFault::BadText => DocumentFault::BadAddress,
+        AddressFault::BadChecksum => DocumentFault::BadChecksum,
     }
 }

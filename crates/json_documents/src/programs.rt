@@ -6,10 +6,10 @@ ghost use Rattle.teal_value.specs.Answer.{Gives};
 ghost use Rattle.json_documents.specs.Programs.{checked_code, on_source, program_of_source};
 ghost use Rattle.teal_asm.specs.Program.{assembled};
 
+use crate::document_fault::DocumentFault;
 use crate::fault::{Fault, FieldError};
 use crate::members::Form;
 use crate::plain::Bytes;
-use crate::what::What;
 use json::Value;
 use std::alloc::Global;
 use teal_asm::assemble;
@@ -39,7 +39,7 @@ fn checked_code(alloc: Global, code: ByteString) -> Result<ByteString, FieldErro
 {
     match check(alloc, code.as_slice()) {
         Ok(_program) => Ok(code),
-        Err(failure) => Err(failure.map(|fault| Fault::of(alloc, What::Program(fault)))),
+        Err(failure) => Err(failure.map(|fault| Fault::of(alloc, DocumentFault::Program(fault)))),
     }
 }
 
@@ -56,6 +56,6 @@ fn code_of_source(alloc: Global, text: &str) -> Result<ByteString, FieldError>
 {
     match assemble(alloc, text) {
         Ok(code) => Ok(ByteString::from_vec(code)),
-        Err(failure) => Err(failure.map(|fault| Fault::of(alloc, What::Source(fault)))),
+        Err(failure) => Err(failure.map(|fault| Fault::of(alloc, DocumentFault::Source(fault)))),
     }
 }

@@ -13,8 +13,8 @@ ghost use Rattle.json_documents.specs.Reading.{document_of_text, is_finite, is_i
 ghost use Rattle.json_documents.specs.Shown.{document_shown};
 
 use crate::document::{Document, document_of};
+use crate::document_fault::DocumentFault;
 use crate::fault::{Fault, FieldError};
-use crate::what::What;
 use json::{Error, Reader, Scratch, Token, Value};
 use std::alloc::{AllocError, Global};
 
@@ -28,7 +28,7 @@ pub(crate) fn read_document(alloc: Global, text: &str) -> Result<Document, Field
     let mut scratch = Scratch::new(alloc);
     match value_of_text(alloc, text, &mut scratch)? {
         Some(value) => document_of(alloc, &value),
-        None => Err(Fault::here(alloc, What::Syntax)),
+        None => Err(Fault::here(alloc, DocumentFault::Syntax)),
     }
 }
 

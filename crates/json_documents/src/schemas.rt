@@ -4,10 +4,10 @@ ghost use Rattle.std.specs.Prelude.{◌≡◌, codes};
 ghost use Rattle.teal_value.specs.Answer.{Gives};
 ghost use Rattle.json_documents.specs.Schemas.{limited};
 
+use crate::document_fault::DocumentFault;
 use crate::fault::{Fault, FieldError};
-use crate::members::{Form, known, optional};
+use crate::members::{Form, optional, reject_unknown};
 use crate::plain::Uint;
-use crate::what::What;
 use avm_states::Schema;
 use json::Value;
 use std::alloc::Global;
@@ -59,7 +59,7 @@ impl Form for SchemaForm {
     ghost meaning = { λ f. schema f.byte_strings.now f.uints.now f.most };
 
     fn read(&self, alloc: Global, value: &Value<'_>) -> Result<Schema, FieldError> {
-        known(alloc, &[self.byte_strings, self.uints], value)?;
+        reject_unknown(alloc, &[self.byte_strings, self.uints], value)?;
         let bytes = optional(alloc, &Uint, 0, value, self.byte_strings)?;
         let uints = optional(alloc, &Uint, 0, value, self.uints)?;
         limited(alloc, self.most, bytes, uints)
@@ -77,6 +77,6 @@ fn limited(alloc: Global, most: u8, bytes: u64, uints: u64) -> Result<Schema, Fi
             bytes: bytes as u8,
         })
     } else {
-        Err(Fault::here(alloc, What::SchemaSize))
+        Err(Fault::here(alloc, DocumentFault::SchemaSize))
     }
 }

@@ -6,14 +6,14 @@ ghost use Rattle.teal_value.specs.Answer.{Gives};
 ghost use Rattle.json_documents.specs.Sources.{field_named, has_target, index_of, is_there, no_sources, only_source, program_at, targets, targets_from, with_none, with_source_at};
 
 use crate::arrays::Gather;
+use crate::document_fault::DocumentFault;
 use crate::fault::{Fault, FieldError, in_item, in_member};
 use crate::ledger_draft::LedgerDraft;
-use crate::members::{Form, known, needed, optional};
+use crate::members::{Form, optional, reject_unknown, required};
 use crate::placeholders::is_source_of_placeholder;
 use crate::plain::{PlainText, Uint, text_of};
 use crate::programs::program_of_source;
 use crate::tables::SOURCE;
-use crate::what::What;
 use json::Value;
 use std::alloc::{AllocError, Global};
 use std::collections::BTreeMap;
@@ -58,7 +58,7 @@ fn field_named(alloc: Global, name: &str) -> Result<SourceField, FieldError>
         "clearp" => Ok(SourceField::Clear),
         "apap" => Ok(SourceField::CallApproval),
         "apsu" => Ok(SourceField::CallClear),
-        _ => Err(Fault::here(alloc, What::FieldName)),
+        _ => Err(Fault::here(alloc, DocumentFault::FieldName)),
     }
 }
 
@@ -172,7 +172,7 @@ fn check_targets(
 {
     'places: for (index, place) in places.iter().enumerate() {
         if !has_target(ledger, calls, *place) {
-            return Err(in_item(Fault::here(alloc, What::NoTarget), index));
+            return Err(in_item(Fault::here(alloc, DocumentFault::NoTarget), index));
         }
     }
     Ok(())
@@ -231,10 +231,10 @@ impl Gather for SourceTexts {
         if is_source_of_placeholder(self.placeholders, element) {
             return Ok(so_far.with_none()?);
         }
-        known(alloc, &SOURCE, element)?;
+        reject_unknown(alloc, &SOURCE, element)?;
         let application = optional(alloc, &Uint, 0, element, "app-index")?;
-        let field = needed(alloc, &FieldForm, element, "field-name")?;
-        let text = needed(alloc, &PlainText, element, "source")?;
+        let field = required(alloc, &FieldForm, element, "field-name")?;
+        let text = required(alloc, &PlainText, element, "source")?;
         let transaction = optional(alloc, &Uint, 0, element, "txn-index")?;
         let index = index_of(field, application, transaction);
         only_source(alloc, so_far, field, index, text.as_str())
@@ -252,7 +252,7 @@ fn only_source(
     ensures { Gives (λ s. s) result (only_source sources field index text.now) }
 {
     if sources.program_at(field, index).is_some() {
-        return Err(Fault::here(alloc, What::Twice));
+        return Err(Fault::here(alloc, DocumentFault::Twice));
     }
     match program_of_source(alloc, text) {
         Ok(code) => Ok(sources.with(field, index, code)?),

@@ -8,12 +8,12 @@ ghost use Rattle.json_documents.specs.Members.{optional};
 ghost use Rattle.json_documents.specs.States.{kind_of, new_entry, short_key, short_value, state, value_of_kind, within};
 
 use crate::arrays::{Gather, each};
+use crate::document_fault::DocumentFault;
 use crate::entries::Entries;
 use crate::fault::{Fault, FieldError, in_member};
-use crate::members::{Form, known, needed, optional};
+use crate::members::{Form, optional, reject_unknown, required};
 use crate::plain::{Bytes, Uint};
 use crate::tables::{KEY_VALUE, VALUE};
-use crate::what::What;
 use avm_states::{MAX_LOCAL_ENTRIES, MAX_VALUE_BYTES, Schema, State};
 use json::Value;
 use std::alloc::Global;
@@ -43,7 +43,7 @@ fn kind_of(alloc: Global, number: u64) -> Result<bool, FieldError>
     match number {
         1 => Ok(true),
         2 => Ok(false),
-        _ => Err(Fault::here(alloc, What::ValueType)),
+        _ => Err(Fault::here(alloc, DocumentFault::ValueType)),
     }
 }
 
@@ -59,8 +59,8 @@ impl Form for ValueForm {
     ghost meaning = { λ _. value };
 
     fn read(&self, alloc: Global, value: &Value<'_>) -> Result<StateValue, FieldError> {
-        known(alloc, &VALUE, value)?;
-        let is_bytes = needed(alloc, &KindForm, value, "type")?;
+        reject_unknown(alloc, &VALUE, value)?;
+        let is_bytes = required(alloc, &KindForm, value, "type")?;
         let bytes = optional(alloc, &Bytes, ByteString::new(), value, "bytes")?;
         let number = optional(alloc, &Uint, 0, value, "uint")?;
         value_of_kind(alloc, is_bytes, bytes, number)
@@ -82,7 +82,7 @@ fn value_of_kind(
     } else if bytes.len() == 0 {
         return Ok(StateValue::Uint(number));
     }
-    Err(Fault::here(alloc, What::OtherKind))
+    Err(Fault::here(alloc, DocumentFault::OtherKind))
 }
 
 fn short_value(alloc: Global, bytes: ByteString) -> Result<StateValue, FieldError>
@@ -91,7 +91,7 @@ fn short_value(alloc: Global, bytes: ByteString) -> Result<StateValue, FieldErro
     if bytes.len() <= MAX_VALUE_BYTES {
         Ok(StateValue::Bytes(bytes))
     } else {
-        Err(in_member(Fault::here(alloc, What::TooLong), "bytes"))
+        Err(in_member(Fault::here(alloc, DocumentFault::TooLong), "bytes"))
     }
 }
 
@@ -117,7 +117,7 @@ fn short_key(alloc: Global, bytes: &[u8]) -> Result<StateKey, FieldError>
 {
     match StateKey::of(bytes) {
         Some(key) => Ok(key),
-        None => Err(Fault::here(alloc, What::KeyLength)),
+        None => Err(Fault::here(alloc, DocumentFault::KeyLength)),
     }
 }
 
@@ -138,9 +138,9 @@ impl Gather for KeyValues {
         so_far: Entries,
         element: &Value<'_>,
     ) -> Result<Entries, FieldError> {
-        known(alloc, &KEY_VALUE, element)?;
-        let key = needed(alloc, &KeyForm, element, "key")?;
-        let value = needed(alloc, &ValueForm, element, "value")?;
+        reject_unknown(alloc, &KEY_VALUE, element)?;
+        let key = required(alloc, &KeyForm, element, "key")?;
+        let value = required(alloc, &ValueForm, element, "value")?;
         new_entry(alloc, so_far, key, value)
     }
 }
@@ -154,7 +154,7 @@ fn new_entry(
     ensures { Gives (λ e. e) result (new_entry entries key value) }
 {
     if entries.has(&key) {
-        return Err(in_member(Fault::here(alloc, What::Twice), "key"));
+        return Err(in_member(Fault::here(alloc, DocumentFault::Twice), "key"));
     }
     Ok(entries.with(key, value)?)
 }
@@ -232,7 +232,7 @@ fn within(alloc: Global, form: StateForm, entries: Entries) -> Result<State, Fie
     ensures { Gives (λ s. s) result (within form entries) }
 {
     if entries.len() > usize::from(form.most) {
-        return Err(Fault::here(alloc, What::Schema));
+        return Err(Fault::here(alloc, DocumentFault::Schema));
     }
     let state = entries.into_state(alloc)?;
     let counts = state.counts();
@@ -240,6 +240,6 @@ fn within(alloc: Global, form: StateForm, entries: Entries) -> Result<State, Fie
     if counts.uints() <= usize::from(kinds.uints) && counts.bytes() <= usize::from(kinds.bytes) {
         Ok(state)
     } else {
-        Err(Fault::here(alloc, What::Schema))
+        Err(Fault::here(alloc, DocumentFault::Schema))
     }
 }

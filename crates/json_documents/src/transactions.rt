@@ -4,11 +4,11 @@ ghost use Rattle.std.specs.Prelude.{◌≡◌, [], codes, is_some, length};
 ghost use Rattle.teal_value.specs.Answer.{Gives};
 ghost use Rattle.json.specs.Find.{as_object};
 ghost use Rattle.json.specs.Value.{value_view};
-ghost use Rattle.json_documents.specs.Members.{needed, optional};
+ghost use Rattle.json_documents.specs.Members.{required, optional};
 ghost use Rattle.json_documents.specs.Plain.{bytes};
 ghost use Rattle.json_documents.specs.Programs.{given_or};
 ghost use Rattle.json_documents.specs.Sources.{program_at};
-ghost use Rattle.json_documents.specs.Transactions.{call_what, checked_call, lone_call, target, terms, transaction};
+ghost use Rattle.json_documents.specs.Transactions.{call_fault_in, checked_call, lone_call, target, terms, transaction};
 
 use crate::arrays::{Gather, each, optional_each};
 use crate::call_parts::{Target, Terms, fields};
@@ -16,14 +16,14 @@ use crate::call_values::{
     Arguments, CallAccounts, CompletionForm, ForeignApplications, LeaseForm, TypeForm,
 };
 use crate::calls::{Batch, Calls, SharedCall};
+use crate::document_fault::DocumentFault;
 use crate::fault::{Fault, FieldError};
 use crate::groups::{GroupForm, Groups};
-use crate::members::{Form, known, needed, optional};
+use crate::members::{Form, optional, reject_unknown, required};
 use crate::plain::{Bytes, PlainAddress, Uint};
 use crate::schemas::{NO_ENTRIES, SchemaForm};
 use crate::sources::{SourceField, Sources};
 use crate::tables::{SIGNED, TRANSACTION};
-use crate::what::What;
 use avm_block::MAX_ENTRIES;
 use avm_call::{Call, CallFault};
 use avm_items::{Addresses, CallData, Completion};
@@ -53,7 +53,7 @@ impl Form for TransactionForm<'_> {
         value: &Value<'_>,
     ) -> Result<(SharedCall, Option<[u8; 32]>), FieldError> {
         let group = lone_call(alloc, self.groups, value)?;
-        known(alloc, &TRANSACTION, value)?;
+        reject_unknown(alloc, &TRANSACTION, value)?;
         let target = self.target(alloc, value)?;
         let terms = terms(alloc, value)?;
         let call = checked_call(alloc, fields(alloc, target, terms)?)?;
@@ -128,7 +128,7 @@ fn terms(alloc: Global, txn: &Value<'_>) -> Result<Terms, FieldError>
     let lease = optional(alloc, &LeaseForm, [0; 32], txn, "lx")?;
     let note = optional(alloc, &Bytes, ByteString::new(), txn, "note")?;
     let rekey_to = optional(alloc, &PlainAddress, Address([0; 32]), txn, "rekey")?;
-    let sender = needed(alloc, &PlainAddress, txn, "snd")?;
+    let sender = required(alloc, &PlainAddress, txn, "snd")?;
     Ok(Terms {
         fee,
         first_valid,
@@ -150,9 +150,9 @@ fn lone_call(
     ensures { Gives (λ g. g) result (lone_call groups.now (value_view txn.now)) }
 {
     if !is_object(txn) {
-        return Err(Fault::here(alloc, What::NotObject));
+        return Err(Fault::here(alloc, DocumentFault::NotObject));
     }
-    needed(alloc, &TypeForm, txn, "type")?;
+    required(alloc, &TypeForm, txn, "type")?;
     optional(alloc, &GroupForm { groups }, None, txn, "grp")
 }
 
@@ -168,24 +168,26 @@ fn checked_call(alloc: Global, fields: CallData) -> Result<SharedCall, FieldErro
 {
     match Call::check(alloc, fields) {
         Ok(call) => Ok(SharedCall::of(&call)?),
-        Err((failure, _fields)) => { Err(failure.map(|fault| Fault::of(alloc, call_what(fault)))) }
+        Err((failure, _fields)) => {
+            Err(failure.map(|fault| Fault::of(alloc, call_fault_in(fault))))
+        }
     }
 }
 
-fn call_what(fault: CallFault) -> What
-    ensures { result ≡ call_what fault }
+fn call_fault_in(fault: CallFault) -> DocumentFault
+    ensures { result ≡ call_fault_in fault }
 {
     match fault {
-        CallFault::Accounts => What::Accounts,
-        CallFault::Args => What::Args,
-        CallFault::ArgBytes => What::ArgBytes,
-        CallFault::Foreign => What::Foreign,
-        CallFault::Note => What::Note,
-        CallFault::ProgramsMissing => What::ProgramsMissing,
-        CallFault::ProgramsGiven => What::ProgramsGiven,
-        CallFault::SchemaSize => What::SchemaSize,
-        CallFault::ClearOnCreate => What::ClearOnCreate,
-        CallFault::Program(fault) => What::Program(fault),
+        CallFault::Accounts => DocumentFault::Accounts,
+        CallFault::Args => DocumentFault::Args,
+        CallFault::ArgBytes => DocumentFault::ArgBytes,
+        CallFault::Foreign => DocumentFault::Foreign,
+        CallFault::Note => DocumentFault::Note,
+        CallFault::ProgramsMissing => DocumentFault::ProgramsMissing,
+        CallFault::ProgramsGiven => DocumentFault::ProgramsGiven,
+        CallFault::SchemaSize => DocumentFault::SchemaSize,
+        CallFault::ClearOnCreate => DocumentFault::ClearOnCreate,
+        CallFault::Program(fault) => DocumentFault::Program(fault),
     }
 }
 
@@ -203,7 +205,7 @@ impl Gather for Signed<'_> {
     ghost adding = { λ a. with_signed a.sources.now };
 
     fn add(&self, alloc: Global, so_far: Batch, element: &Value<'_>) -> Result<Batch, FieldError> {
-        known(alloc, &SIGNED, element)?;
+        reject_unknown(alloc, &SIGNED, element)?;
         let (call, group) = self.transaction(alloc, &so_far, element)?;
         Ok(so_far.with(call, group)?)
     }
@@ -217,7 +219,7 @@ impl Signed<'_> {
         so_far: &Batch,
         signed: &Value<'_>,
     ) -> Result<(SharedCall, Option<[u8; 32]>), FieldError>
-        ensures { Gives (λ t. t) result (needed (codes "txn") (transaction self.now.sources.now
+        ensures { Gives (λ t. t) result (required (codes "txn") (transaction self.now.sources.now
             so_far.now.groups (length so_far.now.calls)) (value_view signed.now)) }
     {
         let form = TransactionForm {
@@ -225,7 +227,7 @@ impl Signed<'_> {
             groups: so_far.groups(),
             index: so_far.len() as u64,
         };
-        needed(alloc, &form, signed, "txn")
+        required(alloc, &form, signed, "txn")
     }
 }
 
@@ -244,7 +246,7 @@ impl Form for TransactionsForm<'_> {
 
     fn read(&self, alloc: Global, value: &Value<'_>) -> Result<Calls, FieldError> {
         if value.at(MAX_ENTRIES).is_some() {
-            return Err(Fault::here(alloc, What::TooMany));
+            return Err(Fault::here(alloc, DocumentFault::TooMany));
         }
         let signed = Signed {
             sources: self.sources,

@@ -17,10 +17,10 @@ use Rattle.avm_rule_laws.specs.Rules.{AreBytes}
 use Rattle.json.specs.Json.{Json, Items, no_items, item}
 use Rattle.json.specs.Json as json
 use Rattle.json.specs.Find.{as_array, at, get_item}
-use Rattle.json_documents.specs.declared.what.What.TheVariants as what
+use Rattle.json_documents.specs.declared.document_fault.DocumentFault.TheVariants as what
 use Rattle.json_documents.specs.Faults.{here, in_step}
 use Rattle.json_documents.specs.Steps.{at_index}
-use Rattle.json_documents.specs.Members.{known, needed, optional}
+use Rattle.json_documents.specs.Members.{reject_unknown, required, optional}
 use Rattle.json_documents.specs.Arrays.{each, elements, gathered}
 use Rattle.json_documents.specs.Plain.{address, bytes, uint}
 use Rattle.json_documents.specs.Programs.{given_or}
@@ -98,7 +98,7 @@ terms_are j x e =
     from (optional (codes "lx") lease zeros j) _ x e3 (λ own oe e4.
     from (optional (codes "note") bytes [] j) _ x e4 (λ note ne e5.
     from (optional (codes "rekey") address zero_address j) _ x e5 (λ rekey re e6.
-    from (needed (codes "snd") address j) _ x e6 (λ sender se e7.
+    from (required (codes "snd") address j) _ x e6 (λ sender se e7.
     subst AreTerms (same_value (record { fee = fee; first_valid = first; last_valid = last; lease = own; note = note; rekey_to = rekey; sender = sender }) x e7) (record {
       fee = word_in (codes "fee") 0 j fee (omega arith) fe;
       first_valid = word_in (codes "fv") 0 j first (omega arith) ie;
@@ -203,7 +203,7 @@ module _ (P C : List ℕ → Type 0) (weakens : Weakens P C) (sources : Sources)
   transaction_is : (groups : Groups) (i : ℕ) (j : Json) (x : CallData × Option (List ℕ)) → transaction sources groups i j ≡ Ok x → IsCall C x.0
   transaction_is groups i j x e =
       from (lone_call groups j) _ x e (λ own eu e1.
-      from (known transaction_names j) _ x e1 (λ v ev e2.
+      from (reject_unknown transaction_names j) _ x e1 (λ v ev e2.
       from (target sources i j) _ x e2 (λ of eo e3.
       from (terms j) _ x e3 (λ by eb e4.
       from (checked_call (fields of by)) _ x e4 (λ c ec e5.
@@ -216,8 +216,8 @@ module _ (P C : List ℕ → Type 0) (weakens : Weakens P C) (sources : Sources)
   with_signed_keeps : (so_far : Batch) (j : Json) (x : Batch) → AreCalls so_far → with_signed sources so_far j ≡ Ok x → AreCalls x
   unfolding AreCalls
   with_signed_keeps so_far j x all e =
-      from (known signed_names j) _ x e (λ u eu e1.
-      from (needed (codes "txn") (transaction sources so_far.groups (length so_far.calls)) j) _ x e1 (λ t et e2.
+      from (reject_unknown signed_names j) _ x e (λ u eu e1.
+      from (required (codes "txn") (transaction sources so_far.groups (length so_far.calls)) j) _ x e1 (λ t et e2.
       let call = needed_gives nothing_asked (λ (t : CallData × Option (List ℕ)). IsCall C t.0) (codes "txn") (transaction sources so_far.groups (length so_far.calls)) (λ k d q is. transaction_is so_far.groups (length so_far.calls) k d is) j t tt et in
       subst AreCalls (same_value (with_call so_far t.0 t.1) x e2) (All-push (IsCall C) so_far.calls t.0 all call)))
 
@@ -254,8 +254,8 @@ how_many b = length b.calls
 one_more : (sources : Sources) (so_far : Batch) (j : Json) (next : Batch) → with_signed sources so_far j ≡ Ok next → how_many next ≡ how_many so_far + 1
 unfolding how_many
 one_more sources so_far j next e =
-    from (known signed_names j) _ next e (λ u eu e1.
-    from (needed (codes "txn") (transaction sources so_far.groups (length so_far.calls)) j) _ next e1 (λ t et e2.
+    from (reject_unknown signed_names j) _ next e (λ u eu e1.
+    from (required (codes "txn") (transaction sources so_far.groups (length so_far.calls)) j) _ next e1 (λ t et e2.
     let same : length (so_far.calls ++ t.0 ∷ []) ≡ length next.calls = ap (λ (b : Batch). length b.calls) (same_value (with_call so_far t.0 t.1) next e2) in
     omega (arith, length-append so_far.calls (t.0 ∷ []), same)))
 

@@ -9,7 +9,7 @@ use Rattle.avm_block.specs.BlockRoundTrip.{IsHeader}
 use Rattle.avm_block.specs.Blocks.{most_calls}
 use Rattle.avm_rule_laws.specs.Rules.{AreBytes, IsCallOfBytes}
 use Rattle.json.specs.Json.{Json}
-use Rattle.json_documents.specs.Members.{known, optional}
+use Rattle.json_documents.specs.Members.{reject_unknown, optional}
 use Rattle.json_documents.specs.Arrays.{each}
 use Rattle.json_documents.specs.Plain.{uint}
 use Rattle.json_documents.specs.Documents.{Document, Front, all_sources, document, front, ledger}
@@ -72,7 +72,7 @@ pub record IsAccepted (P C : List ℕ → Type 0) (x : Document) : Type 0 where
 pub document_is : {Q : Json → Type 0} (inherited : IsInherited Q) (P C : List ℕ → Type 0) → ProgramsGive Q P → Weakens P C → (j : Json) (x : Document) → Q j
     → ((sources : Sources) → all_sources (has_placeholders j) j ≡ Ok sources → AreSources P sources) → document j ≡ Ok x → IsAccepted P C x
 document_is inherited P C programs weakens j x q give e =
-    from (known document_names j) _ x e (λ u eu e1.
+    from (reject_unknown document_names j) _ x e (λ u eu e1.
     from (front j) _ x e1 (λ f ef e2.
     from (all_sources (has_placeholders j) j) _ x e2 (λ sources es e3.
     from (ledger (has_placeholders j) f.next_id sources j) _ x e3 (λ l el e4.

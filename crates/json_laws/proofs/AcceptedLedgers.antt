@@ -20,9 +20,9 @@ use Rattle.avm_ledger.proofs.Changes.{account_same, account_total}
 use Rattle.avm_states.proofs.Maps.{sorted-inserted}
 use Rattle.avm_rule_laws.specs.Rules.{AreBytes}
 use Rattle.json.specs.Json.{Json}
-use Rattle.json_documents.specs.declared.what.What.TheVariants.{Differs, IdRange}
+use Rattle.json_documents.specs.declared.document_fault.DocumentFault.TheVariants.{Differs, IdRange}
 use Rattle.json_documents.specs.Faults.{here}
-use Rattle.json_documents.specs.Members.{known, needed, optional}
+use Rattle.json_documents.specs.Members.{reject_unknown, required, optional}
 use Rattle.json_documents.specs.Deleted.{still_known}
 use Rattle.json_documents.specs.Arrays.{each}
 use Rattle.json_documents.specs.Plain.{address, uint}
@@ -186,7 +186,7 @@ local_state_beside_kept P end (Some old) l who id s x d whole below fits e = sub
 local_kept : (P : List ℕ → Type 0) (end : ℕ) (who : Address) (l : Ledger) (j : Json) (x : Ledger) → IsWholeAddress who → IsDraft P end l → local end who l j ≡ Ok x → IsDraft P end x
 local_kept P end who l j x whole d e =
     from (still_known local_names j) _ x e (λ u eu e1.
-    from (needed (codes "id") (id_below end) j) _ x e1 (λ id ei e2.
+    from (required (codes "id") (id_below end) j) _ x e1 (λ id ei e2.
     from (optional (codes "key-value") (state (local_room (application_at l id))) [] j) _ x e2 (λ s es e3.
     let below = needed_gives nothing_asked (IsIdBelow end) (codes "id") (id_below end) (λ k n q is. id_is_below end k n is) j id tt ei in
     let room = local_room (application_at l id) in
@@ -196,7 +196,7 @@ local_kept P end who l j x whole d e =
 account_kept : (P : List ℕ → Type 0) (there : Bool) (end : ℕ) (l : Ledger) (j : Json) (x : Ledger) → IsDraft P end l → account there end l j ≡ Ok x → IsDraft P end x
 account_kept P there end l j x d e =
     from (still_known account_names j) _ x e (λ u eu e1.
-    from (needed (codes "address") address j) _ x e1 (λ who ew e2.
+    from (required (codes "address") address j) _ x e1 (λ who ew e2.
     let whole = needed_gives nothing_asked IsWholeAddress (codes "address") address (λ k a q is. address_whole k a is) j who tt ew in
     optional_gives nothing_asked (IsDraft P end) (codes "apps-local-state") (each (unless_placeholder there (local end who)) l) l d
     (each_keeps nothing_asked (IsDraft P end) (unless_placeholder there (local end who)) l
@@ -209,16 +209,16 @@ pub record ProgramsGive (Q : Json → Type 0) (P : List ℕ → Type 0) : Type 0
 module _ {Q : Json → Type 0} (inherited : IsInherited Q) (P : List ℕ → Type 0) (programs : ProgramsGive Q P) (sources : Sources) (are : AreSources P sources) where
   params_kept : (id : ℕ) → Gives Q (IsStored P) (params sources id)
   params_kept id j x q e =
-      from (known params_names j) _ x e (λ u eu e1.
-      from (given_or (program_for sources.approvals id) (needed (codes "approval-program") program j)) _ x e1 (λ approval ea e2.
-      from (given_or (program_for sources.clears id) (needed (codes "clear-state-program") program j)) _ x e2 (λ clear ec e3.
-      from (needed (codes "creator") address j) _ x e3 (λ creator er e4.
+      from (reject_unknown params_names j) _ x e (λ u eu e1.
+      from (given_or (program_for sources.approvals id) (required (codes "approval-program") program j)) _ x e1 (λ approval ea e2.
+      from (given_or (program_for sources.clears id) (required (codes "clear-state-program") program j)) _ x e2 (λ clear ec e3.
+      from (required (codes "creator") address j) _ x e3 (λ creator er e4.
       from (limits j) _ x e4 (λ l el e5.
       let within = limits_kept j l el in
       subst (IsStored P) (same_value (record { row = record { creator = creator; approval = approval; clear = clear; global_schema = l.global_schema; local_schema = l.local_schema }; state = l.state }) x e5) (record {
         creator = needed_gives nothing_asked IsWholeAddress (codes "creator") address (λ k a q is. address_whole k a is) j creator tt er;
-        approval = given_program_keeps P sources.approvals id (needed (codes "approval-program") program j) approval are.approvals (λ is. needed_gives inherited P (codes "approval-program") program programs.as_bytes j approval q is) ea;
-        clear = given_program_keeps P sources.clears id (needed (codes "clear-state-program") program j) clear are.clears (λ is. needed_gives inherited P (codes "clear-state-program") program programs.as_bytes j clear q is) ec;
+        approval = given_program_keeps P sources.approvals id (required (codes "approval-program") program j) approval are.approvals (λ is. needed_gives inherited P (codes "approval-program") program programs.as_bytes j approval q is) ea;
+        clear = given_program_keeps P sources.clears id (required (codes "clear-state-program") program j) clear are.clears (λ is. needed_gives inherited P (codes "clear-state-program") program programs.as_bytes j clear q is) ec;
         global_schema = within.global_schema;
         local_schema = within.local_schema;
         state = within.state;
@@ -227,8 +227,8 @@ module _ {Q : Json → Type 0} (inherited : IsInherited Q) (P : List ℕ → Typ
   application_kept : (end : ℕ) → Keeps Q (IsFirstDraft P end) (application end sources)
   application_kept end l j x q d e =
       from (still_known application_names j) _ x e (λ u eu e1.
-      from (needed (codes "id") (id_below end) j) _ x e1 (λ id ei e2.
-      from (needed (codes "params") (params sources id) j) _ x e2 (λ app ea e3.
+      from (required (codes "id") (id_below end) j) _ x e1 (λ id ei e2.
+      from (required (codes "params") (params sources id) j) _ x e2 (λ app ea e3.
       let below = needed_gives nothing_asked (IsIdBelow end) (codes "id") (id_below end) (λ k n q is. id_is_below end k n is) j id tt ei in
       let stored = needed_gives inherited (IsStored P) (codes "params") (params sources id) (params_kept id) j app q ea in
       application_beside_kept P end (application_at l id) l id app x d below stored e3)))

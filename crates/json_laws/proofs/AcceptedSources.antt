@@ -11,10 +11,10 @@ use Rattle.teal_check.specs.declared.fault.CheckFault.{CheckFault}
 use Rattle.teal_check.specs.WellFormed.{WellFormed, checked}
 use Rattle.teal_asm.specs.Program.{assembled}
 use Rattle.json.specs.Json.{Json}
-use Rattle.json_documents.specs.declared.what.What.TheVariants.{Twice}
+use Rattle.json_documents.specs.declared.document_fault.DocumentFault.TheVariants.{Twice}
 use Rattle.json_documents.specs.Faults.{Fault, here, in_step}
 use Rattle.json_documents.specs.Steps.{at_name}
-use Rattle.json_documents.specs.Members.{known, needed, optional}
+use Rattle.json_documents.specs.Members.{reject_unknown, required, optional}
 use Rattle.json_documents.specs.Arrays.{each}
 use Rattle.json_documents.specs.Placeholders.{is_source_of_placeholder}
 use Rattle.json_documents.specs.Plain.{bytes, text, uint}
@@ -113,10 +113,10 @@ is_named j for e = from (text j) _ for e (λ name en e1. (name, e1))
 module _ {Q : Json → Type 0} (inherited : IsInherited Q) where
   source_kept : (P : List ℕ → Type 0) → TextsGive Q P → Keeps Q (AreSources P) with_source
   source_kept P gives s j x q are e =
-      from (known source_names j) _ x e (λ u eu e1.
+      from (reject_unknown source_names j) _ x e (λ u eu e1.
       from (optional (codes "app-index") uint 0 j) _ x e1 (λ app ea e2.
-      from (needed (codes "field-name") source_field j) _ x e2 (λ for ef e3.
-      from (needed (codes "source") text j) _ x e3 (λ source es e4.
+      from (required (codes "field-name") source_field j) _ x e2 (λ for ef e3.
+      from (required (codes "source") text j) _ x e3 (λ source es e4.
       from (optional (codes "txn-index") uint 0 j) _ x e4 (λ txn et e5.
       let named = needed_gives inherited (λ f. (name : List ℕ) × (field_named name ≡ Ok f)) (codes "field-name") source_field (λ k f qk is. is_named k f is) j for q ef in
       only_one P s x named.0 for (index_of for app txn) source named.1 are (needed_gives inherited (λ t. (code : List ℕ) → program_of_source t ≡ Ok code → P code) (codes "source") text (λ k t qk ek code ec. gives k t code qk ek ec) j source q es) e5)))))

@@ -3,10 +3,10 @@ use Rattle.std.proofs.Common.{◌≡◌, ℕ, ◌+◌, Bool, true, false, cond, 
 pub use Rattle.avm_ledger.proofs.FieldsSpelled.{from, same_value}
 use Rattle.json.specs.Json.{Json, Items, no_items, item}
 use Rattle.json.specs.Find.{get, is_null, as_array}
-use Rattle.json_documents.specs.declared.what.What.{What}
+use Rattle.json_documents.specs.declared.document_fault.DocumentFault.{DocumentFault}
 use Rattle.json_documents.specs.Steps.{Step, at_index}
 use Rattle.json_documents.specs.Faults.{Fault, in_step, or_else_fault}
-use Rattle.json_documents.specs.Members.{unless_null, member, needed_in, optional_in, needed, optional}
+use Rattle.json_documents.specs.Members.{unless_null, member, needed_in, optional_in, required, optional}
 use Rattle.json_documents.specs.Arrays.{gathered, elements, each}
 use Rattle.json_documents.specs.Placeholders.{is_placeholder, unless_placeholder}
 
@@ -25,7 +25,7 @@ without_step s (Ok y) x e = e
 without_step s (Err f) x e = absurd cc
 
 -- what was read without a fault is there
-pub there : {A : Type 0} (o : Option A) (w : What) (x : A) → or_else_fault o w ≡ Ok x → o ≡ Some x
+pub there : {A : Type 0} (o : Option A) (w : DocumentFault) (x : A) → or_else_fault o w ≡ Ok x → o ≡ Some x
 there (Some y) w x e = let same : y ≡ x = same_value y x e in cc
 there None w x e = absurd cc
 
@@ -82,7 +82,7 @@ gathered_keeps Q P one i start (item j js) x keeps p q e =
 
 module _ {Q : Json → Type 0} (inherited : IsInherited Q) where
   -- a needed member keeps what the values of its reader keep
-  pub needed_gives : {A : Type 0} (P : A → Type 0) (name : List ℕ) (meaning : Json → Result A Fault) → Gives Q P meaning → Gives Q P (needed name meaning)
+  pub needed_gives : {A : Type 0} (P : A → Type 0) (name : List ℕ) (meaning : Json → Result A Fault) → Gives Q P meaning → Gives Q P (required name meaning)
   needed_gives P name meaning gives j x q e = needed_by Q P name meaning (member name j) x gives (λ k is. inherited.members name j k q (not_null (get name j) k is)) e
 
   pub optional_gives : {A : Type 0} (P : A → Type 0) (name : List ℕ) (meaning : Json → Result A Fault) (default : A) → P default → Gives Q P meaning → Gives Q P (optional name meaning default)

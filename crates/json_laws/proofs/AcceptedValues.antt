@@ -31,10 +31,10 @@ use Rattle.avm_ledger.specs.LedgerRules.{IsStateValue, IsStateEntry, IsStateIn}
 use Rattle.avm_rule_laws.specs.Rules.{AreBytes}
 use Rattle.json.specs.Json.{Json}
 use Rattle.json.specs.Find.{as_number}
-use Rattle.json_documents.specs.declared.what.What.TheVariants.{KeyLength, OtherKind, Schema as NoRoom, SchemaSize, TooLong, Twice}
+use Rattle.json_documents.specs.declared.document_fault.DocumentFault.TheVariants.{KeyLength, OtherKind, Schema as NoRoom, SchemaSize, TooLong, Twice}
 use Rattle.json_documents.specs.Faults.{here, in_step}
 use Rattle.json_documents.specs.Steps.{at_name}
-use Rattle.json_documents.specs.Members.{known, needed, optional}
+use Rattle.json_documents.specs.Members.{reject_unknown, required, optional}
 use Rattle.json_documents.specs.Arrays.{each}
 use Rattle.json_documents.specs.Plain.{has_zero_in_front, decimal_of, uint, on_address, text, bytes, address}
 use Rattle.json_documents.specs.Schemas.{schema}
@@ -117,7 +117,7 @@ address_whole j who e = from (text j) _ who e (λ s es e1. address_whole_of s wh
 
 schema_limited : (bytes_name uints_name : List ℕ) (most : ℕ) (j : Json) (s : Schema) → schema bytes_name uints_name most j ≡ Ok s → s.uints + s.bytes ≤ most
 schema_limited bytes_name uints_name most j s e =
-    from (known (bytes_name ∷ uints_name ∷ []) j) _ s e (λ u eu e1.
+    from (reject_unknown (bytes_name ∷ uints_name ∷ []) j) _ s e (λ u eu e1.
     from (optional bytes_name uint 0 j) _ s e1 (λ b eb e2.
     from (optional uints_name uint 0 j) _ s e2 (λ n en e3.
     let p = passed (leb (b + n) most) (record { uints = n; bytes = b }) s (here SchemaSize) e3 in
@@ -185,8 +185,8 @@ of_kind_fits false s n v of_bytes small e = subst IsValue (passed (eqb (length s
 
 value_fits : (j : Json) (v : Value) → value j ≡ Ok v → IsValue v
 value_fits j v e =
-    from (known value_names j) _ v e (λ u eu e1.
-    from (needed (codes "type") kind j) _ v e1 (λ is_bytes ek e2.
+    from (reject_unknown value_names j) _ v e (λ u eu e1.
+    from (required (codes "type") kind j) _ v e1 (λ is_bytes ek e2.
     from (optional (codes "bytes") bytes [] j) _ v e2 (λ s es e3.
     from (optional (codes "uint") uint 0 j) _ v e3 (λ n en e4.
     of_kind_fits is_bytes s n v (bytes_in (codes "bytes") j s es) (word_in (codes "uint") 0 j n (omega arith) en) e4))))
@@ -213,9 +213,9 @@ new_entry_kept es k v x are a b e = by (is_some (value_of_key es k)) e
 
 entry_kept : (es : Entries) (j : Json) (x : Entries) → AreStateEntries es → with_key_value es j ≡ Ok x → AreStateEntries x
 entry_kept es j x are e =
-    from (known key_value_names j) _ x e (λ u eu e1.
-    from (needed (codes "key") key j) _ x e1 (λ k ek e2.
-    from (needed (codes "value") value j) _ x e2 (λ v ev e3.
+    from (reject_unknown key_value_names j) _ x e (λ u eu e1.
+    from (required (codes "key") key j) _ x e1 (λ k ek e2.
+    from (required (codes "value") value j) _ x e2 (λ v ev e3.
     let a = needed_gives nothing_asked IsKey (codes "key") key (λ i s q is. key_is i s is) j k tt ek in
     let b = needed_gives nothing_asked IsValue (codes "value") value (λ i w q is. value_fits i w is) j v tt ev in
     new_entry_kept es k v x are a b e3)))

@@ -250,29 +250,29 @@ few_are all e =
     record { uints = ltb-false 256 (length (gathered_uints all)) parts.0; strings = ltb-false 256 (length (gathered_strings all)) parts.1 }
 
 instruction_fits : (all : List Statement) (n line : ℕ) (c : Command) (i : Meant) → AreFew all → IsKnown (gathered_uints all) (gathered_strings all) (Some c) → IsFitCommand c → instruction all n line c ≡ Ok i → IsFitMeant i
-instruction_fits all n line (Int v) i few known fits e =
-    let within = place_within (nat_eq v) (gathered_uints all) known in
+instruction_fits all n line (Int v) i few reject_unknown fits e =
+    let within = place_within (nat_eq v) (gathered_uints all) reject_unknown in
     subst IsFitMeant (same_value (read_uint_constant (position_or_len (nat_eq v) (gathered_uints all))) i e) (uint_constant_fits (position_or_len (nat_eq v) (gathered_uints all)) (omega (arith, within, few.uints)))
-instruction_fits all n line (Byte s) i few known fits e =
-    let within = place_within (bytes_eq s) (gathered_strings all) known in
+instruction_fits all n line (Byte s) i few reject_unknown fits e =
+    let within = place_within (bytes_eq s) (gathered_strings all) reject_unknown in
     subst IsFitMeant (same_value (read_byte_constant (position_or_len (bytes_eq s) (gathered_strings all))) i e) (byte_constant_fits (position_or_len (bytes_eq s) (gathered_strings all)) (omega (arith, within, few.strings)))
-instruction_fits all n line (Jump o name) i few known fits e = branch_fits line o n (label_number (length (gathered_blocks all)) all name) i e
-instruction_fits all n line (Plain o m) i few known fits e = subst IsFitMeant (same_value (Straight o m) i e) fits
+instruction_fits all n line (Jump o name) i few reject_unknown fits e = branch_fits line o n (label_number (length (gathered_blocks all)) all name) i e
+instruction_fits all n line (Plain o m) i few reject_unknown fits e = subst IsFitMeant (same_value (Straight o m) i e) fits
 
 optional_instruction_fits : (all : List Statement) (n line : ℕ) (c : Option Command) (is : List Meant) → AreFew all → IsKnown (gathered_uints all) (gathered_strings all) c → IsFitIfThere c → optional_instruction all n line c ≡ Ok is → All IsFitMeant is
-optional_instruction_fits all n line None is few known fits e = subst (All IsFitMeant) (same_value [] is e) (All-nil IsFitMeant)
-optional_instruction_fits all n line (Some c) is few known fits e =
+optional_instruction_fits all n line None is few reject_unknown fits e = subst (All IsFitMeant) (same_value [] is e) (All-nil IsFitMeant)
+optional_instruction_fits all n line (Some c) is few reject_unknown fits e =
     from (instruction all n line c) _ is e (λ i ei e1.
-    subst (All IsFitMeant) (same_value (i ∷ []) is e1) (All-cons IsFitMeant i [] (instruction_fits all n line c i few known fits ei) (All-nil IsFitMeant)))
+    subst (All IsFitMeant) (same_value (i ∷ []) is e1) (All-cons IsFitMeant i [] (instruction_fits all n line c i few reject_unknown fits ei) (All-nil IsFitMeant)))
 
 instructions_fit : (all : List Statement) (n : ℕ) (ss : List Statement) (is : List Meant) → AreFew all → All (λ (s : Statement). IsKnown (gathered_uints all) (gathered_strings all) s.command) ss → All IsFitStatement ss → instructions all n ss ≡ Ok is → All IsFitMeant is
 unfolding instructions
-instructions_fit all n [] is few known fit e = subst (All IsFitMeant) (same_value [] is e) (All-nil IsFitMeant)
-instructions_fit all n (s ∷ ss) is few known fit e =
+instructions_fit all n [] is few reject_unknown fit e = subst (All IsFitMeant) (same_value [] is e) (All-nil IsFitMeant)
+instructions_fit all n (s ∷ ss) is few reject_unknown fit e =
     from (optional_instruction all n s.line s.command) _ is e (λ i ei e1.
     from (instructions all (n + commands_in s.command) ss) _ is e1 (λ js ej e2.
-    let one = optional_instruction_fits all n s.line s.command i few (All-head (λ (s : Statement). IsKnown (gathered_uints all) (gathered_strings all) s.command) s ss known) (All-head IsFitStatement s ss fit) ei in
-    let more = instructions_fit all (n + commands_in s.command) ss js few (All-tail (λ (s : Statement). IsKnown (gathered_uints all) (gathered_strings all) s.command) s ss known) (All-tail IsFitStatement s ss fit) ej in
+    let one = optional_instruction_fits all n s.line s.command i few (All-head (λ (s : Statement). IsKnown (gathered_uints all) (gathered_strings all) s.command) s ss reject_unknown) (All-head IsFitStatement s ss fit) ei in
+    let more = instructions_fit all (n + commands_in s.command) ss js few (All-tail (λ (s : Statement). IsKnown (gathered_uints all) (gathered_strings all) s.command) s ss reject_unknown) (All-tail IsFitStatement s ss fit) ej in
     subst (All IsFitMeant) (same_value (i ++ js) is e2) (All-append IsFitMeant i js one more)))
 
 -- ---- blocks

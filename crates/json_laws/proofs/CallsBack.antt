@@ -114,7 +114,7 @@ record ShowsCall (c : CallData) (ps : List Place) : Type 0 where
   snd : under (codes "snd") ps ≡ Some (address c.sender)
   type : under (codes "type") ps ≡ Some (text (codes "appl"))
   grp : under (codes "grp") ps ≡ None
-  known : are_among transaction_names ps ≡ true
+  reject_unknown : are_among transaction_names ps ≡ true
 
 shows : (c : CallData) → ShowsCall c (call_places c)
 shows c = record {
@@ -136,7 +136,7 @@ shows c = record {
   snd = refl;
   type = refl;
   grp = refl;
-  known = refl;
+  reject_unknown = refl;
 }
 
 module _ (c : CallData) (ps : List Place) (is : ShowsCall c ps) (of : IsCallOfBytes c) where
@@ -211,7 +211,7 @@ call_back c groups i of none =
         → entries_in c.local_schema ≤ most_local_entries → transaction no_sources groups i (object_of (present ps)) ≡ Ok (c, None)
     checked c ps is of i none global local =
         then _ _ _ _ (lone_back c ps is of groups)
-        (then _ _ _ _ (all_known transaction_names ps is.known)
+        (then _ _ _ _ (all_known transaction_names ps is.reject_unknown)
         (then _ _ _ _ (target_back c ps is of i global local)
         (then _ _ _ _ (terms_back c ps is of)
         (then _ _ _ _ (ap (unless_broken c) none) refl))))

@@ -13,10 +13,10 @@ use Rattle.avm_ledger.specs.LedgerRules.{IsCountable}
 use Rattle.avm_ledger.specs.Ledgers.{Ledger, account_cmp, application_at, local_state_at, with_application, with_local_state}
 use Rattle.json.specs.Json.{Json, Items, no_items, item}
 use Rattle.json.specs.Find.{as_array, get}
-use Rattle.json_documents.specs.declared.what.What.TheVariants.{Differs, NotArray}
+use Rattle.json_documents.specs.declared.document_fault.DocumentFault.TheVariants.{Differs, NotArray}
 use Rattle.json_documents.specs.Faults.{Fault, here, in_step}
 use Rattle.json_documents.specs.Steps.{at_index}
-use Rattle.json_documents.specs.Members.{known, member, needed, optional, optional_in}
+use Rattle.json_documents.specs.Members.{reject_unknown, member, required, optional, optional_in}
 use Rattle.json_documents.specs.Arrays.{each, elements, gathered}
 use Rattle.json_documents.specs.Plain.{address}
 use Rattle.json_documents.specs.Deleted.{still_known}
@@ -84,13 +84,13 @@ local_count (Some old) l who id s x e = subst (λ y. count y ≤ suc (count l)) 
 one_application : (end : ℕ) (sources : Sources) (l : Ledger) (j : Json) (x : Ledger) → application end sources l j ≡ Ok x → count x ≤ count l + (1 + weight j)
 one_application end sources l j x e =
     from (still_known application_names j) _ x e (λ u eu e1.
-    from (needed (codes "id") (id_below end) j) _ x e1 (λ id ei e2.
-    from (needed (codes "params") (params sources id) j) _ x e2 (λ app ea e3. omega (arith, application_count (application_at l id) l id app x e3))))
+    from (required (codes "id") (id_below end) j) _ x e1 (λ id ei e2.
+    from (required (codes "params") (params sources id) j) _ x e2 (λ app ea e3. omega (arith, application_count (application_at l id) l id app x e3))))
 
 one_local : (end : ℕ) (who : Address) (l : Ledger) (j : Json) (x : Ledger) → local end who l j ≡ Ok x → count x ≤ count l + (1 + weight j)
 one_local end who l j x e =
     from (still_known local_names j) _ x e (λ u eu e1.
-    from (needed (codes "id") (id_below end) j) _ x e1 (λ id ei e2.
+    from (required (codes "id") (id_below end) j) _ x e1 (λ id ei e2.
     from (optional (codes "key-value") (state (local_room (application_at l id))) [] j) _ x e2 (λ s es e3. omega (arith, local_count (local_state_at l who id) l who id s x e3))))
 
 -- an element that is passed over adds nothing
@@ -100,7 +100,7 @@ passing_count there one more l j x e = passed_or_read (λ y. count y ≤ count l
 one_account : (there : Bool) (end : ℕ) (l : Ledger) (j : Json) (x : Ledger) → account there end l j ≡ Ok x → count x ≤ count l + (1 + weight j)
 one_account there end l j x e =
     from (still_known account_names j) _ x e (λ u eu e1.
-    from (needed (codes "address") address j) _ x e1 (λ who ew e2.
+    from (required (codes "address") address j) _ x e1 (λ who ew e2.
     omega (arith, optional_count (codes "apps-local-state") (each (unless_placeholder there (local end who)) l) l j x (λ k y is. each_count (unless_placeholder there (local end who)) l k y (passing_count there (local end who) (λ m i z got. one_local end who m i z got)) is) e2)))
 
 bare_count : (next : Option ℕ) → count (bare_ledger next) ≡ 0
@@ -118,7 +118,7 @@ ledger_count there next sources j x e =
 
 document_count : (j : Json) (x : Document) → document j ≡ Ok x → count x.ledger ≤ 2 * weight j
 document_count j x e =
-    from (known document_names j) _ x e (λ u eu e1.
+    from (reject_unknown document_names j) _ x e (λ u eu e1.
     from (front j) _ x e1 (λ f ef e2.
     from (all_sources (has_placeholders j) j) _ x e2 (λ sources es e3.
     from (ledger (has_placeholders j) f.next_id sources j) _ x e3 (λ l el e4.

@@ -7,7 +7,7 @@ use Rattle.teal_asm.specs.Program.{assembled}
 use Rattle.avm_rule_laws.specs.Rules.{AreBytes}
 use Rattle.json.specs.Json.{Json, null, boolean, number, string, array, object, Items, no_items, item, Members, no_members, member}
 use Rattle.json.specs.Find.{as_array, as_str, get, get_member, later_or}
-use Rattle.json_documents.specs.declared.what.What.TheVariants.{NotText}
+use Rattle.json_documents.specs.declared.document_fault.DocumentFault.TheVariants.{NotText}
 use Rattle.json_documents.specs.Arrays.{each}
 use Rattle.json_documents.specs.Plain.{bytes}
 use Rattle.json_documents.specs.Documents.{Document, document}

@@ -6,7 +6,7 @@ use Rattle.std.specs.Str.{bytes_eq}
 use Rattle.json.specs.Json.{Json}
 use Rattle.json.specs.Find.{get_member, is_null, later_or}
 use Rattle.json_documents.specs.Faults.{Fault, in_step}
-use Rattle.json_documents.specs.Members.{is_among, known, least_unknown, lesser, member, needed, needed_in, optional, optional_in, unless_null, unless_unknown}
+use Rattle.json_documents.specs.Members.{is_among, reject_unknown, least_unknown, lesser, member, required, needed_in, optional, optional_in, unless_null, unless_unknown}
 use Rattle.json_documents.specs.Steps.{at_name}
 use Rattle.json_views.specs.Documents.{Member, members_of, object_of}
 use Rattle.json_views.specs.ShownCalls.{if_not}
@@ -63,7 +63,7 @@ none_unknown names (p ∷ ps) h =
     none_unknown_with names p.0 p.1 (present ps) parts.0 (none_unknown names ps parts.1)
 
 -- an object of members whose names are among these has no unknown name
-pub all_known : (names : List (List ℕ)) (ps : List Place) → are_among names ps ≡ true → known names (object_of (present ps)) ≡ Ok tt
+pub all_known : (names : List (List ℕ)) (ps : List Place) → are_among names ps ≡ true → reject_unknown names (object_of (present ps)) ≡ Ok tt
 all_known names ps h = ap unless_unknown (none_unknown names ps h)
 
 -- ---- members that may be left out
@@ -83,7 +83,7 @@ member_of name ps o is = ap unless_null (found name ps ∙ is)
 
 -- what a member is read as, where it is there and no `null`
 pub needed_back : {A : Type 0} (name : List ℕ) (meaning : Json → Result A Fault) (x : A) (ps : List Place) (j : Json) → under name ps ≡ Some j → is_null j ≡ false → meaning j ≡ Ok x
-    → needed name meaning (object_of (present ps)) ≡ Ok x
+    → required name meaning (object_of (present ps)) ≡ Ok x
 needed_back name meaning x ps j is other e =
     ap (needed_in name meaning) (member_of name ps (Some j) is ∙ ap (λ b. if b then None else Some j) other) ∙ ap (in_step (at_name name)) e
 

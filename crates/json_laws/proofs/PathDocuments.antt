@@ -10,11 +10,11 @@ use Rattle.avm_ledger.specs.LedgerReader.{local_room, room_of_schema, stored_in}
 use Rattle.avm_ledger.specs.Ledgers.{Ledger, application_at, local_state_at, with_local_state}
 use Rattle.json.specs.Json.{Json}
 use Rattle.json.specs.Find.{at}
-use Rattle.json_documents.specs.declared.what.What.{What}
-use Rattle.json_documents.specs.declared.what.What.TheVariants as what
+use Rattle.json_documents.specs.declared.document_fault.DocumentFault.{DocumentFault}
+use Rattle.json_documents.specs.declared.document_fault.DocumentFault.TheVariants as what
 use Rattle.json_documents.specs.Steps.{Step, at_index, at_name}
 use Rattle.json_documents.specs.Faults.{Fault, here, in_step}
-use Rattle.json_documents.specs.Members.{known, needed, needed_in, optional}
+use Rattle.json_documents.specs.Members.{reject_unknown, required, needed_in, optional}
 use Rattle.json_documents.specs.Arrays.{each}
 use Rattle.json_documents.specs.Plain.{address, text, uint}
 use Rattle.json_documents.specs.Deleted.{still_known}
@@ -58,21 +58,21 @@ beside_same (Some old) l y who id entries e = ap (λ (x : Ledger). x.application
 local_same : (end : ℕ) (who : Address) (l : Ledger) (j : Json) (y : Ledger) → local end who l j ≡ Ok y → y.applications ≡ l.applications
 local_same end who l j y e =
     let u = bind_ok (still_known local_names j) _ y e in
-    let id = bind_ok (needed (codes "id") (id_below end) j) _ y u.2 in
+    let id = bind_ok (required (codes "id") (id_below end) j) _ y u.2 in
     let entries = bind_ok (optional (codes "key-value") (state (local_room (application_at l id.0))) [] j) _ y id.2 in
     beside_same (local_state_at l who id.0) l y who id.0 entries.0 entries.2
 
 account_same : (there : Bool) (end : ℕ) (l : Ledger) (j : Json) (y : Ledger) → account there end l j ≡ Ok y → y.applications ≡ l.applications
 account_same there end l j y e =
     let u = bind_ok (still_known account_names j) _ y e in
-    let who = bind_ok (needed (codes "address") address j) _ y u.2 in
+    let who = bind_ok (required (codes "address") address j) _ y u.2 in
     optional_gives nothing_asked (λ (x : Ledger). x.applications ≡ l.applications) (codes "apps-local-state") (each (unless_placeholder there (local end who.0)) l) l refl
     (each_keeps nothing_asked (λ (x : Ledger). x.applications ≡ l.applications) (unless_placeholder there (local end who.0)) l
     (passing_keeps (λ j. Unit {0}) (λ (x : Ledger). x.applications ≡ l.applications) there (local end who.0) (λ so_far v x q kept read. local_same end who.0 so_far v x read ∙ kept)) refl) j y tt who.2
 
 -- ---- accounts
 
-id_is_uint : (end : ℕ) (j : Json) (id : ℕ) → needed (codes "id") (id_below end) j ≡ Ok id → needed (codes "id") uint j ≡ Ok id
+id_is_uint : (end : ℕ) (j : Json) (id : ℕ) → required (codes "id") (id_below end) j ≡ Ok id → required (codes "id") uint j ≡ Ok id
 id_is_uint end j id e =
     let there = needed_read (codes "id") (id_below end) j id e in
     let read = bind_ok (uint there.0) (in_range end) id there.2 in
@@ -83,7 +83,7 @@ located_local : (next : Option ℕ) (who : Address) (apps l : Ledger) (p : Spot)
     → (local (end_of_ids next) who l p.value ≡ Err (here what.Differs) → IsSecondLocalState p.document p.path p.value) → Located p (local (end_of_ids next) who l p.value)
 located_local next who apps l p names given read same second =
     located_bind p (still_known local_names p.value) _ (located_still_known local_names p names) (λ u is.
-    located_bind p (needed (codes "id") (id_below (end_of_ids next)) p.value) _ (located_needed (codes "id") refl (id_below (end_of_ids next)) p (still_object local_names p.value u is) (λ v e. located_id_below next (into p (at_name (codes "id")) v e) given (p.path, refl))) (λ id i.
+    located_bind p (required (codes "id") (id_below (end_of_ids next)) p.value) _ (located_needed (codes "id") refl (id_below (end_of_ids next)) p (still_object local_names p.value u is) (λ v e. located_id_below next (into p (at_name (codes "id")) v e) given (p.path, refl))) (λ id i.
     located_bind p (optional (codes "key-value") (state (local_room (application_at l id))) [] p.value) _
     (located_optional (codes "key-value") refl (state (local_room (application_at l id))) [] p (λ v e. located_state (local_room (application_at l id)) (into p (at_name (codes "key-value")) v e) refl (λ full.
     (p.value, local_room (application_at l id), p.leads, inr (refl, (id, apps, id_is_uint (end_of_ids next) p.value id i, read, ap (λ stored. local_room (stored_in stored id)) same)), full)))) (λ entries e.
@@ -93,7 +93,7 @@ located_account : (next : Option ℕ) (apps l : Ledger) (p : Spot) → account_n
     → Before (account (has_placeholders p.document) (end_of_ids next)) apps p.path p.document l → Located p (account (has_placeholders p.document) (end_of_ids next) l p.value)
 located_account next apps l p names given read same before =
     located_bind p (still_known account_names p.value) _ (located_still_known account_names p names) (λ u is.
-    located_bind p (needed (codes "address") address p.value) _ (located_needed (codes "address") refl address p (still_object account_names p.value u is) (λ v e. located_address _)) (λ who w.
+    located_bind p (required (codes "address") address p.value) _ (located_needed (codes "address") refl address p (still_object account_names p.value u is) (λ v e. located_address _)) (λ who w.
     let one = local (end_of_ids next) who in
     let each_one = unless_placeholder (has_placeholders p.document) one in
     located_optional (codes "apps-local-state") refl (each each_one l) l p (λ v e.
@@ -118,12 +118,12 @@ located_limits p =
 
 located_params : (sources : Sources) (id : ℕ) (p : Spot) → params_names ≡ table p.path → Located p (params sources id p.value)
 located_params sources id p names =
-    located_bind p (known params_names p.value) _ (located_known params_names p names) (λ u is.
-    located_bind p (given_or (program_for sources.approvals id) (needed (codes "approval-program") program p.value)) _
-    (located_given_or p (program_for sources.approvals id) (needed (codes "approval-program") program p.value) (located_needed (codes "approval-program") refl program p (known_object params_names p.value u is) (λ v e. located_program (into p (at_name (codes "approval-program")) v e) (inl (p.path, refl))))) (λ approval a.
-    located_bind p (given_or (program_for sources.clears id) (needed (codes "clear-state-program") program p.value)) _
-    (located_given_or p (program_for sources.clears id) (needed (codes "clear-state-program") program p.value) (located_needed (codes "clear-state-program") refl program p (known_object params_names p.value u is) (λ v e. located_program (into p (at_name (codes "clear-state-program")) v e) (inr (p.path, refl))))) (λ clear c.
-    located_bind p (needed (codes "creator") address p.value) _ (located_needed (codes "creator") refl address p (known_object params_names p.value u is) (λ v e. located_address _)) (λ creator w.
+    located_bind p (reject_unknown params_names p.value) _ (located_known params_names p names) (λ u is.
+    located_bind p (given_or (program_for sources.approvals id) (required (codes "approval-program") program p.value)) _
+    (located_given_or p (program_for sources.approvals id) (required (codes "approval-program") program p.value) (located_needed (codes "approval-program") refl program p (known_object params_names p.value u is) (λ v e. located_program (into p (at_name (codes "approval-program")) v e) (inl (p.path, refl))))) (λ approval a.
+    located_bind p (given_or (program_for sources.clears id) (required (codes "clear-state-program") program p.value)) _
+    (located_given_or p (program_for sources.clears id) (required (codes "clear-state-program") program p.value) (located_needed (codes "clear-state-program") refl program p (known_object params_names p.value u is) (λ v e. located_program (into p (at_name (codes "clear-state-program")) v e) (inr (p.path, refl))))) (λ clear c.
+    located_bind p (required (codes "creator") address p.value) _ (located_needed (codes "creator") refl address p (known_object params_names p.value u is) (λ v e. located_address _)) (λ creator w.
     located_bind p (limits p.value) _ (located_limits p) (λ l m.
     record { located = tt })))))
 
@@ -131,8 +131,8 @@ located_application : (next : Option ℕ) (sources : Sources) (l : Ledger) (p : 
     → (application (end_of_ids next) sources l p.value ≡ Err (here what.Differs) → IsSecondApplication p.document p.path p.value) → Located p (application (end_of_ids next) sources l p.value)
 located_application next sources l p names given second =
     located_bind p (still_known application_names p.value) _ (located_still_known application_names p names) (λ u is.
-    located_bind p (needed (codes "id") (id_below (end_of_ids next)) p.value) _ (located_needed (codes "id") refl (id_below (end_of_ids next)) p (still_object application_names p.value u is) (λ v e. located_id_below next (into p (at_name (codes "id")) v e) given (p.path, refl))) (λ id i.
-    located_bind p (needed (codes "params") (params sources id) p.value) _ (located_needed (codes "params") refl (params sources id) p (still_object application_names p.value u is) (λ v e. located_params sources id (into p (at_name (codes "params")) v e) refl)) (λ app a.
+    located_bind p (required (codes "id") (id_below (end_of_ids next)) p.value) _ (located_needed (codes "id") refl (id_below (end_of_ids next)) p (still_object application_names p.value u is) (λ v e. located_id_below next (into p (at_name (codes "id")) v e) given (p.path, refl))) (λ id i.
+    located_bind p (required (codes "params") (params sources id) p.value) _ (located_needed (codes "params") refl (params sources id) p (still_object application_names p.value u is) (λ v e. located_params sources id (into p (at_name (codes "params")) v e) refl)) (λ app a.
     beside_located p (application_at l id) l id app (λ differ. second (then _ _ _ _ is (then _ _ _ _ i (then _ _ _ _ a differ)))))))
 
 -- ---- documents
@@ -180,7 +180,7 @@ located_ledger next sources j given read =
 
 located_document : (j : Json) → Located (root j) (document j)
 located_document j =
-    located_bind (root j) (known document_names j) _ (located_known document_names (root j) refl) (λ u is.
+    located_bind (root j) (reject_unknown document_names j) _ (located_known document_names (root j) refl) (λ u is.
     located_bind (root j) (front j) _ (located_front (root j)) (λ f given.
     located_bind (root j) (all_sources (has_placeholders j) j) _
     (located_optional (codes "sources") refl (each (source (has_placeholders j)) no_sources) no_sources (root j) (λ v e.
@@ -198,7 +198,7 @@ document_located j f e =
     let at : IsLocated (root j) f = subst (OnFault {A = Document} (IsLocated (root j))) e (located_document j).located in
     (subst (λ path. Locates f.what path j) (append-nil f.path) at.0, at.1)
 
-locates_lead : (w : What) (path : List Step) (j : Json) → Locates w path j → LeadsFor w path j
+locates_lead : (w : DocumentFault) (path : List Step) (j : Json) → Locates w path j → LeadsFor w path j
 locates_lead what.Missing path j h = h
 locates_lead what.Syntax path j h = absurd h.2
 locates_lead w path j h = ap is_some h.1
@@ -220,7 +220,7 @@ nothing_missing (at_name name ∷ ss) j v h e =
     absurd cc
 nothing_missing (at_index i ∷ ss) j v h e = h.2
 
-locates_wrong : (w : What) (path : List Step) (j v : Json) → Locates w path j → value_at path j ≡ Some v → IsWrong j w path v
+locates_wrong : (w : DocumentFault) (path : List Step) (j v : Json) → Locates w path j → value_at path j ≡ Some v → IsWrong j w path v
 locates_wrong what.Missing path j v h e = nothing_missing path j v h e
 locates_wrong what.Syntax path j v h e = absurd h.2
 locates_wrong w path j v h e = subst (IsWrong j w path) (same_json h.0 v (sym h.1 ∙ e)) h.2

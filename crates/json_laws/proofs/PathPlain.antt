@@ -13,10 +13,10 @@ use Rattle.teal_value.specs.declared.address_spelling.AddressFault.{AddressFault
 use Rattle.teal_value.specs.declared.address_spelling.AddressFault.TheVariants as address_fault
 use Rattle.json.specs.Json.{Json}
 use Rattle.json.specs.Find.{as_bool, as_number, as_str}
-use Rattle.json_documents.specs.declared.what.What.{What}
-use Rattle.json_documents.specs.declared.what.What.TheVariants as what
+use Rattle.json_documents.specs.declared.document_fault.DocumentFault.{DocumentFault}
+use Rattle.json_documents.specs.declared.document_fault.DocumentFault.TheVariants as what
 use Rattle.json_documents.specs.Faults.{Fault, here, or_else_fault}
-use Rattle.json_documents.specs.Members.{known, optional}
+use Rattle.json_documents.specs.Members.{reject_unknown, optional}
 use Rattle.json_documents.specs.Plain.{address, base64, boolean, bytes, decimal_of, on_address, text, uint}
 use Rattle.json_documents.specs.Deleted.{not_deleted, only_false, still_known}
 use Rattle.json_documents.specs.Ids.{end_of_ids, id_below, in_range, next_id, some_positive}
@@ -28,12 +28,12 @@ use Rattle.json_laws.proofs.PathSteps.{Spot, Located, bind_ok, into, known_objec
 -- ---- a value that may not be there
 
 -- where nothing is read, the fault leads to the value, which is wrong
-pub located_or_else : {A : Type 0} (p : Spot) (o : Option A) (w : What) → (o ≡ None → IsWrong p.document w p.path p.value) → Located p (or_else_fault o w)
+pub located_or_else : {A : Type 0} (p : Spot) (o : Option A) (w : DocumentFault) → (o ≡ None → IsWrong p.document w p.path p.value) → Located p (or_else_fault o w)
 located_or_else p None w h = located_here p w (h refl)
 located_or_else p (Some x) w h = record { located = tt }
 
 -- what was read without a fault is there
-pub is_there : {A : Type 0} (o : Option A) (w : What) (x : A) → or_else_fault o w ≡ Ok x → o ≡ Some x
+pub is_there : {A : Type 0} (o : Option A) (w : DocumentFault) (x : A) → or_else_fault o w ≡ Ok x → o ≡ Some x
 is_there None w x e = absurd cc
 is_there (Some y) w x e = cc
 
@@ -88,22 +88,22 @@ located_not_deleted p ends =
 -- a fault of an object's names, or of what says that it is deleted, leads to where it says
 pub located_still_known : (names : List (List ℕ)) (p : Spot) → names ≡ table p.path → Located p (still_known names p.value)
 located_still_known names p e =
-    located_bind p (known names p.value) _ (located_known names p e) (λ u is.
+    located_bind p (reject_unknown names p.value) _ (located_known names p e) (λ u is.
     located_optional (codes "deleted") refl not_deleted tt p (λ v at. located_not_deleted (into p (at_name (codes "deleted")) v at) (p.path, refl)))
 
 -- what is there still is an object
 pub still_object : (names : List (List ℕ)) (j : Json) (u : Unit {0}) → still_known names j ≡ Ok u → IsObject j
-still_object names j u e = let is = bind_ok (known names j) _ u e in known_object names j is.0 is.1
+still_object names j u e = let is = bind_ok (reject_unknown names j) _ u e in known_object names j is.0 is.1
 
 -- ---- ids
 
 -- a value where a test holds, and else a fault of the value
-pub located_if : {A : Type 0} (p : Spot) (b : Bool) (x : A) (w : What) → (b ≡ false → IsWrong p.document w p.path p.value) → Located p (cond b (Ok x) (Err (here w)))
+pub located_if : {A : Type 0} (p : Spot) (b : Bool) (x : A) (w : DocumentFault) → (b ≡ false → IsWrong p.document w p.path p.value) → Located p (cond b (Ok x) (Err (here w)))
 located_if p true x w h = record { located = tt }
 located_if p false x w h = located_here p w (h refl)
 
 -- the same, with what the test gives
-pub located_refused : {A : Type 0} (p : Spot) (b : Bool) (x : A) (w : What) → (cond b (Ok x) (Err (here w)) ≡ Err (here w) → IsWrong p.document w p.path p.value) → Located p (cond b (Ok x) (Err (here w)))
+pub located_refused : {A : Type 0} (p : Spot) (b : Bool) (x : A) (w : DocumentFault) → (cond b (Ok x) (Err (here w)) ≡ Err (here w) → IsWrong p.document w p.path p.value) → Located p (cond b (Ok x) (Err (here w)))
 located_refused p b x w h = located_if p b x w (λ out. h (cond-false b (Ok x) (Err (here w)) out))
 
 -- a fault of an id, also one not below the end of ids, leads to the id
@@ -118,7 +118,7 @@ located_next_id p ends = located_of_uint p some_positive (λ n e. located_refuse
 pub located_schema : (bytes_name uints_name : List ℕ) (most : ℕ) → list_all is_plain bytes_name ≡ true → list_all is_plain uints_name ≡ true → (p : Spot) → bytes_name ∷ uints_name ∷ [] ≡ table p.path
     → (schema bytes_name uints_name most p.value ≡ Err (here what.SchemaSize) → IsRefusedSchema p.path p.value) → Located p (schema bytes_name uints_name most p.value)
 located_schema bytes_name uints_name most plain_bytes plain_uints p at large =
-    located_bind p (known (bytes_name ∷ uints_name ∷ []) p.value) _ (located_known (bytes_name ∷ uints_name ∷ []) p at) (λ u is.
+    located_bind p (reject_unknown (bytes_name ∷ uints_name ∷ []) p.value) _ (located_known (bytes_name ∷ uints_name ∷ []) p at) (λ u is.
     located_bind p (optional bytes_name uint 0 p.value) _ (located_optional bytes_name plain_bytes uint 0 p (λ v e. located_uint _)) (λ bytes b.
     located_bind p (optional uints_name uint 0 p.value) _ (located_optional uints_name plain_uints uint 0 p (λ v e. located_uint _)) (λ uints n.
     located_refused p (nat_le (bytes + uints) most) (record { uints = uints; bytes = bytes }) what.SchemaSize (λ out. inl (large (then _ _ _ _ is (then _ _ _ _ b (then _ _ _ _ n out))))))))

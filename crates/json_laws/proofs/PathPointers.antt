@@ -10,7 +10,7 @@ use Rattle.std.proofs.lemmas.List.Folds.{list_all-append}
 use Rattle.json.specs.Json.{Json, null, boolean, number, string, array, object}
 use Rattle.json.specs.Find.{get, is_null}
 use Rattle.json_documents.specs.Steps.{Step, at_index, at_name, step_text}
-use Rattle.json_documents.specs.declared.what.What.TheVariants as what
+use Rattle.json_documents.specs.declared.document_fault.DocumentFault.TheVariants as what
 use Rattle.json_documents.specs.Faults.{Fault, here}
 use Rattle.json_documents.specs.Members.{unless_null}
 use Rattle.json_documents.specs.Reading.{on_value, value_of_text}

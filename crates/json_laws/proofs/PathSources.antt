@@ -14,10 +14,10 @@ use Rattle.teal_asm.specs.Program.{assembled}
 use Rattle.avm_ledger.specs.Ledgers.{Ledger}
 use Rattle.json.specs.Json.{Json, Items, no_items, item}
 use Rattle.json.specs.Find.{as_array, as_str, at, get_item}
-use Rattle.json_documents.specs.declared.what.What.TheVariants as what
+use Rattle.json_documents.specs.declared.document_fault.DocumentFault.TheVariants as what
 use Rattle.json_documents.specs.Steps.{Step, at_index, at_name}
 use Rattle.json_documents.specs.Faults.{Fault, here, in_step, or_else_fault}
-use Rattle.json_documents.specs.Members.{known, needed, optional}
+use Rattle.json_documents.specs.Members.{reject_unknown, required, optional}
 use Rattle.json_documents.specs.Arrays.{each, gathered}
 use Rattle.json_documents.specs.Plain.{text, uint}
 use Rattle.json_documents.specs.Programs.{checked_code, on_source, program_of_source}
@@ -95,10 +95,10 @@ once_added s all for n source false e =
 
 source_adds : (s all : Sources) (v : Json) → with_source s v ≡ Ok all → Adds s all v
 source_adds s all v e =
-    let u = bind_ok (known source_names v) _ all e in
+    let u = bind_ok (reject_unknown source_names v) _ all e in
     let app = bind_ok (optional (codes "app-index") uint 0 v) _ all u.2 in
-    let for = bind_ok (needed (codes "field-name") source_field v) _ all app.2 in
-    let source = bind_ok (needed (codes "source") text v) _ all for.2 in
+    let for = bind_ok (required (codes "field-name") source_field v) _ all app.2 in
+    let source = bind_ok (required (codes "source") text v) _ all for.2 in
     let txn = bind_ok (optional (codes "txn-index") uint 0 v) _ all source.2 in
     let name = needed_read (codes "field-name") source_field v for.0 for.1 in
     let named = bind_ok (text name.0) field_named for.0 name.2 in
@@ -223,7 +223,7 @@ sources_on there p i s all v is come e = by (none_or (is_source_of_placeholder t
 
 -- ---- one source behind others
 
-once_located : (p : Spot) (source : List ℕ) (with_code : List ℕ → Sources) (twice : Bool) → (twice ≡ true → IsSecondSource p.document p.path p.value) → needed (codes "source") text p.value ≡ Ok source
+once_located : (p : Spot) (source : List ℕ) (with_code : List ℕ → Sources) (twice : Bool) → (twice ≡ true → IsSecondSource p.document p.path p.value) → required (codes "source") text p.value ≡ Ok source
     → Located p (cond twice (Err (here what.Twice)) (in_step (at_name (codes "source")) (program_of_source source) >>= λ code. Ok (with_code code)))
 once_located p source with_code true second e = located_here p _ (inl (second refl))
 once_located p source with_code false second e =
@@ -241,10 +241,10 @@ located_with_source p i s v is names ends come = located_at (into p (at_index i)
     located_at : (q : Spot) → source_names ≡ table q.path
         → ((name : List ℕ) (for : SourceField) (n : ℕ) → field_named name ≡ Ok for → is_some (program_at s for n) ≡ true → place q.value ≡ Ok (for, n) → IsSecondSource q.document q.path q.value) → Located q (with_source s q.value)
     located_at q names second =
-        located_bind q (known source_names q.value) _ (located_known source_names q names) (λ u is.
+        located_bind q (reject_unknown source_names q.value) _ (located_known source_names q names) (λ u is.
         located_bind q (optional (codes "app-index") uint 0 q.value) _ (located_optional (codes "app-index") refl uint 0 q (λ v e. located_uint _)) (λ app a.
-        located_bind q (needed (codes "field-name") source_field q.value) _ (located_needed (codes "field-name") refl source_field q (known_object source_names q.value u is) (λ v e. located_source_field _)) (λ for f.
-        located_bind q (needed (codes "source") text q.value) _ (located_needed (codes "source") refl text q (known_object source_names q.value u is) (λ v e. located_text _)) (λ source e.
+        located_bind q (required (codes "field-name") source_field q.value) _ (located_needed (codes "field-name") refl source_field q (known_object source_names q.value u is) (λ v e. located_source_field _)) (λ for f.
+        located_bind q (required (codes "source") text q.value) _ (located_needed (codes "source") refl text q (known_object source_names q.value u is) (λ v e. located_text _)) (λ source e.
         located_bind q (optional (codes "txn-index") uint 0 q.value) _ (located_optional (codes "txn-index") refl uint 0 q (λ v e. located_uint _)) (λ txn t.
         let name = needed_read (codes "field-name") source_field q.value for f in
         let named = bind_ok (text name.0) field_named for name.2 in

@@ -15,10 +15,10 @@ use Rattle.avm_states.specs.Schemas.{counts_in, is_within}
 use Rattle.avm_ledger.specs.LedgerReader.{Room}
 use Rattle.json.specs.Json.{Json}
 use Rattle.json.specs.Find.{at}
-use Rattle.json_documents.specs.declared.what.What.TheVariants as what
+use Rattle.json_documents.specs.declared.document_fault.DocumentFault.TheVariants as what
 use Rattle.json_documents.specs.Steps.{Step, at_index, at_name}
 use Rattle.json_documents.specs.Faults.{Fault, here, in_step}
-use Rattle.json_documents.specs.Members.{known, member, needed, optional}
+use Rattle.json_documents.specs.Members.{reject_unknown, member, required, optional}
 use Rattle.json_documents.specs.Arrays.{each}
 use Rattle.json_documents.specs.Plain.{bytes, uint}
 use Rattle.json_documents.specs.Programs.{checked_code, given_or, if_checked, program}
@@ -61,8 +61,8 @@ value_located p false s n is e = located_refused p (length s == 0) (Uint n) what
 
 located_value : (p : Spot) → value_names ≡ table p.path → Located p (value p.value)
 located_value p at =
-    located_bind p (known value_names p.value) _ (located_known value_names p at) (λ u is.
-    located_bind p (needed (codes "type") kind p.value) _ (located_needed (codes "type") refl kind p (known_object value_names p.value u is) (λ v e. located_kind _)) (λ is_bytes k.
+    located_bind p (reject_unknown value_names p.value) _ (located_known value_names p at) (λ u is.
+    located_bind p (required (codes "type") kind p.value) _ (located_needed (codes "type") refl kind p (known_object value_names p.value u is) (λ v e. located_kind _)) (λ is_bytes k.
     located_bind p (optional (codes "bytes") bytes [] p.value) _ (located_optional (codes "bytes") refl bytes [] p (λ v e. located_bytes _)) (λ s e.
     located_bind p (optional (codes "uint") uint 0 p.value) _ (located_optional (codes "uint") refl uint 0 p (λ v e. located_uint _)) (λ n m.
     value_located p is_bytes s n (λ r last. then _ _ _ _ is (then _ _ _ _ k (then _ _ _ _ e (then _ _ _ _ m last)))) e))))
@@ -112,9 +112,9 @@ new_is entries all k v false e = same_value (with_entry entries k v) all e
 -- an element that was read adds its key
 keys_on : (p : Spot) (i : ℕ) (entries all : Entries) (v : Json) → at i p.value ≡ Some v → AreKeys p.document p.path i entries → with_key_value entries v ≡ Ok all → AreKeys p.document p.path (i + 1) all
 keys_on p i entries all v is are e =
-    let u = bind_ok (known key_value_names v) _ all e in
-    let k = bind_ok (needed (codes "key") key v) _ all u.2 in
-    let value_is = bind_ok (needed (codes "value") value v) _ all k.2 in
+    let u = bind_ok (reject_unknown key_value_names v) _ all e in
+    let k = bind_ok (required (codes "key") key v) _ all u.2 in
+    let value_is = bind_ok (required (codes "value") value v) _ all k.2 in
     let there = needed_read (codes "key") key v k.0 k.1 in
     subst (AreKeys p.document p.path (i + 1)) (new_is entries all k.0 value_is.0 (is_some (value_of_key entries k.0)) value_is.2)
     (one_more p.document p.path i entries k.0 value_is.0 are (there.0, (into (into p (at_index i) v is) (at_name (codes "key")) there.0 there.1).leads, key_is there.0 k.0 there.2))
@@ -122,7 +122,7 @@ keys_on p i entries all v is are e =
 no_keys : (j : Json) (above : List Step) → AreKeys j above 0 []
 no_keys j above = record { comes = λ k has. absurd cc }
 
-new_located : (p : Spot) (i : ℕ) (entries : Entries) (e : Json) (is : at i p.value ≡ Some e) (k : List ℕ) (v : Value) (twice : Bool) → AreKeys p.document p.path i entries → is_some (value_of_key entries k) ≡ twice → needed (codes "key") key e ≡ Ok k
+new_located : (p : Spot) (i : ℕ) (entries : Entries) (e : Json) (is : at i p.value ≡ Some e) (k : List ℕ) (v : Value) (twice : Bool) → AreKeys p.document p.path i entries → is_some (value_of_key entries k) ≡ twice → required (codes "key") key e ≡ Ok k
     → Located (into p (at_index i) e is) (cond twice (in_step (at_name (codes "key")) (Err (here what.Twice))) (Ok (with_entry entries k v)))
 new_located p i entries e is k v true are has read =
     let there = needed_read (codes "key") key e k read in
@@ -134,9 +134,9 @@ new_located p i entries e is k v false are has read = record { located = tt }
 -- the i-th element of a state
 located_key_value : (p : Spot) (i : ℕ) (entries : Entries) (e : Json) (is : at i p.value ≡ Some e) → key_value_names ≡ table p.path → AreKeys p.document p.path i entries → Located (into p (at_index i) e is) (with_key_value entries e)
 located_key_value p i entries e is names are =
-    located_bind (into p (at_index i) e is) (known key_value_names e) _ (located_known key_value_names (into p (at_index i) e is) names) (λ u known_are.
-    located_bind (into p (at_index i) e is) (needed (codes "key") key e) _ (located_needed (codes "key") refl key (into p (at_index i) e is) (known_object key_value_names e u known_are) (λ w m. located_key (into (into p (at_index i) e is) (at_name (codes "key")) w m) (at_index i ∷ p.path, refl))) (λ k read.
-    located_bind (into p (at_index i) e is) (needed (codes "value") value e) _ (located_needed (codes "value") refl value (into p (at_index i) e is) (known_object key_value_names e u known_are) (λ w m. located_value (into (into p (at_index i) e is) (at_name (codes "value")) w m) refl)) (λ v m.
+    located_bind (into p (at_index i) e is) (reject_unknown key_value_names e) _ (located_known key_value_names (into p (at_index i) e is) names) (λ u known_are.
+    located_bind (into p (at_index i) e is) (required (codes "key") key e) _ (located_needed (codes "key") refl key (into p (at_index i) e is) (known_object key_value_names e u known_are) (λ w m. located_key (into (into p (at_index i) e is) (at_name (codes "key")) w m) (at_index i ∷ p.path, refl))) (λ k read.
+    located_bind (into p (at_index i) e is) (required (codes "value") value e) _ (located_needed (codes "value") refl value (into p (at_index i) e is) (known_object key_value_names e u known_are) (λ w m. located_value (into (into p (at_index i) e is) (at_name (codes "value")) w m) refl)) (λ v m.
     new_located p i entries e is k v (is_some (value_of_key entries k)) are refl read)))
 
 -- a fault of a state leads to where it says

@@ -5,11 +5,11 @@ use Rattle.std.specs.List.{list_all}
 use Rattle.teal_value.specs.Answer.{◌>>=◌}
 use Rattle.json.specs.Json.{Json, null, boolean, number, string, array, object, Items, no_items, item, Members}
 use Rattle.json.specs.Find.{as_array, as_object, at, get_item}
-use Rattle.json_documents.specs.declared.what.What.{What}
-use Rattle.json_documents.specs.declared.what.What.TheVariants as what
+use Rattle.json_documents.specs.declared.document_fault.DocumentFault.{DocumentFault}
+use Rattle.json_documents.specs.declared.document_fault.DocumentFault.TheVariants as what
 use Rattle.json_documents.specs.Steps.{Step, at_name, at_index}
 use Rattle.json_documents.specs.Faults.{Fault, here, in_step, or_else_fault}
-use Rattle.json_documents.specs.Members.{member, needed, needed_in, optional, optional_in, known, known_in, least_unknown, unless_unknown}
+use Rattle.json_documents.specs.Members.{member, required, needed_in, optional, optional_in, reject_unknown, known_in, least_unknown, unless_unknown}
 use Rattle.json_documents.specs.Arrays.{gathered, each}
 use Rattle.json_documents.specs.Placeholders.{is_placeholder, unless_placeholder}
 use Rattle.json_laws.specs.Paths.{behind, value_at, is_plain, first_items, table, Before, IsObject, NamesMissing, IsWrong}
@@ -30,7 +30,7 @@ abbrev pub LeadTo : List Step → Json → (Json → Type 0) → Type 0
 LeadTo path j P = (v : Json) × (value_at path j ≡ Some v) × P v
 
 -- the path leads to a value that is wrong, or to a member that is missing
-abbrev pub Locates : What → List Step → Json → Type 0
+abbrev pub Locates : DocumentFault → List Step → Json → Type 0
 Locates what.Missing path j = NamesMissing path j
 Locates w path j = LeadTo path j (IsWrong j w path)
 
@@ -58,7 +58,7 @@ pub record Located {A : Type 0} (p : Spot) (r : Result A Fault) : Type 0 where
   pub located : OnFault (IsLocated p) r
 
 -- the value itself is at fault
-pub located_here : {A : Type 0} (p : Spot) (w : What) → IsWrong p.document w p.path p.value → Located {A = A} p (Err (here w))
+pub located_here : {A : Type 0} (p : Spot) (w : DocumentFault) → IsWrong p.document w p.path p.value → Located {A = A} p (Err (here w))
 located_here p what.Syntax h = absurd h
 located_here p what.Missing h = absurd h
 located_here p w h = record { located = ((p.value, p.leads, h), tt) }
@@ -90,7 +90,7 @@ needed_located name plain meaning p None is e h = record { located = ((p.value, 
 needed_located name plain meaning p (Some v) is e h = located_step (at_name name) plain p v (meaning v) e (h v e)
 
 -- a fault of a needed member leads to where it says, also where the member is missing
-pub located_needed : {A : Type 0} (name : List ℕ) → list_all is_plain name ≡ true → (meaning : Json → Result A Fault) (p : Spot) → IsObject p.value → ReadsMember p name meaning → Located p (needed name meaning p.value)
+pub located_needed : {A : Type 0} (name : List ℕ) → list_all is_plain name ≡ true → (meaning : Json → Result A Fault) (p : Spot) → IsObject p.value → ReadsMember p name meaning → Located p (required name meaning p.value)
 located_needed name plain meaning p is h = needed_located name plain meaning p (member name p.value) is refl h
 
 optional_located : {A : Type 0} (name : List ℕ) → list_all is_plain name ≡ true → (meaning : Json → Result A Fault) (default : A) (p : Spot) (o : Option Json) → member name p.value ≡ o → ReadsMember p name meaning → Located p (optional_in name meaning default o)
@@ -129,25 +129,25 @@ needed_is name meaning None x e = absurd cc
 needed_is name meaning (Some v) x e = (v, refl, in_step_ok (at_name name) (meaning v) x e)
 
 -- a needed member that was read is there
-pub needed_read : {A : Type 0} (name : List ℕ) (meaning : Json → Result A Fault) (j : Json) (x : A) → needed name meaning j ≡ Ok x → (v : Json) × (member name j ≡ Some v) × (meaning v ≡ Ok x)
+pub needed_read : {A : Type 0} (name : List ℕ) (meaning : Json → Result A Fault) (j : Json) (x : A) → required name meaning j ≡ Ok x → (v : Json) × (member name j ≡ Some v) × (meaning v ≡ Ok x)
 needed_read name meaning j x e = needed_is name meaning (member name j) x e
 
 -- ---- names
 
-unknown_located : (names : List (List ℕ)) (p : Spot) (o : Option (List ℕ)) → (unless_unknown o ≡ known (table p.path) p.value) → Located p (unless_unknown o)
+unknown_located : (names : List (List ℕ)) (p : Spot) (o : Option (List ℕ)) → (unless_unknown o ≡ reject_unknown (table p.path) p.value) → Located p (unless_unknown o)
 unknown_located names p None e = record { located = tt }
 unknown_located names p (Some name) e = located_here p _ (sym e)
 
-known_located : (names : List (List ℕ)) (p : Spot) (o : Option Members) → as_object p.value ≡ o → known_in names o ≡ known (table p.path) p.value → Located p (known_in names o)
+known_located : (names : List (List ℕ)) (p : Spot) (o : Option Members) → as_object p.value ≡ o → known_in names o ≡ reject_unknown (table p.path) p.value → Located p (known_in names o)
 known_located names p None is e = located_here p _ is
 known_located names p (Some ms) is e = unknown_located names p (least_unknown names ms) e
 
 -- a fault of the names of an object leads to where it says
-pub located_known : (names : List (List ℕ)) (p : Spot) → names ≡ table p.path → Located p (known names p.value)
-located_known names p e = known_located names p (as_object p.value) refl (ap (λ names. known names p.value) e)
+pub located_known : (names : List (List ℕ)) (p : Spot) → names ≡ table p.path → Located p (reject_unknown names p.value)
+located_known names p e = known_located names p (as_object p.value) refl (ap (λ names. reject_unknown names p.value) e)
 
 -- a value whose names are known is an object
-pub known_object : (names : List (List ℕ)) (j : Json) (u : Unit {0}) → known names j ≡ Ok u → IsObject j
+pub known_object : (names : List (List ℕ)) (j : Json) (u : Unit {0}) → reject_unknown names j ≡ Ok u → IsObject j
 known_object names null u e = absurd cc
 known_object names (boolean b) u e = absurd cc
 known_object names (number s) u e = absurd cc

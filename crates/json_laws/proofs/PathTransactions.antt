@@ -22,11 +22,11 @@ use Rattle.avm_call.specs.declared.call_fault.CallFault.TheVariants as call
 use Rattle.avm_call.specs.CallRules.{call_fault}
 use Rattle.json.specs.Json.{Json, Members}
 use Rattle.json.specs.Find.{as_object, as_str, at}
-use Rattle.json_documents.specs.declared.what.What.{What}
-use Rattle.json_documents.specs.declared.what.What.TheVariants as what
+use Rattle.json_documents.specs.declared.document_fault.DocumentFault.{DocumentFault}
+use Rattle.json_documents.specs.declared.document_fault.DocumentFault.TheVariants as what
 use Rattle.json_documents.specs.Steps.{Step, at_index, at_name}
 use Rattle.json_documents.specs.Faults.{Fault, here, in_step}
-use Rattle.json_documents.specs.Members.{known, member, needed, optional, optional_in}
+use Rattle.json_documents.specs.Members.{reject_unknown, member, required, optional, optional_in}
 use Rattle.json_documents.specs.Arrays.{each}
 use Rattle.json_documents.specs.Plain.{address, bytes, uint}
 use Rattle.json_documents.specs.Groups.{Groups, group, has_group, new_group, whole_group, with_group}
@@ -99,10 +99,10 @@ located_terms p is =
     located_bind p (optional (codes "lx") lease zeros p.value) _ (located_optional (codes "lx") refl lease zeros p (λ v e. located_lease _)) (λ own e.
     located_bind p (optional (codes "note") bytes [] p.value) _ (located_optional (codes "note") refl bytes [] p (λ v e. located_bytes _)) (λ note e.
     located_bind p (optional (codes "rekey") address zero_address p.value) _ (located_optional (codes "rekey") refl address zero_address p (λ v e. located_address _)) (λ rekey e.
-    located_bind p (needed (codes "snd") address p.value) _ (located_needed (codes "snd") refl address p is (λ v e. located_address _)) (λ sender e.
+    located_bind p (required (codes "snd") address p.value) _ (located_needed (codes "snd") refl address p is (λ v e. located_address _)) (λ sender e.
     record { located = tt })))))))
 
-call_located : (p : Spot) (c : CallData) (o : Option CallFault) → ((w : What) → unless_broken c o ≡ Err (here w) → IsRefusedCall p.document w p.path p.value) → Located p (unless_broken c o)
+call_located : (p : Spot) (c : CallData) (o : Option CallFault) → ((w : DocumentFault) → unless_broken c o ≡ Err (here w) → IsRefusedCall p.document w p.path p.value) → Located p (unless_broken c o)
 call_located p c None breaks = record { located = tt }
 call_located p c (Some call.Accounts) breaks = located_here p _ (breaks what.Accounts refl)
 call_located p c (Some call.Args) breaks = located_here p _ (breaks what.Args refl)
@@ -141,12 +141,12 @@ own_alone groups (Some v) own e = ap (in_step (at_name (codes "grp"))) (group_al
 
 -- the tests of a transaction before its names, in two parts
 lone_parts : (groups : Groups) (j : Json) (own : Option (List ℕ)) → lone_call groups j ≡ Ok own
-    → (is_some (as_object j) ≡ true) × ((u : Unit {0}) × (needed (codes "type") call_type j ≡ Ok u) × (optional (codes "grp") (group groups) None j ≡ Ok own))
+    → (is_some (as_object j) ≡ true) × ((u : Unit {0}) × (required (codes "type") call_type j ≡ Ok u) × (optional (codes "grp") (group groups) None j ≡ Ok own))
 lone_parts groups j own e = by (is_some (as_object j)) refl e
   where
-    by : (b : Bool) → is_some (as_object j) ≡ b → cond b (needed (codes "type") call_type j >>= λ _. optional (codes "grp") (group groups) None j) (Err (here what.NotObject)) ≡ Ok own
-        → (is_some (as_object j) ≡ true) × ((u : Unit {0}) × (needed (codes "type") call_type j ≡ Ok u) × (optional (codes "grp") (group groups) None j ≡ Ok own))
-    by true is e = (is, bind_ok (needed (codes "type") call_type j) _ own e)
+    by : (b : Bool) → is_some (as_object j) ≡ b → cond b (required (codes "type") call_type j >>= λ _. optional (codes "grp") (group groups) None j) (Err (here what.NotObject)) ≡ Ok own
+        → (is_some (as_object j) ≡ true) × ((u : Unit {0}) × (required (codes "type") call_type j ≡ Ok u) × (optional (codes "grp") (group groups) None j ≡ Ok own))
+    by true is e = (is, bind_ok (required (codes "type") call_type j) _ own e)
     by false is e = absurd cc
 
 lone_alone : (groups : Groups) (j : Json) (own : Option (List ℕ)) → lone_call groups j ≡ Ok own → lone_call [] j ≡ Ok own
@@ -214,18 +214,18 @@ groups_on j above i groups (Some own) are one = record {
 
 lone_located : (groups : Groups) (p : Spot) (o : Option Members) → as_object p.value ≡ o
     → ((g : List ℕ) (v : Json) → has_group groups g ≡ true → bytes v ≡ Ok g → IsSecondGroup p.document (at_name (codes "grp") ∷ p.path) v)
-    → Located p (cond (is_some o) (needed (codes "type") call_type p.value >>= λ _. optional (codes "grp") (group groups) None p.value) (Err (here what.NotObject)))
+    → Located p (cond (is_some o) (required (codes "type") call_type p.value >>= λ _. optional (codes "grp") (group groups) None p.value) (Err (here what.NotObject)))
 lone_located groups p None e second = located_here p _ e
 lone_located groups p (Some ms) e second =
-    located_bind p (needed (codes "type") call_type p.value) (λ _. optional (codes "grp") (group groups) None p.value) (located_needed (codes "type") refl call_type p (ap is_some e) (λ v e. located_call_type _)) (λ u t.
+    located_bind p (required (codes "type") call_type p.value) (λ _. optional (codes "grp") (group groups) None p.value) (located_needed (codes "type") refl call_type p (ap is_some e) (λ v e. located_call_type _)) (λ u t.
     located_optional (codes "grp") refl (group groups) None p (λ v at. located_group groups (into p (at_name (codes "grp")) v at) (p.path, refl) (λ g has is. second g v has is)))
 
 located_transaction : (sources : Sources) (groups : Groups) (i : ℕ) (p : Spot) → transaction_names ≡ table p.path
     → ((g : List ℕ) (v : Json) → has_group groups g ≡ true → bytes v ≡ Ok g → IsSecondGroup p.document (at_name (codes "grp") ∷ p.path) v)
-    → ((w : What) → transaction sources [] i p.value ≡ Err (here w) → IsRefusedCall p.document w p.path p.value) → Located p (transaction sources groups i p.value)
+    → ((w : DocumentFault) → transaction sources [] i p.value ≡ Err (here w) → IsRefusedCall p.document w p.path p.value) → Located p (transaction sources groups i p.value)
 located_transaction sources groups i p names second refused =
     located_bind p (lone_call groups p.value) _ (lone_located groups p (as_object p.value) refl second) (λ own l.
-    located_bind p (known transaction_names p.value) _ (located_known transaction_names p names) (λ w is.
+    located_bind p (reject_unknown transaction_names p.value) _ (located_known transaction_names p names) (λ w is.
     located_bind p (target sources i p.value) _ (located_target sources i p) (λ of t.
     located_bind p (terms p.value) _ (located_terms p (known_object transaction_names p.value w is)) (λ by m.
     located_bind p (checked_call (fields of by)) _ (call_located p (fields of by) (call_fault (fields of by)) (λ broken last.
@@ -246,10 +246,10 @@ located_with_signed sources p i so_far v is names given are = located_at (into p
   where
     located_at : (q : Spot) → signed_names ≡ table q.path
         → ((g : List ℕ) (u : Json) → has_group so_far.groups g ≡ true → bytes u ≡ Ok g → IsSecondGroup q.document (at_name (codes "grp") ∷ (at_name (codes "txn") ∷ q.path)) u)
-        → ((w : What) (u : Json) → transaction sources [] (length so_far.calls) u ≡ Err (here w) → IsRefusedCall q.document w (at_name (codes "txn") ∷ q.path) u) → Located q (with_signed sources so_far q.value)
+        → ((w : DocumentFault) (u : Json) → transaction sources [] (length so_far.calls) u ≡ Err (here w) → IsRefusedCall q.document w (at_name (codes "txn") ∷ q.path) u) → Located q (with_signed sources so_far q.value)
     located_at q names second refused =
-        located_bind q (known signed_names q.value) _ (located_known signed_names q names) (λ u k.
-        located_bind q (needed (codes "txn") (transaction sources so_far.groups (length so_far.calls)) q.value) _
+        located_bind q (reject_unknown signed_names q.value) _ (located_known signed_names q names) (λ u k.
+        located_bind q (required (codes "txn") (transaction sources so_far.groups (length so_far.calls)) q.value) _
         (located_needed (codes "txn") refl (transaction sources so_far.groups (length so_far.calls)) q (known_object signed_names q.value u k) (λ w e. located_transaction sources so_far.groups (length so_far.calls) (into q (at_name (codes "txn")) w e) refl second (λ broken. refused broken w))) (λ t e.
         record { located = tt }))
 
@@ -257,7 +257,7 @@ located_with_signed sources p i so_far v is names given are = located_at (into p
 own_group : (sources : Sources) (groups : Groups) (i : ℕ) (j : Json) (t : CallData × Option (List ℕ)) → transaction sources groups i j ≡ Ok t → lone_call groups j ≡ Ok t.1
 own_group sources groups i j t e =
     from (lone_call groups j) _ t e (λ own o e1.
-    from (known transaction_names j) _ t e1 (λ k ke e2.
+    from (reject_unknown transaction_names j) _ t e1 (λ k ke e2.
     from (target sources i j) _ t e2 (λ of oe e3.
     from (terms j) _ t e3 (λ by be e4.
     from (checked_call (fields of by)) _ t e4 (λ call ce e5.
@@ -266,8 +266,8 @@ own_group sources groups i j t e =
 -- a transaction that was read adds its call and its group
 transactions_on : (sources : Sources) (p : Spot) (i : ℕ) (so_far all : Batch) (v : Json) → at i p.value ≡ Some v → AreFirst p.document p.path i so_far → with_signed sources so_far v ≡ Ok all → AreFirst p.document p.path (i + 1) all
 transactions_on sources p i so_far all v is are e =
-    let u = bind_ok (known signed_names v) _ all e in
-    let t = bind_ok (needed (codes "txn") (transaction sources so_far.groups (length so_far.calls)) v) _ all u.2 in
+    let u = bind_ok (reject_unknown signed_names v) _ all e in
+    let t = bind_ok (required (codes "txn") (transaction sources so_far.groups (length so_far.calls)) v) _ all u.2 in
     let there = needed_read (codes "txn") (transaction sources so_far.groups (length so_far.calls)) v t.0 t.1 in
     let lone = own_group sources so_far.groups (length so_far.calls) there.0 t.0 there.2 in
     let at_txn = into (into p (at_index i) v is) (at_name (codes "txn")) there.0 there.1 in

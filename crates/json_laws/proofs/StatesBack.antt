@@ -11,7 +11,7 @@ use Rattle.avm_ledger.specs.LedgerRules.{IsStateEntry, IsStateIn, IsStateValue}
 use Rattle.base64.proofs.OnLiterals.{base64_on_literals}
 use Rattle.avm_rule_laws.specs.Rules.{AreBytes}
 use Rattle.json_documents.specs.Faults.{in_step}
-use Rattle.json_documents.specs.Members.{least_unknown, needed}
+use Rattle.json_documents.specs.Members.{least_unknown, required}
 use Rattle.json_documents.specs.Steps.{at_name}
 use Rattle.json_documents.specs.Plain.{bytes}
 use Rattle.json_documents.specs.States.{key, kind, new_entry, state, value, with_key_value}
@@ -40,7 +40,7 @@ value_back (Bytes s) is of =
     let short : leb (length s) 64 ≡ true = le-leb (length s) 64 is in
     then_in _ _ _ _ _ kind_one (then_in _ _ _ _ _ (bytes_back s of) (then_in _ _ _ _ _ (uint_back 0 (omega arith)) (rw short refl)))
 
-value_there : (k : List ℕ) (v : Value) → IsStateValue v → IsValueOfBytes v → needed (codes "value") value (shown_entry (k, v)) ≡ Ok v
+value_there : (k : List ℕ) (v : Value) → IsStateValue v → IsValueOfBytes v → required (codes "value") value (shown_entry (k, v)) ≡ Ok v
 value_there k (Uint n) is of = ap (in_step (at_name (codes "value"))) (value_back (Uint n) is of)
 value_there k (Bytes s) is of = ap (in_step (at_name (codes "value"))) (value_back (Bytes s) is of)
 

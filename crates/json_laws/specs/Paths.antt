@@ -22,11 +22,11 @@ use Rattle.avm_items.specs.declared.call_data.CallData.{CallData}
 use Rattle.avm_block.specs.Blocks.{most_calls}
 use Rattle.json.specs.Json.{Json, array, object, Items, no_items, item}
 use Rattle.json.specs.Find.{as_array, as_bool, as_number, as_object, as_str, at, get_item, get_member}
-use Rattle.json_documents.specs.declared.what.What.{What}
-use Rattle.json_documents.specs.declared.what.What.TheVariants as what
+use Rattle.json_documents.specs.declared.document_fault.DocumentFault.{DocumentFault}
+use Rattle.json_documents.specs.declared.document_fault.DocumentFault.TheVariants as what
 use Rattle.json_documents.specs.Steps.{Step, at_name, at_index, path_text, step_text}
 use Rattle.json_documents.specs.Faults.{Fault, here}
-use Rattle.json_documents.specs.Members.{known, member, needed, optional}
+use Rattle.json_documents.specs.Members.{reject_unknown, member, required, optional}
 use Rattle.json_documents.specs.Arrays.{gathered}
 use Rattle.json_documents.specs.Plain.{address, bytes, decimal_of, uint}
 use Rattle.json_documents.specs.Accounts.{account, local}
@@ -67,7 +67,7 @@ NamesMissing [] j = ⊥
 NamesMissing (s ∷ ss) j = (v : Json) × (value_at ss j ≡ Some v) × Lacks s v
 
 -- there is a value where the path leads, unless the fault is that none is there
-abbrev pub LeadsFor : What → List Step → Json → Type 0
+abbrev pub LeadsFor : DocumentFault → List Step → Json → Type 0
 LeadsFor what.Missing path j = NamesMissing path j
 LeadsFor w path j = is_some (value_at path j) ≡ true
 
@@ -205,7 +205,7 @@ IsGlobalRoom s o room =
 abbrev pub IsLocalRoom : Json → Step → Json → Room → Type 0
 IsLocalRoom j s o room =
     (s ≡ at_name (codes "key-value"))
-    × ((id : ℕ) × (l : Ledger) × (needed (codes "id") uint o ≡ Ok id) × (applications_of j ≡ Ok l) × (room ≡ local_room (application_at l id)))
+    × ((id : ℕ) × (l : Ledger) × (required (codes "id") uint o ≡ Ok id) × (applications_of j ≡ Ok l) × (room ≡ local_room (application_at l id)))
 
 -- a state that is refused for its room
 abbrev pub IsRefusedState : Json → List Step → Json → Type 0
@@ -226,7 +226,7 @@ abbrev pub IsSecondLocalState : Json → List Step → Json → Type 0
 IsSecondLocalState j (i ∷ (s ∷ above)) v =
     (s ≡ at_name (codes "apps-local-state")) × ((next : Option ℕ) × (apps : Ledger) × (first : Ledger) × (l : Ledger) × (o : Json) × (who : Address)
     × (next_id_of j ≡ Ok next) × (applications_of j ≡ Ok apps)
-    × (value_at above j ≡ Some o) × (needed (codes "address") address o ≡ Ok who)
+    × (value_at above j ≡ Some o) × (required (codes "address") address o ≡ Ok who)
     × Before (account (has_placeholders j) (end_of_ids next)) apps above j first
     × Before (unless_placeholder (has_placeholders j) (local (end_of_ids next) who)) first (i ∷ (s ∷ above)) j l
     × (local (end_of_ids next) who l v ≡ Err (here what.Differs)))
@@ -236,7 +236,7 @@ IsSecondLocalState j path v = ⊥
 abbrev pub place : Json → Result Place Fault
 place v = do
   app ← optional (codes "app-index") uint 0 v
-  for ← needed (codes "field-name") source_field v
+  for ← required (codes "field-name") source_field v
   txn ← optional (codes "txn-index") uint 0 v
   Ok (for, index_of for app txn)
 
@@ -268,7 +268,7 @@ IsSecondGroup j (s ∷ (t ∷ (at_index i ∷ above))) v =
 IsSecondGroup j path v = ⊥
 
 -- a transaction that is refused as a whole, by itself, with the programs of the document's sources
-abbrev pub IsRefusedCall : Json → What → List Step → Json → Type 0
+abbrev pub IsRefusedCall : Json → DocumentFault → List Step → Json → Type 0
 IsRefusedCall j w (s ∷ (at_index i ∷ above)) v = (s ≡ at_name (codes "txn")) × ((sources : Sources) × (sources_of j ≡ Ok sources) × (transaction sources [] i v ≡ Err (here w)))
 IsRefusedCall j w path v = ⊥
 
@@ -279,14 +279,14 @@ HasRefusedProgram j f path v =
     ⊎ ((Ends (codes "source") path × IsText v (SpellsRefused f)) ⊎ IsRefusedCall j (what.Program f) path v)
 
 -- what a fault of a document says of the value to which its path leads
-abbrev pub IsWrong : Json → What → List Step → Json → Type 0
+abbrev pub IsWrong : Json → DocumentFault → List Step → Json → Type 0
 IsWrong j what.Syntax path v = ⊥
 IsWrong j what.NotObject path v = as_object v ≡ None
 IsWrong j what.NotArray path v = as_array v ≡ None
 IsWrong j what.NotText path v = as_str v ≡ None
 IsWrong j what.NotUint path v = option_and_then decimal_of (as_number v) ≡ None
 IsWrong j what.NotBool path v = Ends (codes "deleted") path × (as_bool v ≡ None)
-IsWrong j (what.Unknown name) path v = known (table path) v ≡ Err (here (what.Unknown name))
+IsWrong j (what.Unknown name) path v = reject_unknown (table path) v ≡ Err (here (what.Unknown name))
 IsWrong j what.Missing path v = ⊥
 IsWrong j what.Deleted path v = Ends (codes "deleted") path × (as_bool v ≡ Some true)
 IsWrong j what.BadBase64 path v = IsText v (λ s. result_ok (decode_of standard s) ≡ None)

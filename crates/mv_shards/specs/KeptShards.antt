@@ -7,16 +7,16 @@ use Rattle.avm_items.specs.Items.{with_item}
 use Rattle.avm_items.specs.LedgerItems.{at}
 use Rattle.mv_chain.specs.declared.chain.Version.{Version}
 use Rattle.mv_chain.specs.Versions.{newest_at}
-use Rattle.mv_shards.specs.declared.part.Part.{Part}
+use Rattle.mv_shards.specs.declared.shard_state.ShardState.{ShardState}
 use Rattle.mv_shards.specs.Attempts.{CallAttempt}
 use Rattle.mv_shards.specs.Indexes.{shard_count}
 use Rattle.mv_shards.specs.KeptChains.{AreChains, ChainMap, number_in, one_marked, touched, versions_of}
 use Rattle.mv_shards.specs.Shards.{Shard}
 
-abbrev pub shard_shown : Part → Shard
+abbrev pub shard_shown : ShardState → Shard
 shard_shown p = record { index = p.index; low = p.low; base = arc_value p.base; chains = touched p.chains }
 
-pub record IsPart (p : Part) : Type 0 where
+pub record IsShardState (p : ShardState) : Type 0 where
   pub within : p.index < shard_count
   pub chains : AreChains (at (arc_value p.base)) p.low p.chains
 

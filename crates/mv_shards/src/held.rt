@@ -6,18 +6,18 @@ ghost use Rattle.teal_value.specs.declared.failure.Failure.TheVariants.{Fault};
 ghost use Rattle.mv_shards.specs.declared.read_fault.ReadFault.TheVariants.{Pruned};
 ghost use Rattle.mv_shards.specs.Indexes.{shard_count};
 ghost use Rattle.mv_shards.specs.Helds.{AreFree, AreHeld, IsHeld, IsHeldPruned, IsHeldRead, IsLastTaken, IsTakenFrom, ArePruned};
-ghost use Rattle.mv_shards.specs.KeptHelds.{AreInSlots, AreFreeFrom, IsEnd, IsPartOrNone, seen_all, seen_or_none};
+ghost use Rattle.mv_shards.specs.KeptHelds.{AreInSlots, AreFreeFrom, IsEnd, IsShardStateOrNone, seen_all, seen_or_none};
 ghost use Rattle.avm_items.specs.SameValues.{is_same_value};
 ghost use Rattle.mv_shards.specs.Writing.{AreLow, AreWritten, CanTake, IsFirstForeign, IsLowAt, NoneForeign, versions_for};
-ghost use Rattle.mv_shards.specs.PartWriting.{IsAbove, IsLeastWith, has_timestamp_in};
+ghost use Rattle.mv_shards.specs.SlotWriting.{IsAbove, IsLeastWith, has_timestamp_in};
 ghost use Rattle.mv_chain.specs.Versions.{lateness, newest_at};
 
 use crate::attempt::Attempt;
+use crate::commit_scratch::{ScratchPair, ShardSlots};
 use crate::index::{SHARD_COUNT, shard_of};
-use crate::part::{Part, has_value, has_version, late, prune, read, version_count};
 use crate::read_fault::ReadError;
-use crate::room::{Parts, Rooms};
 use crate::shard::Shard;
+use crate::shard_state::{ShardState, has_value, has_version, late, prune, read, version_count};
 use crate::writing::write_parts;
 use avm_items::{Item, ItemMap, ItemValue};
 use mv_chain::Late;
@@ -26,11 +26,11 @@ use std::marker::Model;
 
 /// Some of the shards, each at its index.
 pub struct Held {
-    parts: Parts,
+    parts: ShardSlots,
     /// One more than the index of the last part, or 0 where there is none.
     end: usize,
     /// Where a commit finds its chains. Nothing rests on it between commits.
-    rooms: Rooms,
+    rooms: ScratchPair,
 }
 
 /// Written out, so that whoever owns one drops it by one call and not part by part.
@@ -67,7 +67,7 @@ impl Held {
                 None, None,
             ],
             end: 0,
-            rooms: Rooms::new(alloc),
+            rooms: ScratchPair::new(alloc),
         }
     }
 
@@ -231,7 +231,7 @@ impl Held {
 }
 
 /// Prunes each part.
-fn prune_all(parts: &mut Parts, timestamp: u64)
+fn prune_all(parts: &mut ShardSlots, timestamp: u64)
     requires { AreInSlots parts.old }
     ensures kept { AreInSlots parts.new }
     ensures pruned { ArePruned timestamp (seen_all parts.old) (seen_all parts.new) }
@@ -245,7 +245,7 @@ fn prune_all(parts: &mut Parts, timestamp: u64)
 
 /// The index of the first part whose low mark is above a timestamp, or how many parts there may be. There is no part from the
 /// end on.
-fn first_above(parts: &Parts, end: usize, timestamp: u64) -> usize
+fn first_above(parts: &ShardSlots, end: usize, timestamp: u64) -> usize
     requires { IsEnd parts.now end }
     ensures few { result ≤ shard_count }
     ensures low { (i : _)
@@ -262,7 +262,7 @@ fn first_above(parts: &Parts, end: usize, timestamp: u64) -> usize
 }
 
 /// Whether the low mark of a part, if there is one, is above a timestamp.
-fn is_above(part: &Option<Part>, timestamp: u64) -> bool
+fn is_above(part: &Option<ShardState>, timestamp: u64) -> bool
     ensures above { IsTrue result → IsAbove timestamp (seen_or_none part.now) }
     ensures low { result ≡ false → IsLowAt timestamp (seen_or_none part.now) }
 {
@@ -274,7 +274,7 @@ fn is_above(part: &Option<Part>, timestamp: u64) -> bool
 
 /// The index of an item's shard, where it is below another one and the item has a version at a timestamp there; else that
 /// other one.
-fn least_with(parts: &Parts, item: &Item, timestamp: u64, least: usize) -> usize
+fn least_with(parts: &ShardSlots, item: &Item, timestamp: u64, least: usize) -> usize
     requires slots { AreInSlots parts.now }
     requires few { least ≤ shard_count }
     requires low { (i : _)
@@ -293,8 +293,8 @@ fn least_with(parts: &Parts, item: &Item, timestamp: u64, least: usize) -> usize
 }
 
 /// Whether an item has a version at a timestamp in a part, if there is one.
-fn has_version_at(part: &Option<Part>, item: &Item, timestamp: u64) -> bool
-    requires kept { IsPartOrNone part.now }
+fn has_version_at(part: &Option<ShardState>, item: &Item, timestamp: u64) -> bool
+    requires kept { IsShardStateOrNone part.now }
     requires low { IsLowAt timestamp (seen_or_none part.now) }
     ensures { result ≡ has_timestamp_in timestamp (seen_or_none part.now) item.now }
 {
@@ -305,7 +305,7 @@ fn has_version_at(part: &Option<Part>, item: &Item, timestamp: u64) -> bool
 }
 
 /// One more than the index of the last part, or 0 where there is none. There is no part from a bound on.
-fn end_of(parts: &Parts, bound: usize) -> usize
+fn end_of(parts: &ShardSlots, bound: usize) -> usize
     requires few { bound ≤ shard_count }
     requires free { AreFreeFrom parts.now bound }
     ensures { IsEnd parts.now result }

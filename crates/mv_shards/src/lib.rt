@@ -7,17 +7,17 @@
 #![tactic(auto)]
 
 mod attempt;
+mod chain_ref;
 mod chains;
+mod commit_scratch;
 mod held;
 mod index;
 mod notes;
 mod number_maps;
-mod part;
 mod read_fault;
-mod room;
 mod shard;
+mod shard_state;
 mod slot;
-mod spot;
 mod writing;
 
 pub use attempt::Attempt;

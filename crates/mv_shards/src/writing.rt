@@ -2,23 +2,23 @@
 
 ghost use Rattle.std.specs.Prelude.{◌≡◌, ◌<◌, ◌≢◌, OnErr, OnOk};
 ghost use Rattle.std.specs.List.{AllByRecursion};
-ghost use Rattle.mv_shards.specs.PartWriting.{AreGrown, AreInstalledAt, AreMarkedAt, ArePlaced, AreReadableSpots, AreReadyPlaced, AreSpots, AreWrittenParts, IsInstalledItem, IsMarkedItem, IsReadableSpot, IsSpot, TakesVersionThere, chains_at, chains_for, first_at};
+ghost use Rattle.mv_shards.specs.SlotWriting.{AreGrown, AreInstalledAt, AreMarkedAt, ArePlaced, AreReadableRefs, AreReadyPlaced, AreChainRefs, AreWrittenSlots, IsInstalledItem, IsMarkedItem, IsReadableRef, IsChainRef, TakesVersionThere, chains_at, chains_for, first_at};
 ghost use Rattle.mv_shards.specs.KeptChains.{AreChains, versions_of};
 ghost use Rattle.mv_shards.specs.KeptHelds.{IsHeldIn};
 ghost use Rattle.mv_shards.specs.Indexes.{shard_of as shard_index};
 
-use crate::room::{Parts, Rooms, make_both};
-use crate::spot::Spot;
+use crate::chain_ref::ChainRef;
+use crate::commit_scratch::{ScratchPair, ShardSlots, make_both};
 use avm_items::{ItemMap, ItemValue};
 use std::alloc::AllocError;
 use std::mem;
 
 /// Notes that the newest version not above a timestamp was read at it, in the chain that stands there.
-fn mark_at(parts: &mut Parts, spot: Spot, timestamp: u64)
-    requires readable { IsReadableSpot timestamp parts.old spot }
+fn mark_at(parts: &mut ShardSlots, spot: ChainRef, timestamp: u64)
+    requires readable { IsReadableRef timestamp parts.old spot }
     requires positive { 0 < timestamp }
     ensures { (item : _)
-        → IsSpot parts.old item spot → IsMarkedItem timestamp item parts.old parts.new }
+        → IsChainRef parts.old item spot → IsMarkedItem timestamp item parts.old parts.new }
 {
     match &mut parts[spot.shard] {
         Some(part) => part.chains.mark(spot.number, timestamp),
@@ -27,11 +27,11 @@ fn mark_at(parts: &mut Parts, spot: Spot, timestamp: u64)
 }
 
 /// Adds a version to the chain that stands there, which takes it.
-fn install_at(parts: &mut Parts, spot: Spot, value: ItemValue, timestamp: u64)
+fn install_at(parts: &mut ShardSlots, spot: ChainRef, value: ItemValue, timestamp: u64)
     requires takes { TakesVersionThere timestamp parts.old spot }
     requires positive { 0 < timestamp }
     ensures { (item : _)
-        → IsSpot parts.old item spot → IsInstalledItem timestamp item value parts.old parts.new }
+        → IsChainRef parts.old item spot → IsInstalledItem timestamp item value parts.old parts.new }
 {
     match &mut parts[spot.shard] {
         Some(part) => part.chains.install(spot.number, value, timestamp),
@@ -40,11 +40,11 @@ fn install_at(parts: &mut Parts, spot: Spot, value: ItemValue, timestamp: u64)
 }
 
 /// Notes of each of these chains that its newest version not above a timestamp was read at it.
-fn mark_all(parts: &mut Parts, spots: &[Spot], timestamp: u64)
-    requires readable { AreReadableSpots timestamp parts.old spots.now }
+fn mark_all(parts: &mut ShardSlots, spots: &[ChainRef], timestamp: u64)
+    requires readable { AreReadableRefs timestamp parts.old spots.now }
     requires positive { 0 < timestamp }
     ensures { (reads : _)
-        → AreSpots parts.old reads spots.now → AreMarkedAt timestamp reads parts.old parts.new }
+        → AreChainRefs parts.old reads spots.now → AreMarkedAt timestamp reads parts.old parts.new }
 {
     for spot in spots {
         mark_at(parts, *spot, timestamp);
@@ -52,7 +52,7 @@ fn mark_all(parts: &mut Parts, spots: &[Spot], timestamp: u64)
 }
 
 /// Adds a version to each of these chains, and takes the values out of the list.
-fn install_all(parts: &mut Parts, placed: &mut [(Spot, ItemValue)], timestamp: u64)
+fn install_all(parts: &mut ShardSlots, placed: &mut [(ChainRef, ItemValue)], timestamp: u64)
     requires ready { AreReadyPlaced timestamp parts.old placed.old }
     requires positive { 0 < timestamp }
     ensures { (writes : _) → ArePlaced parts.old writes placed.old
@@ -66,10 +66,10 @@ fn install_all(parts: &mut Parts, placed: &mut [(Spot, ItemValue)], timestamp: u
 
 /// Adds versions in two sets of parts.
 fn install_both(
-    parts: &mut Parts,
-    placed: &mut [(Spot, ItemValue)],
-    others: &mut Parts,
-    others_placed: &mut [(Spot, ItemValue)],
+    parts: &mut ShardSlots,
+    placed: &mut [(ChainRef, ItemValue)],
+    others: &mut ShardSlots,
+    others_placed: &mut [(ChainRef, ItemValue)],
     timestamp: u64,
 )
     requires ready { AreReadyPlaced timestamp parts.old placed.old }
@@ -85,7 +85,7 @@ fn install_both(
 }
 
 /// What is to be written at a spot, which is left with nothing to write.
-fn taken(placed: &mut (Spot, ItemValue)) -> (Spot, ItemValue)
+fn taken(placed: &mut (ChainRef, ItemValue)) -> (ChainRef, ItemValue)
     ensures { result ≡ placed.old }
 {
     (placed.0, mem::replace(&mut placed.1, ItemValue::Absent))
@@ -94,9 +94,9 @@ fn taken(placed: &mut (Spot, ItemValue)) -> (Spot, ItemValue)
 /// Marks what was read and adds what was written, in this order, in two sets of parts. Where memory is refused, nothing that
 /// is seen of either has changed.
 pub(crate) fn write_parts(
-    rooms: &mut Rooms,
-    parts: &mut Parts,
-    others: &mut Parts,
+    rooms: &mut ScratchPair,
+    parts: &mut ShardSlots,
+    others: &mut ShardSlots,
     reads: &ItemMap,
     writes: &ItemMap,
     timestamp: u64,
@@ -115,8 +115,8 @@ pub(crate) fn write_parts(
         AllByRecursion (λ v. v.timestamp ≢ timestamp) (versions_of (first_at others.old
         (shard_index e.0)) (chains_for others.old e.0) e.0)) writes.now }
     requires positive { 0 < timestamp }
-    ensures written { OnOk result (AreWrittenParts timestamp reads.now writes.now parts.old
-        parts.new × AreWrittenParts timestamp reads.now writes.now others.old others.new) }
+    ensures written { OnOk result (AreWrittenSlots timestamp reads.now writes.now parts.old
+        parts.new × AreWrittenSlots timestamp reads.now writes.now others.old others.new) }
     ensures grown { OnErr result (AreGrown parts.old parts.new × AreGrown others.old others.new) }
 {
     match make_both(rooms, parts, others, reads, writes) {

@@ -1,6 +1,6 @@
 use Rattle.std.proofs.Common.{refl, subst}
 use Rattle.mv_shards.specs.KeptChains.{TakesVersion}
-use Rattle.mv_shards.proofs.Spots.{spot_chains, spot_here, spot_number}
+use Rattle.mv_shards.proofs.ChainRefs.{spot_chains, spot_here, spot_number}
 use Rattle.mv_shards.proofs.Writes.{installed_item}
 use Rattle.mv_shards.proofs.writing.install_at.Goals as goal
 

@@ -1,5 +1,0 @@
-use Rattle.avm_pool.specs.NumberPasses.{IsWith}
-use Rattle.avm_pool.proofs.worker.Site.run_numbers.Given as goal
-
-abbrev pub invariant-loop : goal.invariant-loop
-invariant-loop g l = IsWith l.numbers l.pass

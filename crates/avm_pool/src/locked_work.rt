@@ -1,0 +1,193 @@
+//! A journal together with shards that are locked one after another.
+
+ghost use Rattle.std.specs.Prelude.{◌≡◌, ◌<◌, ◌≤◌, IfSome, length};
+ghost use Rattle.avm_pool.specs.LockedWork.{Works};
+ghost use Rattle.avm_pool.specs.declared.locked_work.LockedWork.TheVariants.{Commit};
+
+use crate::waiting::lock_soon;
+use avm_run::Finished;
+use mv_parts::{Journal, RefusedCommit};
+use mv_shards::{Attempt, Held, Shard};
+use std::alloc::Global;
+use std::mem;
+use std::sync::{Mutex, Wait};
+use teal_value::Failure;
+
+/// A shard, or nothing while it is held with others.
+pub(crate) type ShardLock = Mutex<Option<Shard>>;
+
+/// What is done with a journal and the shards that are held. It is lent while they are locked, and taken once.
+#[derive(Drop)]
+pub(crate) enum LockedWork {
+    Commit(Attempt, Finished),
+    Prune,
+}
+
+/// What came of it.
+#[derive(Drop)]
+pub(crate) enum CommitResult {
+    /// The call is committed, or all was pruned as far as it could be.
+    Done,
+    /// Nothing was committed, and another attempt may be.
+    Again(Attempt),
+    /// Memory was refused to the commit.
+    Memory(Attempt),
+}
+
+impl LockedWork {
+    /// A commit. The lists of what was read and is written are made as they stay, before any lock is taken.
+    pub fn commit(alloc: Global, attempt: Attempt, finished: Finished) -> LockedWork
+        ensures { result ≡ Commit attempt finished }
+    {
+        LockedWork::Commit(attempt.without_room(alloc), finished.without_room(alloc))
+    }
+
+    /// The work, which is left as one that does little.
+    fn taken(&mut self) -> LockedWork
+        ensures { result ≡ self.old }
+    {
+        mem::replace(self, LockedWork::Prune)
+    }
+
+    /// Does it with all shards that are held. It is out of line, as is [`Work::not_done`], so that whoever locks shards has no
+    /// room for work among the own variables.
+    #[inline(never)]
+    fn done(&mut self, journal: &mut Journal, held: &mut Held) -> CommitResult
+        ensures { Works self.old journal.old journal.new result }
+    {
+        match self.taken() {
+            LockedWork::Commit(attempt, finished) => commit(journal, held, attempt, finished),
+            LockedWork::Prune => {
+                let clock = journal.clock();
+                journal.prune(held, clock);
+                CommitResult::Done
+            }
+        }
+    }
+
+    /// What comes of it where a shard is not there.
+    #[cold]
+    #[inline(never)]
+    fn not_done(&mut self) -> CommitResult
+        ensures { (journal : _) → Works self.old journal journal result }
+    {
+        match self.taken() {
+            LockedWork::Commit(attempt, _finished) => CommitResult::Again(attempt),
+            LockedWork::Prune => CommitResult::Done,
+        }
+    }
+}
+
+/// Commits a call whose shards are held.
+fn commit(
+    journal: &mut Journal,
+    held: &mut Held,
+    attempt: Attempt,
+    finished: Finished,
+) -> CommitResult
+    ensures { Works (Commit attempt finished) journal.old journal.new result }
+{
+    if !held.covers(attempt.reads()) || !held.covers(finished.writes()) {
+        return CommitResult::Again(attempt);
+    }
+    match journal.commit(held, attempt, finished) {
+        Ok(_timestamp) => CommitResult::Done,
+        Err(refused) => not_committed(refused),
+    }
+}
+
+/// What comes of a commit that was refused.
+fn not_committed(refused: RefusedCommit) -> CommitResult
+    ensures { (finished : _) (journal : _)
+        → Works (Commit refused.attempt finished) journal journal result }
+{
+    let RefusedCommit {
+        error,
+        attempt,
+        finished: _finished,
+    } = refused;
+    match error {
+        Failure::Memory => CommitResult::Memory(attempt),
+        Failure::Fault(_fault) => CommitResult::Again(attempt),
+    }
+}
+
+/// The locks of all shards, which of them are wanted, by index, and the runtime in which a thread waits for them.
+#[derive(Drop)]
+pub(crate) struct Wanted<'a, R> {
+    pub rt: &'a R,
+    pub locks: &'a [ShardLock],
+    pub wanted: &'a [bool],
+}
+
+/// Locks the shards that are wanted, by rising index, and does the work while all of them are held. No lock is let go
+/// before it is done; then each shard goes back behind its own.
+pub(crate) fn work_with<R: Wait>(
+    shards: &Wanted<R>,
+    journal: &mut Journal,
+    held: &mut Held,
+    work: &mut LockedWork,
+) -> CommitResult
+    ensures { Works work.old journal.old journal.new result }
+{
+    work_from(shards, 0, journal, held, work)
+}
+
+/// Locks those from an index on too, and does the work.
+fn work_from<R: Wait>(
+    shards: &Wanted<R>,
+    from: usize,
+    journal: &mut Journal,
+    held: &mut Held,
+    work: &mut LockedWork,
+) -> CommitResult
+    ensures { Works work.old journal.old journal.new result }
+{
+    let Some(index) = next_wanted(shards.wanted, from) else {
+        return work.done(journal, held);
+    };
+    let Some(lock) = shards.locks.get(index) else {
+        return work.not_done();
+    };
+    let mut guard = lock_soon(shards.rt, lock);
+    if !hold(held, &mut guard) {
+        return work.not_done();
+    }
+    let worked = work_from(shards, index + 1, journal, held, work);
+    give_back(held, &mut guard);
+    worked
+}
+
+/// Holds the shard that is there with the others. It is out of line, so that whoever locks shards has no room for one among the
+/// own variables.
+#[inline(never)]
+fn hold(held: &mut Held, slot: &mut Option<Shard>) -> bool {
+    let Some(shard) = slot.take() else {
+        return false;
+    };
+    match held.add(shard) {
+        Ok(()) => true,
+        Err(shard) => {
+            *slot = Some(shard);
+            false
+        }
+    }
+}
+
+/// Puts the last of the shards that are held back. It is out of line, as [`hold`] is.
+#[inline(never)]
+fn give_back(held: &mut Held, slot: &mut Option<Shard>) {
+    *slot = held.take();
+}
+
+/// The least index of a shard that is wanted, from an index on.
+fn next_wanted(wanted: &[bool], from: usize) -> Option<usize>
+    ensures { IfSome result (λ index. (from ≤ index) × (index < length wanted.now)) }
+{
+    for index in from..wanted.len() {
+        if wanted[index] {
+            return Some(index);
+        }
+    }
+    None
+}

@@ -1,6 +1,0 @@
-use Rattle.std.proofs.Common.{drop}
-use Rattle.mv_shards.proofs.Rooms.{MakesOn, has_room}
-use Rattle.mv_shards.proofs.room.place_writes.Given as goal
-
-abbrev pub invariant-loop-item : goal.invariant-loop-item
-invariant-loop-item l = MakesOn has_room l.writes l.fn.parts (drop l.item-index l.writes) l.placed.items l.parts
