@@ -8,7 +8,7 @@ use Rattle.mv_shards.specs.declared.shard_state.ShardState.{ShardState}
 use Rattle.mv_shards.specs.declared.chain_ref.ChainRef.{ChainRef}
 use Rattle.mv_shards.specs.Indexes.{shard_of}
 use Rattle.mv_shards.specs.KeptChains.{AllVersions, number_in, one_marked}
-use Rattle.mv_shards.specs.SlotWriting.{AreBeside, ArePlaced, AreChainRefs, AreChainRefsKept, IsPlaced, IsChainRef, ShardSlots, chains_at, chains_for, chains_or, versions_marked}
+use Rattle.mv_shards.specs.SlotWriting.{AreBeside, ArePlaced, AreChainRefs, AreChainRefsKept, IsPlaced, IsChainRef, StateSlots, chains_at, chains_for, chains_or, versions_marked}
 use Rattle.mv_shards.proofs.Numbers.{one_numbered}
 use Rattle.mv_shards.proofs.Slots.{here_at}
 
@@ -19,7 +19,7 @@ some_within [] i there = absurd cc
 some_within (x ∷ xs) zero there = omega arith
 some_within (x ∷ xs) (suc i) there = let h = some_within xs i there in omega (arith, h)
 
-spot_held : (parts : ShardSlots) (x : Item) (spot : ChainRef) → IsChainRef parts x spot → IsSome (get_or parts (shard_of x) None)
+spot_held : (parts : StateSlots) (x : Item) (spot : ChainRef) → IsChainRef parts x spot → IsSome (get_or parts (shard_of x) None)
 spot_held parts x spot h = by (get_or parts (shard_of x) None) h.number
   where
     by : (o : Option ShardState) → number_in (chains_or o) x ≡ Some spot.number → IsSome o
@@ -27,38 +27,38 @@ spot_held parts x spot h = by (get_or parts (shard_of x) None) h.number
     by (Some p) number = refl
 
 -- where an item's chain stands at a spot, there is a part at the spot's index
-pub spot_there : (parts : ShardSlots) (x : Item) (spot : ChainRef) → IsChainRef parts x spot → IsSome (get_or parts spot.shard None)
+pub spot_there : (parts : StateSlots) (x : Item) (spot : ChainRef) → IsChainRef parts x spot → IsSome (get_or parts spot.shard None)
 spot_there parts x spot h = subst (λ i. IsSome (get_or parts i None)) (sym h.shard) (spot_held parts x spot h)
 
-pub spot_within : (parts : ShardSlots) (x : Item) (spot : ChainRef) → IsChainRef parts x spot → spot.shard < length parts
+pub spot_within : (parts : StateSlots) (x : Item) (spot : ChainRef) → IsChainRef parts x spot → spot.shard < length parts
 spot_within parts x spot h = some_within parts spot.shard (spot_there parts x spot h)
 
 -- the part found at the index of a spot does not depend on the default
-pub spot_here : (parts : ShardSlots) (x : Item) (spot : ChainRef) (d : Option ShardState) (p : ShardState) → IsChainRef parts x spot
+pub spot_here : (parts : StateSlots) (x : Item) (spot : ChainRef) (d : Option ShardState) (p : ShardState) → IsChainRef parts x spot
     → get_or parts spot.shard d ≡ Some p → get_or parts spot.shard None ≡ Some p
 spot_here parts x spot d p h found = here_at parts spot.shard x d p h.shard (spot_held parts x spot h) found
 
 -- the chains of that part are those of the item's shard
-pub spot_chains : (parts : ShardSlots) (x : Item) (spot : ChainRef) (p : ShardState) → IsChainRef parts x spot
+pub spot_chains : (parts : StateSlots) (x : Item) (spot : ChainRef) (p : ShardState) → IsChainRef parts x spot
     → get_or parts spot.shard None ≡ Some p → chains_for parts x ≡ p.chains
 spot_chains parts x spot p h here = ap (chains_at parts) (sym h.shard) ∙ ap chains_or here
 
 -- the item has the spot's number among the chains of that part
-pub spot_number : (parts : ShardSlots) (x : Item) (spot : ChainRef) (p : ShardState) → IsChainRef parts x spot
+pub spot_number : (parts : StateSlots) (x : Item) (spot : ChainRef) (p : ShardState) → IsChainRef parts x spot
     → get_or parts spot.shard None ≡ Some p → number_in p.chains x ≡ Some spot.number
 spot_number parts x spot p h here = subst (λ map. number_in map x ≡ Some spot.number) (spot_chains parts x spot p h here) h.number
 
 -- where chains keep their numbers, items keep their spots
-pub spot_kept : (old new : ShardSlots) → AreChainRefsKept old new → (x : Item) (spot : ChainRef) → IsChainRef old x spot
+pub spot_kept : (old new : StateSlots) → AreChainRefsKept old new → (x : Item) (spot : ChainRef) → IsChainRef old x spot
     → IsChainRef new x spot
 spot_kept old new kept x spot h = record { shard = h.shard; number = kept (shard_of x) x spot.number h.number }
 
-pub placed_kept : (old new : ShardSlots) → AreChainRefsKept old new → (e : Item × ItemValue) (placed : ChainRef × ItemValue)
+pub placed_kept : (old new : StateSlots) → AreChainRefsKept old new → (e : Item × ItemValue) (placed : ChainRef × ItemValue)
     → IsPlaced old e placed → IsPlaced new e placed
 placed_kept old new kept e placed h = record { spot = spot_kept old new kept e.0 placed.0 h.spot; value = h.value }
 
 -- one item stands there
-pub one_there : (parts : ShardSlots) (x y : Item) (spot : ChainRef) → IsChainRef parts x spot → IsChainRef parts y spot → x ≡ y
+pub one_there : (parts : StateSlots) (x y : Item) (spot : ChainRef) → IsChainRef parts x spot → IsChainRef parts y spot → x ≡ y
 one_there parts x y spot h k =
     one_numbered (chains_for parts x) x y spot.number h.number (subst (λ i. number_in (chains_at parts i) y ≡ Some spot.number) (sym k.shard ∙ h.shard) k.number)
 
@@ -72,16 +72,16 @@ beside_each P Q f [] (b ∷ bs) h = absurd h
 beside_each P Q f (e ∷ es) [] h = absurd h
 beside_each P Q f (e ∷ es) (b ∷ bs) h = (f e b h.0, beside_each P Q f es bs h.1)
 
-pub spots_kept : (old new : ShardSlots) → AreChainRefsKept old new → (es : ItemMap) (spots : List ChainRef) → AreChainRefs old es spots
+pub spots_kept : (old new : StateSlots) → AreChainRefsKept old new → (es : ItemMap) (spots : List ChainRef) → AreChainRefs old es spots
     → AreChainRefs new es spots
 spots_kept old new kept = beside_each (λ e s. IsChainRef old e.0 s) (λ e s. IsChainRef new e.0 s) (λ e. spot_kept old new kept e.0)
 
-pub all_placed_kept : (old new : ShardSlots) → AreChainRefsKept old new → (es : ItemMap) (placed : List (ChainRef × ItemValue))
+pub all_placed_kept : (old new : StateSlots) → AreChainRefsKept old new → (es : ItemMap) (placed : List (ChainRef × ItemValue))
     → ArePlaced old es placed → ArePlaced new es placed
 all_placed_kept old new kept = beside_each (IsPlaced old) (IsPlaced new) (placed_kept old new kept)
 
 -- what stands there is what is marked
-pub marked_there : (i t : ℕ) (parts : ShardSlots) (es fs : ItemMap) (spots : List ChainRef) (all : AllVersions ItemValue)
+pub marked_there : (i t : ℕ) (parts : StateSlots) (es fs : ItemMap) (spots : List ChainRef) (all : AllVersions ItemValue)
     → AreChainRefs parts es spots → AreChainRefs parts fs spots → versions_marked i t es all ≡ versions_marked i t fs all
 marked_there i t parts [] [] [] all h k = refl
 marked_there i t parts [] fs (s ∷ ss) all h k = absurd h
@@ -93,7 +93,7 @@ marked_there i t parts (e ∷ es) (f ∷ fs) (s ∷ ss) all h k =
     ∙ marked_there i t parts es fs ss (if shard_of f.0 == i then one_marked t f.0 all else all) h.1 k.1
 
 -- items with values that are placed at the same spots, with the same values, are the same
-pub placed_once : (parts : ShardSlots) (es fs : ItemMap) (placed : List (ChainRef × ItemValue)) → ArePlaced parts es placed
+pub placed_once : (parts : StateSlots) (es fs : ItemMap) (placed : List (ChainRef × ItemValue)) → ArePlaced parts es placed
     → ArePlaced parts fs placed → es ≡ fs
 placed_once parts [] [] [] h k = refl
 placed_once parts [] fs (p ∷ ps) h k = absurd h

@@ -12,7 +12,7 @@ use Rattle.mv_shards.specs.KeptChains.{HasRoomFor, IsGrown}
 use Rattle.mv_shards.specs.Indexes.{shard_of}
 use Rattle.mv_shards.specs.KeptHelds.{IsHeldIn}
 use Rattle.mv_shards.specs.declared.chain_ref.ChainRef.{ChainRef}
-use Rattle.mv_shards.specs.SlotWriting.{AreBeside, AreGrown, AreRoomier, Frame, IsPlaced, IsChainRef, ShardSlots, chains_at, chains_for, first_at, first_or, frame_at, frame_or}
+use Rattle.mv_shards.specs.SlotWriting.{AreBeside, AreGrown, AreRoomier, Frame, IsPlaced, IsChainRef, StateSlots, chains_at, chains_for, first_at, first_or, frame_at, frame_or}
 use Rattle.mv_shards.proofs.ChainRefs.{placed_kept, spot_kept}
 use Rattle.mv_shards.proofs.OneChain.{grown_itself, grown_then, roomier_itself, roomier_then}
 
@@ -38,20 +38,20 @@ some_same None (Some p) same there = absurd cc
 some_same (Some o) p same there = refl
 
 -- where all frames stay, the parts of items that were there are still there
-pub held_still : (old new : ShardSlots) → ((i : ℕ) → frame_at new i ≡ frame_at old i) → (x : Item) → IsHeldIn old x → IsHeldIn new x
+pub held_still : (old new : StateSlots) → ((i : ℕ) → frame_at new i ≡ frame_at old i) → (x : Item) → IsHeldIn old x → IsHeldIn new x
 held_still old new frames x there = some_same (get_or new (shard_of x) None) (get_or old (shard_of x) None) (frames (shard_of x)) there
 
-pub all_held_still : (old new : ShardSlots) → ((i : ℕ) → frame_at new i ≡ frame_at old i) → (es : ItemMap) → AllByRecursion (λ e. IsHeldIn old e.0) es → AllByRecursion (λ e. IsHeldIn new e.0) es
+pub all_held_still : (old new : StateSlots) → ((i : ℕ) → frame_at new i ≡ frame_at old i) → (es : ItemMap) → AllByRecursion (λ e. IsHeldIn old e.0) es → AllByRecursion (λ e. IsHeldIn new e.0) es
 all_held_still old new frames [] h = tt
 all_held_still old new frames (e ∷ es) h = (held_still old new frames e.0 h.0, all_held_still old new frames es h.1)
 
 -- ---- one after another
 
 -- parts are grown from themselves, and growth after growth is growth
-pub parts_itself : (parts : ShardSlots) → AreGrown parts parts
+pub parts_itself : (parts : StateSlots) → AreGrown parts parts
 parts_itself parts = record { count = refl; frames = λ i. refl; maps = λ i. grown_itself (first_at parts i) (chains_at parts i) }
 
-pub parts_then : (old new later : ShardSlots) → AreGrown old new → AreGrown new later → AreGrown old later
+pub parts_then : (old new later : StateSlots) → AreGrown old new → AreGrown new later → AreGrown old later
 parts_then old new later g h = record {
   count = h.count ∙ g.count;
   frames = λ i. h.frames i ∙ g.frames i;
@@ -60,31 +60,31 @@ parts_then old new later g h = record {
 }
 
 -- no chain and no room is lost where the parts stay, nor by two steps that each lose none
-pub rooms_itself : (parts : ShardSlots) → AreRoomier parts parts
+pub rooms_itself : (parts : StateSlots) → AreRoomier parts parts
 rooms_itself parts i = roomier_itself (chains_at parts i)
 
-pub rooms_then : (old new later : ShardSlots) → AreRoomier old new → AreRoomier new later → AreRoomier old later
+pub rooms_then : (old new later : StateSlots) → AreRoomier old new → AreRoomier new later → AreRoomier old later
 rooms_then old new later g h i = roomier_then (chains_at old i) (chains_at new i) (chains_at later i) (g i) (h i)
 
 -- ---- many items
 
 -- the parts grew from those at the start, and those of the items that are left are there
-pub record GrowsOn (start : ShardSlots) (left : ItemMap) (parts : ShardSlots) : Type 0 where
+pub record GrowsOn (start : StateSlots) (left : ItemMap) (parts : StateSlots) : Type 0 where
   pub grown : AreGrown start parts
   pub held : AllByRecursion (λ e. IsHeldIn parts e.0) left
 
 -- at the start, all items are left
-pub grows_first : (start : ShardSlots) (all : ItemMap) → AllByRecursion (λ e. IsHeldIn start e.0) all
+pub grows_first : (start : StateSlots) (all : ItemMap) → AllByRecursion (λ e. IsHeldIn start e.0) all
     → GrowsOn start all start
 grows_first start all held = record { grown = parts_itself start; held = held }
 
 -- the part of the next item is there
-pub grows_next : (start : ShardSlots) (left rest : ItemMap) (e : Item × ItemValue) (parts : ShardSlots) → left ≡ e ∷ rest
+pub grows_next : (start : StateSlots) (left rest : ItemMap) (e : Item × ItemValue) (parts : StateSlots) → left ≡ e ∷ rest
     → GrowsOn start left parts → IsHeldIn parts e.0
 grows_next start left rest e parts is m = (subst (AllByRecursion (λ f. IsHeldIn parts f.0)) is m.held).0
 
 -- after growth for the next item, the others are left
-pub grows_on : (start : ShardSlots) (left rest : ItemMap) (e : Item × ItemValue) (parts new : ShardSlots) → left ≡ e ∷ rest
+pub grows_on : (start : StateSlots) (left rest : ItemMap) (e : Item × ItemValue) (parts new : StateSlots) → left ≡ e ∷ rest
     → AreGrown parts new → GrowsOn start left parts → GrowsOn start rest new
 grows_on start left rest e parts new is grown m = record {
   grown = parts_then start parts new m.grown grown;
@@ -93,7 +93,7 @@ grows_on start left rest e parts new is grown m = record {
 
 -- what parts make of an item
 abbrev pub Gift : Type 0 → Type 1
-Gift B = ShardSlots → Item × ItemValue → B → Type 0
+Gift B = StateSlots → Item × ItemValue → B → Type 0
 
 -- the spot where the item's chain stands
 abbrev pub has_spot : Gift ChainRef
@@ -105,7 +105,7 @@ has_room parts e placed = IsPlaced parts e placed × HasRoomFor (chains_for part
 
 -- what is made stays while parts grow roomier
 abbrev pub Stays : {B : Type 0} → Gift B → Type 0
-Stays {B} P = (old new : ShardSlots) → AreRoomier old new → (e : Item × ItemValue) (b : B) → P old e b → P new e b
+Stays {B} P = (old new : StateSlots) → AreRoomier old new → (e : Item × ItemValue) (b : B) → P old e b → P new e b
 
 pub spot_stays : Stays has_spot
 spot_stays old new g e spot h = spot_kept old new (λ i. (g i).numbers) e.0 spot h
@@ -114,14 +114,14 @@ pub room_stays : Stays has_room
 room_stays old new g e placed h = (placed_kept old new (λ i. (g i).numbers) e placed h.0, (g (shard_of e.0)).rooms e.0 h.1)
 
 -- what was made so far, and what is made of the items that are left, is made of all
-pub record MakesOn {B : Type 0} (P : Gift B) (all : ItemMap) (start : ShardSlots) (left : ItemMap) (made : List B) (parts : ShardSlots) : Type 0 where
+pub record MakesOn {B : Type 0} (P : Gift B) (all : ItemMap) (start : StateSlots) (left : ItemMap) (made : List B) (parts : StateSlots) : Type 0 where
   pub grows : GrowsOn start left parts
   pub roomier : AreRoomier start parts
-  pub rest : (new : ShardSlots) (more : List B) → AreRoomier parts new → AreBeside (P new) left more
+  pub rest : (new : StateSlots) (more : List B) → AreRoomier parts new → AreBeside (P new) left more
       → AreBeside (P new) all (made ++ more)
 
 -- at the start nothing is made, and all items are left
-pub makes_first : {B : Type 0} (P : Gift B) (all : ItemMap) (start : ShardSlots) (made : List B) → made ≡ []
+pub makes_first : {B : Type 0} (P : Gift B) (all : ItemMap) (start : StateSlots) (made : List B) → made ≡ []
     → AllByRecursion (λ e. IsHeldIn start e.0) all → MakesOn P all start all made start
 makes_first {B} P all start made none held = record {
   grows = grows_first start all held;
@@ -131,7 +131,7 @@ makes_first {B} P all start made none held = record {
 
 -- what is made of the next item joins what was made, and the others are left
 pub makes_on : {B : Type 0} (P : Gift B) → Stays P
-    → (all : ItemMap) (start : ShardSlots) (left rest : ItemMap) (made later : List B) (e : Item × ItemValue) (b : B) (parts new : ShardSlots)
+    → (all : ItemMap) (start : StateSlots) (left rest : ItemMap) (made later : List B) (e : Item × ItemValue) (b : B) (parts new : StateSlots)
     → left ≡ e ∷ rest → later ≡ made ++ b ∷ [] → AreGrown parts new → AreRoomier parts new → P new e b → MakesOn P all start left made parts → MakesOn P all start rest later new
 makes_on {B} P stays all start left rest made later e b parts new is pushed grown roomier given m = record {
   grows = grows_on start left rest e parts new is grown m.grows;
@@ -142,7 +142,7 @@ makes_on {B} P stays all start left rest made later e b parts new is pushed grow
 }
 
 -- where no items are left, what was made is made of all
-pub makes_all : {B : Type 0} (P : Gift B) (all : ItemMap) (start : ShardSlots) (left : ItemMap) (made : List B) (parts : ShardSlots)
+pub makes_all : {B : Type 0} (P : Gift B) (all : ItemMap) (start : StateSlots) (left : ItemMap) (made : List B) (parts : StateSlots)
     → left ≡ [] → MakesOn P all start left made parts → AreBeside (P parts) all made
 makes_all {B} P all start left made parts none m =
     subst (λ (bs : List B). AreBeside (P parts) all bs) (append-nil made)

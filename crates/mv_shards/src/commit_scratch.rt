@@ -14,7 +14,7 @@ use avm_items::{Item, ItemMap, ItemValue};
 use std::alloc::{AllocError, Global};
 
 /// The shards that are held, each at its index.
-pub(crate) type ShardSlots = [Option<ShardState>; 16];
+pub(crate) type StateSlots = [Option<ShardState>; 16];
 
 /// Where the chains stand of what was read, and of what is to be written, beside its new value.
 #[derive(Drop)]
@@ -51,7 +51,7 @@ impl ScratchPair {
 }
 
 /// Gives an item a chain in its shard, if it has none, and says where it stands.
-fn add_chain_for(parts: &mut ShardSlots, item: &Item) -> Result<ChainRef, AllocError>
+fn add_chain_for(parts: &mut StateSlots, item: &Item) -> Result<ChainRef, AllocError>
     requires { IsHeldIn parts.old item.now }
     ensures grown { AreGrown parts.old parts.new }
     ensures roomier { OnOk result (AreRoomier parts.old parts.new) }
@@ -68,7 +68,7 @@ fn add_chain_for(parts: &mut ShardSlots, item: &Item) -> Result<ChainRef, AllocE
 }
 
 /// Makes room for one more version in the chain that stands there.
-fn reserve_at(parts: &mut ShardSlots, spot: ChainRef) -> Result<(), AllocError>
+fn reserve_at(parts: &mut StateSlots, spot: ChainRef) -> Result<(), AllocError>
     requires { (item : _) × IsChainRef parts.old item spot }
     ensures grown { AreGrown parts.old parts.new }
     ensures roomier { OnOk result (AreRoomier parts.old parts.new) }
@@ -82,7 +82,7 @@ fn reserve_at(parts: &mut ShardSlots, spot: ChainRef) -> Result<(), AllocError>
 }
 
 /// Gives an item a chain in its shard, if it has none, and room for one more version there.
-fn add_room_for(parts: &mut ShardSlots, item: &Item) -> Result<ChainRef, AllocError>
+fn add_room_for(parts: &mut StateSlots, item: &Item) -> Result<ChainRef, AllocError>
     requires { IsHeldIn parts.old item.now }
     ensures grown { AreGrown parts.old parts.new }
     ensures roomier { OnOk result (AreRoomier parts.old parts.new) }
@@ -97,7 +97,7 @@ fn add_room_for(parts: &mut ShardSlots, item: &Item) -> Result<ChainRef, AllocEr
 /// Gives each item that was read a chain in its shard, if it has none, and lists where they stand.
 fn place_reads(
     spots: &mut Vec<ChainRef>,
-    parts: &mut ShardSlots,
+    parts: &mut StateSlots,
     reads: &ItemMap,
 ) -> Result<(), AllocError>
     requires { AllByRecursion (λ e. IsHeldIn parts.old e.0) reads.now }
@@ -118,7 +118,7 @@ fn place_reads(
 /// values.
 fn place_writes(
     placed: &mut Vec<(ChainRef, ItemValue)>,
-    parts: &mut ShardSlots,
+    parts: &mut StateSlots,
     writes: &ItemMap,
 ) -> Result<(), AllocError>
     requires { AllByRecursion (λ e. IsHeldIn parts.old e.0) writes.now }
@@ -139,7 +139,7 @@ fn place_writes(
 /// copies the writes. What is seen of the shards stays, also where memory is refused.
 fn make_room(
     room: &mut CommitScratch,
-    parts: &mut ShardSlots,
+    parts: &mut StateSlots,
     reads: &ItemMap,
     writes: &ItemMap,
 ) -> Result<(), AllocError>
@@ -156,8 +156,8 @@ fn make_room(
 /// Makes room in two sets of parts, with copies of the writes for each.
 pub(crate) fn make_both(
     rooms: &mut ScratchPair,
-    parts: &mut ShardSlots,
-    others: &mut ShardSlots,
+    parts: &mut StateSlots,
+    others: &mut StateSlots,
     reads: &ItemMap,
     writes: &ItemMap,
 ) -> Result<(), AllocError>

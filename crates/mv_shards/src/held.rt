@@ -13,7 +13,7 @@ ghost use Rattle.mv_shards.specs.SlotWriting.{IsAbove, IsLeastWith, has_timestam
 ghost use Rattle.mv_chain.specs.Versions.{lateness, newest_at};
 
 use crate::attempt::Attempt;
-use crate::commit_scratch::{ScratchPair, ShardSlots};
+use crate::commit_scratch::{ScratchPair, StateSlots};
 use crate::index::{SHARD_COUNT, shard_of};
 use crate::read_fault::ReadError;
 use crate::shard::Shard;
@@ -26,7 +26,7 @@ use std::marker::Model;
 
 /// Some of the shards, each at its index.
 pub struct Held {
-    parts: ShardSlots,
+    parts: StateSlots,
     /// One more than the index of the last part, or 0 where there is none.
     end: usize,
     /// Where a commit finds its chains. Nothing rests on it between commits.
@@ -231,7 +231,7 @@ impl Held {
 }
 
 /// Prunes each part.
-fn prune_all(parts: &mut ShardSlots, timestamp: u64)
+fn prune_all(parts: &mut StateSlots, timestamp: u64)
     requires { AreInSlots parts.old }
     ensures kept { AreInSlots parts.new }
     ensures pruned { ArePruned timestamp (seen_all parts.old) (seen_all parts.new) }
@@ -245,7 +245,7 @@ fn prune_all(parts: &mut ShardSlots, timestamp: u64)
 
 /// The index of the first part whose low mark is above a timestamp, or how many parts there may be. There is no part from the
 /// end on.
-fn first_above(parts: &ShardSlots, end: usize, timestamp: u64) -> usize
+fn first_above(parts: &StateSlots, end: usize, timestamp: u64) -> usize
     requires { IsEnd parts.now end }
     ensures few { result ≤ shard_count }
     ensures low { (i : _)
@@ -274,7 +274,7 @@ fn is_above(part: &Option<ShardState>, timestamp: u64) -> bool
 
 /// The index of an item's shard, where it is below another one and the item has a version at a timestamp there; else that
 /// other one.
-fn least_with(parts: &ShardSlots, item: &Item, timestamp: u64, least: usize) -> usize
+fn least_with(parts: &StateSlots, item: &Item, timestamp: u64, least: usize) -> usize
     requires slots { AreInSlots parts.now }
     requires few { least ≤ shard_count }
     requires low { (i : _)
@@ -305,7 +305,7 @@ fn has_version_at(part: &Option<ShardState>, item: &Item, timestamp: u64) -> boo
 }
 
 /// One more than the index of the last part, or 0 where there is none. There is no part from a bound on.
-fn end_of(parts: &ShardSlots, bound: usize) -> usize
+fn end_of(parts: &StateSlots, bound: usize) -> usize
     requires few { bound ≤ shard_count }
     requires free { AreFreeFrom parts.now bound }
     ensures { IsEnd parts.now result }

@@ -8,13 +8,13 @@ ghost use Rattle.mv_shards.specs.KeptHelds.{IsHeldIn};
 ghost use Rattle.mv_shards.specs.Indexes.{shard_of as shard_index};
 
 use crate::chain_ref::ChainRef;
-use crate::commit_scratch::{ScratchPair, ShardSlots, make_both};
+use crate::commit_scratch::{ScratchPair, StateSlots, make_both};
 use avm_items::{ItemMap, ItemValue};
 use std::alloc::AllocError;
 use std::mem;
 
 /// Notes that the newest version not above a timestamp was read at it, in the chain that stands there.
-fn mark_at(parts: &mut ShardSlots, spot: ChainRef, timestamp: u64)
+fn mark_at(parts: &mut StateSlots, spot: ChainRef, timestamp: u64)
     requires readable { IsReadableRef timestamp parts.old spot }
     requires positive { 0 < timestamp }
     ensures { (item : _)
@@ -27,7 +27,7 @@ fn mark_at(parts: &mut ShardSlots, spot: ChainRef, timestamp: u64)
 }
 
 /// Adds a version to the chain that stands there, which takes it.
-fn install_at(parts: &mut ShardSlots, spot: ChainRef, value: ItemValue, timestamp: u64)
+fn install_at(parts: &mut StateSlots, spot: ChainRef, value: ItemValue, timestamp: u64)
     requires takes { TakesVersionThere timestamp parts.old spot }
     requires positive { 0 < timestamp }
     ensures { (item : _)
@@ -40,7 +40,7 @@ fn install_at(parts: &mut ShardSlots, spot: ChainRef, value: ItemValue, timestam
 }
 
 /// Notes of each of these chains that its newest version not above a timestamp was read at it.
-fn mark_all(parts: &mut ShardSlots, spots: &[ChainRef], timestamp: u64)
+fn mark_all(parts: &mut StateSlots, spots: &[ChainRef], timestamp: u64)
     requires readable { AreReadableRefs timestamp parts.old spots.now }
     requires positive { 0 < timestamp }
     ensures { (reads : _)
@@ -52,7 +52,7 @@ fn mark_all(parts: &mut ShardSlots, spots: &[ChainRef], timestamp: u64)
 }
 
 /// Adds a version to each of these chains, and takes the values out of the list.
-fn install_all(parts: &mut ShardSlots, placed: &mut [(ChainRef, ItemValue)], timestamp: u64)
+fn install_all(parts: &mut StateSlots, placed: &mut [(ChainRef, ItemValue)], timestamp: u64)
     requires ready { AreReadyPlaced timestamp parts.old placed.old }
     requires positive { 0 < timestamp }
     ensures { (writes : _) → ArePlaced parts.old writes placed.old
@@ -66,9 +66,9 @@ fn install_all(parts: &mut ShardSlots, placed: &mut [(ChainRef, ItemValue)], tim
 
 /// Adds versions in two sets of parts.
 fn install_both(
-    parts: &mut ShardSlots,
+    parts: &mut StateSlots,
     placed: &mut [(ChainRef, ItemValue)],
-    others: &mut ShardSlots,
+    others: &mut StateSlots,
     others_placed: &mut [(ChainRef, ItemValue)],
     timestamp: u64,
 )
@@ -95,8 +95,8 @@ fn taken(placed: &mut (ChainRef, ItemValue)) -> (ChainRef, ItemValue)
 /// is seen of either has changed.
 pub(crate) fn write_parts(
     rooms: &mut ScratchPair,
-    parts: &mut ShardSlots,
-    others: &mut ShardSlots,
+    parts: &mut StateSlots,
+    others: &mut StateSlots,
     reads: &ItemMap,
     writes: &ItemMap,
     timestamp: u64,
