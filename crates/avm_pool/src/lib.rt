@@ -6,6 +6,7 @@
 //! specs/Proposals.antt says so without a word about them.
 #![tactic(auto)]
 
+mod after_workers;
 mod block_prefix;
 mod call_numbers;
 mod draft;
@@ -18,7 +19,6 @@ mod pool_fault;
 mod proposal;
 mod proposing;
 mod refusals;
-mod remaining;
 mod running;
 mod thread_room;
 mod waiting;

@@ -8,6 +8,7 @@ ghost use Rattle.avm_pool.specs.Proposals.{IsProposal};
 ghost use Rattle.avm_pool.specs.Refusals.{IsRefusal, IsWant, MayPropose};
 ghost use Rattle.avm_pool.specs.Resting.{IsStill};
 
+use crate::after_workers::run_remaining;
 use crate::block_prefix::BlockPrefix;
 use crate::draft::{Crew, Draft, SharedDraft, ThreadSets};
 use crate::finishing::{Remains, proposal_of, to_free};
@@ -16,7 +17,6 @@ use crate::locked_work::ShardLock;
 use crate::pool_fault::{PoolError, PoolFault};
 use crate::proposal::Proposal;
 use crate::refusals::pool_fault;
-use crate::remaining::run_remaining;
 use crate::running::Shared;
 use crate::workers::run_sets;
 use avm_ledger::Ledger;
