@@ -40,7 +40,7 @@ extern "C" {
 enum avm_status {
     AVM_DONE = 0,           /* It was done: the bytes are a program, the block agrees, the answer was written. */
     AVM_REFUSED = 1,        /* The command refuses its input, and the answer says why. Of avm_c_answer and avm_c_json alone. */
-    AVM_USAGE = 2,          /* The words are no command, and the answer is the usage line. Of these two alone. */
+    AVM_USAGE = 2,          /* The words are no command, and the answer is the usage line. Of these two, and of avm_c_diagnose. */
     AVM_MEMORY = 3,         /* Memory was refused. Nothing was written, but for a 0 in `written`. */
     AVM_NO_ROOM = 4,        /* The answer is longer than the room. */
     AVM_PROPOSE = 5,        /* The words are `propose`, which takes threads: no command here. Of avm_c_answer alone. */
@@ -57,8 +57,9 @@ enum avm_status {
     AVM_ENDED = 16,         /* The program ends before so many steps. */
     AVM_NEEDS = 17,         /* The call looks at an item that is not known: it was written. Of avm_c_attempt alone. */
     AVM_NO_HEADER = 18,     /* The bytes are no header. */
-    AVM_NO_CALL = 19,       /* The header's bytes are one, the call's are no call, or break a rule of calls. */
-    AVM_NO_ITEMS = 20       /* The header's and the call's bytes are one, the others are no items with their values. Of avm_c_attempt alone. */
+    AVM_NO_CALL = 19,       /* The header's bytes are one, the others are no call or no calls, or break a rule of calls. */
+    AVM_NO_ITEMS = 20,      /* The header's and the call's bytes are one, the others are no items with their values. */
+    AVM_TOO_LONG = 21       /* The trace has more than 67,108,864 bytes. Of avm_c_trace alone. */
 };
 
 /* How a call ends. */
@@ -108,7 +109,8 @@ enum avm_why {
     AVM_WHY_IDS_END = 4     /* No id is left for a creation. */
 };
 
-/* Why bytes are no call: the numbers that stand in `struct avm_end` with AVM_NO_CALL. First faults of the bytes, then rules of calls. */
+/* Why bytes are no call, or no calls of a block: the numbers that stand in `struct avm_end` and `struct avm_trouble` with AVM_NO_CALL. First
+   faults of the bytes, then rules of calls, then those of all calls of a block. */
 enum avm_call_fault {
     AVM_CALL_FIELD = 1,            /* A field breaks a limit. */
     AVM_CALL_TRUNCATED = 2,        /* The bytes end inside a field. */
@@ -122,11 +124,12 @@ enum avm_call_fault {
     AVM_CALL_SCHEMA_SIZE = 23,     /* A schema is too large, or stands in a call that creates nothing. */
     AVM_CALL_CLEAR_ON_CREATE = 24, /* A creation clears state. */
     AVM_CALL_PROGRAM = 25,         /* A program breaks a rule of programs. */
-    AVM_CALL_NOTE = 26             /* A note of more than 1024 bytes. */
+    AVM_CALL_NOTE = 26,            /* A note of more than 1024 bytes. */
+    AVM_CALL_TOO_MANY = 33,        /* More than 4096 calls. */
+    AVM_CALL_PROFILE = 34          /* The call needs a newer profile than the header's. No call of this version does. */
 };
 
-/* Which rule of programs bytes break, and what is wrong with source text. No function of this version gives these numbers;
-   avm_c_answer prints the names, with the words `check` and `asm`. For AVM_RULE_CODE it prints the name of the fault of reading. */
+/* What is wrong with bytes: the numbers that avm_c_diagnose gives. First which rule of programs they break. */
 enum avm_rule {
     AVM_RULE_VERSION = 1,        /* The version is neither 2 nor 3. */
     AVM_RULE_LENGTH = 2,         /* There are no bytes, or more than 1024. */
@@ -139,6 +142,14 @@ enum avm_rule {
     AVM_RULE_UNKNOWN_FIELD = 9   /* The opcode has no such field. */
 };
 
+/* Why no instruction is read, beside AVM_RULE_CODE. */
+enum avm_code_fault {
+    AVM_CODE_UNKNOWN_OP = 1, /* The byte is no opcode of the program's version. */
+    AVM_CODE_TRUNCATED = 2,  /* The bytes end before the instruction does. */
+    AVM_CODE_BAD_VARUINT = 3 /* A varuint has more than ten bytes, or a number of more than 64 bits. */
+};
+
+/* Why a text has no meaning. */
 enum avm_asm_fault {
     AVM_ASM_TEXT = 1,                /* A string or its escapes. */
     AVM_ASM_NO_PRAGMA = 2,           /* The first line with a token doesn't begin with `#pragma`. */
@@ -153,6 +164,24 @@ enum avm_asm_fault {
     AVM_ASM_TOO_MANY_CONSTANTS = 11, /* The constants that are gathered are more than 256 of a kind. */
     AVM_ASM_MIXED_BLOCK = 12,        /* A constant is gathered beside an explicit block of its kind. */
     AVM_ASM_TOO_LONG = 13            /* The program has more than 1024 bytes. */
+};
+
+/* Why bytes are no ledger, or no items with their values. docs/FORMATS.md says when each comes. */
+enum avm_ledger_fault {
+    AVM_LEDGER_MALFORMED = 1, /* A field breaks a limit. */
+    AVM_LEDGER_TRUNCATED = 2, /* The bytes end inside a field. */
+    AVM_LEDGER_REST = 3       /* Bytes follow the last field. */
+};
+
+/* Why bytes are no block. */
+enum avm_block_fault {
+    AVM_BLOCK_MAGIC = 1,     /* The bytes don't begin with `AVMB`. */
+    AVM_BLOCK_FORMAT = 2,    /* The number of the format is neither 1 nor 2. */
+    AVM_BLOCK_TRUNCATED = 3, /* The bytes end inside a field. */
+    AVM_BLOCK_REST = 4,      /* Bytes follow the last field. */
+    AVM_BLOCK_ORDER = 5,     /* A timestamp is 0, or not above the one before. */
+    AVM_BLOCK_FIELD = 6,     /* A field breaks a limit, or a call a rule of calls. */
+    AVM_BLOCK_DIGEST = 7     /* The last digest is wrong. */
 };
 
 /* The first entry of a block whose call ends otherwise than the entry says, and how it ends. Fields of which an ending says nothing
@@ -171,11 +200,18 @@ struct avm_end {
     uint32_t place;  /* in bytes from the program's beginning */
 };
 
-/* Whether the bytes are a program: AVM_DONE, AVM_NO_PROGRAM or AVM_MEMORY. avm_c_answer with the word `check` names the rule. */
+/* What is wrong with bytes, and where. Fields of which a fault says nothing are 0. */
+struct avm_trouble {
+    uint64_t place;  /* of source text the line, of calls of a block the call, both counted from 1; in a program the byte, from 0 */
+    uint32_t number; /* of the enum that is said with the status */
+    uint32_t code;   /* of enum avm_code_fault, beside AVM_RULE_CODE */
+};
+
+/* Whether the bytes are a program: AVM_DONE, AVM_NO_PROGRAM or AVM_MEMORY. avm_c_diagnose tells the rule. */
 uint32_t avm_c_check(const uint8_t *program, size_t program_len);
 
 /* The program that source text assembles to. AVM_DONE, AVM_NO_TEXT, AVM_NOT_ASSEMBLED, AVM_NO_ROOM or AVM_MEMORY. No program is
-   longer than 1024 bytes. avm_c_answer with the word `asm` names the line and the fault. */
+   longer than 1024 bytes. avm_c_diagnose tells the line and the fault. */
 uint32_t avm_c_assemble(const uint8_t *text, size_t text_len, uint8_t *room, size_t room_len, size_t *written);
 
 /* A program's listing, as UTF-8 with a line feed behind each line. AVM_DONE, AVM_NO_PROGRAM, AVM_NO_ROOM or AVM_MEMORY. */
@@ -247,6 +283,38 @@ uint32_t avm_c_attempt(const uint8_t *header, size_t header_len, const uint8_t *
    was. */
 uint32_t avm_c_call(const uint8_t *ledger, size_t ledger_len, const uint8_t *header, size_t header_len, const uint8_t *call,
                     size_t call_len, uint8_t *room, size_t room_len, size_t *written, struct avm_end *end);
+
+/* The block of calls that are made one after another, in their order, on one thread, by the timestamps 1, 2, 3 and so on. `calls` is a
+   list of calls: their count in four bytes, and then each (docs/FORMATS.md). Programs of version 3 may run. A call that is refused, or
+   faults, stands in the block with that outcome. The ledger is read first, then the header, then the calls. A first guess for the
+   room: the bytes of the header and of the calls, 128 more, and 32 for each call. AVM_DONE, AVM_NO_LEDGER, AVM_NO_HEADER, AVM_NO_CALL with
+   `trouble` (a number of enum avm_call_fault, and which call it is of, or 0 where it is of none; else `trouble` is as it was),
+   AVM_NO_ROOM or AVM_MEMORY.
+
+   What it answers, avm_c_replay finds to agree. */
+uint32_t avm_c_propose(const uint8_t *ledger, size_t ledger_len, const uint8_t *header, size_t header_len, const uint8_t *calls,
+                       size_t calls_len, uint8_t *room, size_t room_len, size_t *written, struct avm_trouble *trouble);
+
+/* What the call of an entry does, counted from 1, instruction by instruction, or where the entry is 0 what all calls of the block do:
+   the text of a dry-run response, which `avm_json trace` writes. It has all states of a call at once, while avm_c_view makes the calls
+   before for each state. AVM_DONE, AVM_NO_LEDGER, AVM_NO_BLOCK, AVM_NO_ENTRY, AVM_WRONG_BASE, AVM_NO_RUN (of an entry alone),
+   AVM_TOO_LONG, AVM_NO_ROOM or AVM_MEMORY. */
+uint32_t avm_c_trace(const uint8_t *ledger, size_t ledger_len, const uint8_t *block, size_t block_len, uint64_t entry, uint8_t *room,
+                     size_t room_len, size_t *written);
+
+/* What is wrong with bytes that a function refused, by the status that it gave: AVM_DONE where nothing is; else the status of what is
+   wrong, with `trouble`, which else is as it was; or AVM_MEMORY.
+
+     status                              number of               place
+     AVM_NOT_ASSEMBLED, AVM_NO_TEXT      enum avm_asm_fault      the line, from 1; both are 0 where the status of what is wrong is AVM_NO_TEXT
+     AVM_NO_PROGRAM                      enum avm_rule           the byte, from 0; of a rule of the whole program 0
+     AVM_NO_LEDGER, AVM_NO_ITEMS         enum avm_ledger_fault   0
+     AVM_NO_BLOCK                        enum avm_block_fault    0
+     AVM_NO_HEADER                       0                       0
+     AVM_NO_CALL                         enum avm_call_fault     0
+
+   Another status says nothing of bytes: AVM_USAGE. The calls of avm_c_propose are diagnosed there. */
+uint32_t avm_c_diagnose(uint32_t status, const uint8_t *bytes, size_t bytes_len, struct avm_trouble *trouble);
 
 /* The version of the library, as AVM_VERSION is that of this header: 1,000,000 for each major version, 1,000 for each minor one. */
 #define AVM_VERSION 7000

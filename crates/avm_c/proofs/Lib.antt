@@ -1,3 +1,5 @@
 pub mod CommandAnswers
 pub mod Texts
 pub mod ViewsFound
+pub mod ListedCalls
+pub mod TracesFound

@@ -1,13 +1,15 @@
 -- Source text and words, by whether they are UTF-8.
-use Rattle.std.proofs.Common.{◌≡◌, ℕ, List, [], Result, IfOk, refl, true, false}
+use Rattle.std.proofs.Common.{◌≡◌, ℕ, List, [], Result, Some, IfOk, refl, true, false}
 use Rattle.std.specs.Str.{IsUtf8, is_utf8}
 use Rattle.std.proofs.lemmas.Str.{IsUtf8-from_is_utf8, is_utf8-from_IsUtf8}
 use Rattle.teal_asm.specs.Program.{assembled}
 use Rattle.avm_c.specs.declared.answers.Answer.{Answer as WrittenAnswer}
 use Rattle.avm_c.specs.declared.statuses.Status.TheVariants as status
 use Rattle.avm_c.specs.Answers.{Answer, refusal}
+use Rattle.avm_c.specs.Diagnoses.{of_source, of_text}
 use Rattle.avm_c.specs.Programs.{assembled_answer, assembly_answer}
 use Rattle.avm_c.specs.Shown.{answer_shown}
+use Rattle.avm_c.specs.Troubles.{refused_for}
 use Rattle.avm_c.specs.WordAnswers.{words_in, words_of}
 
 pub is_utf8-false : (bytes : List ℕ) → (IsUtf8 bytes → ⊥) → is_utf8 bytes ≡ false
@@ -24,6 +26,14 @@ assembled_answer-not_utf8 bytes fails = rw (is_utf8-false bytes fails) refl
 -- source text in UTF-8 is answered with what it assembles to
 pub assembled_answer-utf8 : (bytes text : List ℕ) → IsUtf8 bytes → text ≡ bytes → assembled_answer bytes ≡ assembly_answer (assembled text)
 assembled_answer-utf8 bytes text u same = rw (is_utf8-from_IsUtf8 bytes u, ← same) refl
+
+-- source text that is not UTF-8 has no line
+pub of_text-not_utf8 : (bytes : List ℕ) → (IsUtf8 bytes → ⊥) → of_text bytes ≡ Some (refused_for status.NoText 0)
+of_text-not_utf8 bytes fails = rw (is_utf8-false bytes fails) refl
+
+-- of source text in UTF-8 is wrong what is wrong with it as source text
+pub of_text-utf8 : (bytes text : List ℕ) → IsUtf8 bytes → text ≡ bytes → of_text bytes ≡ of_source text
+of_text-utf8 bytes text u same = rw (is_utf8-from_IsUtf8 bytes u, ← same) refl
 
 -- ---- words
 

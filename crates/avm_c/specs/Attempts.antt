@@ -17,27 +17,20 @@ use Rattle.avm_input.specs.CallLines.{checked_call}
 use Rattle.avm_input.specs.ProposeInputs as inputs
 use Rattle.avm_c.specs.declared.attempts.Asked.{Asked}
 use Rattle.avm_c.specs.declared.attempts.Attempted.{Attempted as WrittenAttempted}
-use Rattle.avm_c.specs.declared.attempts.NoAttempt.{NoAttempt}
 use Rattle.avm_c.specs.declared.ends.End.{End}
-use Rattle.avm_c.specs.declared.statuses.Status.{Status}
+use Rattle.avm_c.specs.declared.troubles.Refused.{Refused}
 use Rattle.avm_c.specs.declared.statuses.Status.TheVariants as status
 use Rattle.avm_c.specs.Answers.{Answer, IsPlaced, IsWithoutMemory, done, refusal}
 use Rattle.avm_c.specs.Ends.{end_of}
 use Rattle.avm_c.specs.Shown.{answer_shown}
 use Rattle.avm_c.specs.Statuses.{status_number}
+use Rattle.avm_c.specs.Troubles.{or_refused, refused_for}
 
 -- ---- what is asked
 
-abbrev pub why : Status → ℕ → NoAttempt
-why status number = record { status = status; number = number }
-
 -- the header that the bytes are, of a block that may have calls of all versions
-abbrev pub header_or : {F : Type 0} → Result Header F → Result Header NoAttempt
-header_or (Ok header) = Ok header
-header_or (Err fault) = Err (why status.NoHeader 0)
-
-abbrev pub header_of : List ℕ → Result Header NoAttempt
-header_of bytes = header_or (inputs.header_of bytes)
+abbrev pub header_of : List ℕ → Result Header Refused
+header_of bytes = or_refused (λ _. refused_for status.NoHeader 0) (inputs.header_of bytes)
 
 -- Faults of a call's bytes have the numbers 1 to 3, broken rules of calls those from 17 on.
 abbrev pub call_number : CallLineFault → ℕ
@@ -46,22 +39,14 @@ call_number (line.Bytes bytes.Truncated) = 2
 call_number (line.Bytes bytes.Rest) = 3
 call_number (line.Rule f) = 16 + call_fault_number f
 
-abbrev pub call_or : Result CallData CallLineFault → Result CallData NoAttempt
-call_or (Ok call) = Ok call
-call_or (Err fault) = Err (why status.NoCall (call_number fault))
+abbrev pub call_of : List ℕ → Result CallData Refused
+call_of bytes = or_refused (λ fault. refused_for status.NoCall (call_number fault)) (checked_call bytes)
 
-abbrev pub call_of : List ℕ → Result CallData NoAttempt
-call_of bytes = call_or (checked_call bytes)
-
-abbrev pub items_or : {F : Type 0} → Result ItemMap F → Result ItemMap NoAttempt
-items_or (Ok items) = Ok items
-items_or (Err fault) = Err (why status.NoItems 0)
-
-abbrev pub items_of : List ℕ → Result ItemMap NoAttempt
-items_of bytes = items_or (items_at bytes)
+abbrev pub items_of : List ℕ → Result ItemMap Refused
+items_of bytes = or_refused (λ _. refused_for status.NoItems 0) (items_at bytes)
 
 -- The header is read first, then the call, then the known items.
-abbrev pub asked_of : List ℕ → List ℕ → List ℕ → Result Asked NoAttempt
+abbrev pub asked_of : List ℕ → List ℕ → List ℕ → Result Asked Refused
 asked_of header call known =
     header_of header >>= λ h. call_of call >>= λ c. items_of known >>= λ k. Ok (record { header = h; call = c; known = k })
 
@@ -75,8 +60,8 @@ pub record Attempted : Type 0 where
 abbrev pub attempted_shown : WrittenAttempted → Attempted
 attempted_shown a = record { answer = answer_shown a.answer; end = a.end }
 
-abbrev pub refused : NoAttempt → Attempted
-refused r = record { answer = refusal r.status; end = record { ending = 0; number = r.number; place = 0 } }
+abbrev pub not_made : Refused → Attempted
+not_made r = record { answer = refusal r.status; end = record { ending = 0; number = r.trouble.number; place = 0 } }
 
 -- the item that is asked for; or what the call writes, and how it ends
 abbrev pub of_advance : Advance → Attempted
@@ -86,9 +71,9 @@ of_advance (advance.Need x) = record {
 }
 of_advance (advance.Done f) = record { answer = done (items_bytes f.writes); end = end_of f.outcome }
 
-abbrev pub IsAttempted : Result Asked NoAttempt → Attempted → Type 0
+abbrev pub IsAttempted : Result Asked Refused → Attempted → Type 0
 IsAttempted (Ok asked) a = (came : Advance) × IsAttempt asked.call asked.header asked.known came × (a ≡ of_advance came)
-IsAttempted (Err r) a = a ≡ refused r
+IsAttempted (Err r) a = a ≡ not_made r
 
 -- ---- what C is told
 

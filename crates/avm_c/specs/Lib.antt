@@ -7,6 +7,11 @@ pub mod Ends
 pub mod Findings
 pub mod ViewAnswers
 pub mod WordAnswers
+pub mod Troubles
 pub mod Attempts
 pub mod Calls
 pub mod Applied
+pub mod ListedCalls
+pub mod Proposals
+pub mod TraceAnswers
+pub mod Diagnoses

@@ -25,3 +25,4 @@ status_number status.Needs = 17
 status_number status.NoHeader = 18
 status_number status.NoCall = 19
 status_number status.NoItems = 20
+status_number status.TooLong = 21

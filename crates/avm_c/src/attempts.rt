@@ -4,12 +4,13 @@ ghost use Rattle.std.specs.Prelude.{◌≡◌, IfOk, Ok};
 ghost use Rattle.teal_value.specs.Answer.{Gives};
 ghost use Rattle.avm_ops.specs.OpSets.{IsFull};
 ghost use Rattle.avm_run.specs.declared.call_run.Advance.TheVariants as advance;
-ghost use Rattle.avm_c.specs.Attempts.{IsAttempted, asked_of, attempted_shown, call_number, call_of, header_of, items_of, of_advance, refused};
+ghost use Rattle.avm_c.specs.Attempts.{IsAttempted, asked_of, attempted_shown, call_number, call_of, header_of, items_of, not_made, of_advance};
 
 use crate::answers::{Answer, done, refusal};
 use crate::ends::{End, end_of};
 use crate::questions::Question;
 use crate::statuses::Status;
+use crate::troubles::{Refused, refused_for};
 use avm_attempt::attempt;
 use avm_call::Call;
 use avm_call_codec::CallDataFault;
@@ -38,13 +39,6 @@ pub struct Asked {
     pub known: ItemMap,
 }
 
-/// Why bytes are no call over known items: a status, and for a call the number of its fault.
-#[derive(Clone, Copy)]
-pub struct NoAttempt {
-    pub status: Status,
-    pub number: u32,
-}
-
 /// An answer, and how the call ends.
 #[derive(Drop)]
 pub struct Attempted {
@@ -63,7 +57,7 @@ impl Question for CallOver<'_> {
     fn answer(&self, alloc: Global, ops: OpSet) -> Result<Attempted, AllocError> {
         match asked_of(alloc, self.header, self.call, self.known) {
             Ok(asked) => attempted_by(alloc, &asked, ops),
-            Err(failure) => Ok(refused(alloc, failure.into_fault()?)),
+            Err(failure) => Ok(not_made(alloc, failure.into_fault()?)),
         }
     }
 }
@@ -74,7 +68,7 @@ fn asked_of(
     header: &[u8],
     call: &[u8],
     known: &[u8],
-) -> Result<Asked, Failure<NoAttempt>>
+) -> Result<Asked, Failure<Refused>>
     ensures { Gives (λ asked. asked) result (asked_of header.now call.now known.now) }
 {
     let header = header_of(header)?;
@@ -88,26 +82,23 @@ fn asked_of(
 }
 
 /// The header that the bytes are, of a block that may have calls of all versions.
-pub(crate) fn header_of(bytes: &[u8]) -> Result<Header, Failure<NoAttempt>>
+pub(crate) fn header_of(bytes: &[u8]) -> Result<Header, Failure<Refused>>
     ensures { Gives (λ header. header) result (header_of bytes.now) }
 {
-    header_in(bytes).map_err(|failure| failure.map(|_fault| NoAttempt {
-        status: Status::NoHeader,
-        number: 0,
-    }))
+    header_in(bytes).map_err(|failure| failure.map(|_fault| refused_for(Status::NoHeader, 0)))
 }
 
-pub(crate) fn call_of(alloc: Global, bytes: &[u8]) -> Result<Call, Failure<NoAttempt>>
+pub(crate) fn call_of(alloc: Global, bytes: &[u8]) -> Result<Call, Failure<Refused>>
     ensures { Gives (λ call. call) result (call_of bytes.now) }
 {
-    checked_call(alloc, bytes).map_err(|failure| failure.map(|fault| NoAttempt {
-        status: Status::NoCall,
-        number: call_number(fault),
-    }))
+    checked_call(alloc, bytes).map_err(|failure| failure.map(|fault| refused_for(
+        Status::NoCall,
+        call_number(fault),
+    )))
 }
 
 /// The number of a call's fault, as `include/avm.h` has it.
-fn call_number(fault: CallLineFault) -> u32
+pub(crate) fn call_number(fault: CallLineFault) -> u32
     ensures { result ≡ call_number fault }
 {
     match fault {
@@ -118,24 +109,24 @@ fn call_number(fault: CallLineFault) -> u32
     }
 }
 
-fn items_of(alloc: Global, bytes: &[u8]) -> Result<ItemMap, Failure<NoAttempt>>
+fn items_of(alloc: Global, bytes: &[u8]) -> Result<ItemMap, Failure<Refused>>
     ensures { Gives (λ items. items) result (items_of bytes.now) }
 {
-    read_items(alloc, bytes).map_err(|failure| failure.map(|_fault| NoAttempt {
-        status: Status::NoItems,
-        number: 0,
-    }))
+    read_items(alloc, bytes).map_err(|failure| failure.map(|_fault| refused_for(
+        Status::NoItems,
+        0,
+    )))
 }
 
 /// That the bytes are none.
-pub(crate) fn refused(alloc: Global, why: NoAttempt) -> Attempted
-    ensures { attempted_shown result ≡ refused why }
+pub(crate) fn not_made(alloc: Global, why: Refused) -> Attempted
+    ensures { attempted_shown result ≡ not_made why }
 {
     Attempted {
         answer: refusal(alloc, why.status),
         end: End {
             ending: 0,
-            number: why.number,
+            number: why.trouble.number,
             place: 0,
         },
     }

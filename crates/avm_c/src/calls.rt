@@ -7,10 +7,11 @@ ghost use Rattle.avm_c.specs.Attempts.{attempted_shown};
 ghost use Rattle.avm_c.specs.Calls.{called, ledger_in, on_ledger};
 
 use crate::answers::done;
-use crate::attempts::{Attempted, NoAttempt, call_of, header_of, refused};
+use crate::attempts::{Attempted, call_of, header_of, not_made};
 use crate::ends::end_of;
 use crate::questions::Question;
 use crate::statuses::Status;
+use crate::troubles::{Refused, refused_for};
 use avm_call::Call;
 use avm_ledger::{Header, Ledger};
 use avm_ops::{Op, OpSet, Ops};
@@ -50,7 +51,7 @@ impl Question for CallOn<'_> {
     fn answer(&self, alloc: Global, ops: OpSet) -> Result<Attempted, AllocError> {
         match on_ledger(alloc, self.ledger, self.header, self.call) {
             Ok(asked) => called_with(alloc, asked, ops),
-            Err(failure) => Ok(refused(alloc, failure.into_fault()?)),
+            Err(failure) => Ok(not_made(alloc, failure.into_fault()?)),
         }
     }
 }
@@ -61,7 +62,7 @@ fn on_ledger(
     ledger: &[u8],
     header: &[u8],
     call: &[u8],
-) -> Result<OnLedger, Failure<NoAttempt>>
+) -> Result<OnLedger, Failure<Refused>>
     ensures { Gives (λ asked. asked) result (on_ledger ledger.now header.now call.now) }
 {
     let ledger = ledger_in(alloc, ledger)?;
@@ -74,13 +75,13 @@ fn on_ledger(
     })
 }
 
-fn ledger_in(alloc: Global, bytes: &[u8]) -> Result<Ledger, Failure<NoAttempt>>
+pub(crate) fn ledger_in(alloc: Global, bytes: &[u8]) -> Result<Ledger, Failure<Refused>>
     ensures { Gives (λ ledger. ledger) result (ledger_in bytes.now) }
 {
-    Ledger::read(alloc, bytes).map_err(|failure| failure.map(|_fault| NoAttempt {
-        status: Status::NoLedger,
-        number: 0,
-    }))
+    Ledger::read(alloc, bytes).map_err(|failure| failure.map(|_fault| refused_for(
+        Status::NoLedger,
+        0,
+    )))
 }
 
 /// Makes the call, and answers the ledger after it.

@@ -10,11 +10,16 @@ mod applied;
 mod attempts;
 mod blocks;
 mod calls;
+mod diagnoses;
 mod ends;
 mod findings;
+mod listed_calls;
 mod programs;
+mod proposals;
 mod questions;
 mod statuses;
+mod traces;
+mod troubles;
 mod views;
 mod words;
 
@@ -26,9 +31,12 @@ ghost use Rattle.avm_c.specs.Applied.{IsToldApplied};
 ghost use Rattle.avm_c.specs.Attempts.{IsAttempted, IsTold, asked_of};
 ghost use Rattle.avm_c.specs.BlockAnswers.{ledger_and_block, state_answer_at};
 ghost use Rattle.avm_c.specs.Calls.{called, on_ledger};
+ghost use Rattle.avm_c.specs.Diagnoses.{IsDiagnosed, IsToldWrong, kind_of, wrong_with};
 ghost use Rattle.avm_c.specs.Findings.{IsFound};
 ghost use Rattle.avm_c.specs.Programs.{assembled_answer, check_status, listed_answer};
+ghost use Rattle.avm_c.specs.Proposals.{IsToldProposed, calls_on_ledger, told_trouble};
 ghost use Rattle.avm_c.specs.Statuses.{status_number};
+ghost use Rattle.avm_c.specs.TraceAnswers.{IsTraceAnswer};
 ghost use Rattle.avm_c.specs.ViewAnswers.{IsViewAnswer};
 ghost use Rattle.avm_c.specs.WordAnswers.{IsCommandAnswer, IsJsonAnswer, command_of, json_command_of};
 
@@ -37,13 +45,17 @@ use crate::applied::{Apply, write_difference};
 use crate::attempts::CallOver;
 use crate::blocks::{Replay, State};
 use crate::calls::CallOn;
+use crate::diagnoses::{Kind, kind_of, wrong_with};
 use crate::ends::End;
 use crate::findings::{Difference, write_finding};
 use crate::programs::{assembled_answer, listed_answer};
+use crate::proposals::Propose;
 use crate::questions::ask;
 use crate::statuses::Status;
+use crate::traces::TraceOf;
+use crate::troubles::{Trouble, write_trouble};
 use crate::views::ViewAfter;
-use crate::words::{Command, JsonCommand};
+use crate::words::{AvmWords, JsonWords};
 use std::alloc::Global;
 use teal_check::check;
 use teal_value::Failure;
@@ -211,7 +223,7 @@ pub extern "C" fn avm_c_answer(
     ensures { IsAnswered (IsCommandAnswer (command_of words.now) input.now)
         room.old room.new written.new result }
 {
-    match ask(alloc, &Command { words, input }) {
+    match ask(alloc, &AvmWords { words, input }) {
         Ok(answer) => place(&answer, room, written),
         Err(_) => place_nothing(written),
     }
@@ -229,7 +241,7 @@ pub extern "C" fn avm_c_json(
     ensures { IsAnswered (IsJsonAnswer (json_command_of words.now) input.now)
         room.old room.new written.new result }
 {
-    match ask(alloc, &JsonCommand { words, input }) {
+    match ask(alloc, &JsonWords { words, input }) {
         Ok(answer) => place(&answer, room, written),
         Err(_) => place_nothing(written),
     }
@@ -293,5 +305,93 @@ pub extern "C" fn avm_c_call(
             place(&attempted.answer, room, written)
         }
         Err(_) => place_nothing(written),
+    }
+}
+
+/// The block of calls that are made on a ledger one after another, in their order.
+#[unsafe(no_mangle)]
+pub extern "C" fn avm_c_propose(
+    alloc: Global,
+    ledger: &[u8],
+    header: &[u8],
+    calls: &[u8],
+    room: &mut [u8],
+    written: &mut usize,
+    trouble: &mut Trouble,
+) -> u32
+    ensures { IsToldProposed (calls_on_ledger ledger.now header.now calls.now)
+        room.old room.new trouble.old trouble.new written.new result }
+{
+    match ask(
+        alloc,
+        &Propose {
+            ledger,
+            header,
+            calls,
+        },
+    ) {
+        Ok(proposed) => {
+            tell(proposed.trouble, trouble);
+            place(&proposed.answer, room, written)
+        }
+        Err(_) => place_nothing(written),
+    }
+}
+
+/// What the call of a block's entry does, counted from 1, or where the entry is 0 what all calls do: the text of a dry-run response.
+#[unsafe(no_mangle)]
+pub extern "C" fn avm_c_trace(
+    alloc: Global,
+    ledger: &[u8],
+    block: &[u8],
+    entry: u64,
+    room: &mut [u8],
+    written: &mut usize,
+) -> u32
+    ensures { IsAnswered (IsTraceAnswer entry (ledger_and_block ledger.now block.now))
+        room.old room.new written.new result }
+{
+    let question = TraceOf {
+        ledger,
+        block,
+        entry,
+    };
+    match ask(alloc, &question) {
+        Ok(answer) => place(&answer, room, written),
+        Err(_) => place_nothing(written),
+    }
+}
+
+/// What is wrong with bytes that a function refused with this status.
+#[unsafe(no_mangle)]
+pub extern "C" fn avm_c_diagnose(
+    alloc: Global,
+    status: u32,
+    bytes: &[u8],
+    trouble: &mut Trouble,
+) -> u32
+    ensures { IsDiagnosed (kind_of status) bytes.now trouble.old trouble.new result }
+{
+    match kind_of(status) {
+        Some(kind) => diagnosed(alloc, kind, bytes, trouble),
+        None => Status::Usage.number(),
+    }
+}
+
+fn diagnosed(alloc: Global, kind: Kind, bytes: &[u8], trouble: &mut Trouble) -> u32
+    ensures { IsToldWrong (wrong_with kind bytes.now) trouble.old trouble.new result }
+{
+    match wrong_with(alloc, kind, bytes) {
+        Ok(found) => write_trouble(found, trouble),
+        Err(_) => Status::Memory.number(),
+    }
+}
+
+/// Tells C what is wrong with a call, where one is none.
+fn tell(found: Option<Trouble>, trouble: &mut Trouble)
+    ensures { trouble.new ≡ told_trouble trouble.old found }
+{
+    if let Some(found) = found {
+        *trouble = found;
     }
 }

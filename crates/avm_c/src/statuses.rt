@@ -11,7 +11,7 @@ pub enum Status {
     Done,
     /// A command refuses its input, and its answer says why.
     Refused,
-    /// Words are no command, and the answer is the usage line.
+    /// Words are no command, and the answer is the usage line; or a status says nothing of bytes.
     Usage,
     /// Memory was refused.
     Memory,
@@ -45,10 +45,12 @@ pub enum Status {
     Needs,
     /// The bytes are no header.
     NoHeader,
-    /// The bytes are no call, or one that breaks a rule of calls.
+    /// The bytes are no call or no calls, or a call breaks a rule of calls.
     NoCall,
     /// The bytes are no list of items with their values.
     NoItems,
+    /// The text of a trace would be too long.
+    TooLong,
 }
 
 impl Status {
@@ -78,6 +80,7 @@ impl Status {
             Status::NoHeader => 18,
             Status::NoCall => 19,
             Status::NoItems => 20,
+            Status::TooLong => 21,
         }
     }
 }

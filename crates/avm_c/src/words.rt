@@ -19,12 +19,12 @@ use std::str;
 
 /// What the program `avm` writes for words, parted by zero bytes, and an input.
 #[derive(Drop)]
-pub struct Command<'a> {
+pub struct AvmWords<'a> {
     pub words: &'a [u8],
     pub input: &'a [u8],
 }
 
-impl Question for Command<'_> {
+impl Question for AvmWords<'_> {
     type Answer = Answer;
 
     ghost use Rattle.avm_c.specs.Shown.{answer_shown};
@@ -46,12 +46,12 @@ impl Question for Command<'_> {
 
 /// What the program `avm_json` writes for words, parted by zero bytes, and an input.
 #[derive(Drop)]
-pub struct JsonCommand<'a> {
+pub struct JsonWords<'a> {
     pub words: &'a [u8],
     pub input: &'a [u8],
 }
 
-impl Question for JsonCommand<'_> {
+impl Question for JsonWords<'_> {
     type Answer = Answer;
 
     ghost use Rattle.avm_c.specs.Shown.{answer_shown};
