@@ -17,8 +17,13 @@ ENUMS = (
     ("avm_call_fault", "AVM_CALL_", avm.CallFault, "CallFault", "avm_call/src/call_fault.rt"),
     ("avm_why", "AVM_WHY_", avm.Why, "Why", "avm_call/src/outcome.rt"),
     ("avm_rule", "AVM_RULE_", avm.Rule, "CheckFault", "teal_check/src/fault.rt"),
+    ("avm_code_fault", "AVM_CODE_", avm.CodeFault, "CodeFault", "teal_code/src/decode.rt"),
     ("avm_asm_fault", "AVM_ASM_", avm.AsmFault, "AsmFaultKind", "teal_source/src/fault.rt"),
+    ("avm_ledger_fault", "AVM_LEDGER_", avm.LedgerFault, "LedgerFault", "avm_ledger/src/ledger_fault.rt"),
+    ("avm_block_fault", "AVM_BLOCK_", avm.BlockFault, "BlockFault", "avm_block/src/block_fault.rt"),
 )
+# Behind which number the faults of lists of calls stand.
+OF_LISTS = 32
 
 
 def screaming(name):
@@ -42,12 +47,18 @@ def in_code(file, enum):
 
 
 def of_calls(file, enum):
-    """The faults of a call's bytes by their numbers in avm_c, and the broken rules, which stand behind them."""
+    """The faults of a call's bytes by their numbers in avm_c, the broken rules, which stand behind them, and behind those the faults of
+    all calls of a block."""
     told = (TOP / "crates/avm_c/src/attempts.rt").read_text()
-    rules = dict(re.findall(rf"\b{enum}::(\w+)(?:\(_fault\))? => (\d+),", (TOP / "crates" / file).read_text()))
     numbers = {name: int(number) for name, number in re.findall(r"\bCallDataFault::(\w+)\) => (\d+),", told)}
     behind = int(re.search(r"=> (\d+) \+ u32::from\(fault\.number\(\)\)", told)[1])
-    return {**numbers, **{name: behind + int(number) for name, number in rules.items()}}
+    return {**numbers, **numbered_from(behind, file, enum), **numbered_from(OF_LISTS, "avm_block/src/block_calls.rt", "CallsFault")}
+
+
+def numbered_from(behind, file, enum):
+    """Each variant's number, as `number` gives it, behind another."""
+    variants = re.findall(rf"\b{enum}::(\w+)(?:\(_fault\)| \{{ \.\. \}})? => (\d+),", (TOP / "crates" / file).read_text())
+    return {name: behind + int(number) for name, number in variants}
 
 
 def in_header(enum, prefix):

@@ -1,6 +1,6 @@
-"""A reader of ledgers, items, headers, calls, outcomes and blocks that knows no more than docs/FORMATS.md says: fields, their order, widths and
-bounds come from the tables of the page; the rules between fields stand here a second time. Whether a program passes `avm check` is not
-tested further than by its version.
+"""A reader of ledgers, items, headers, calls, lists of calls, outcomes and blocks that knows no more than docs/FORMATS.md says: fields,
+their order, widths and bounds come from the tables of the page; the rules between fields stand here a second time. Whether a program
+passes `avm check` is not tested further than by its version.
 
 `compare` reads the examples of the page by it, the bytes of the folder examples/, and the stored rows of ledgers, calls and blocks.
 """
@@ -12,6 +12,8 @@ from pathlib import Path
 TOP = Path(__file__).resolve().parent.parent
 PAGE = TOP / "docs/FORMATS.md"
 CLEAR_STATE, UPDATE = 3, 4
+# The rules of calls, in the order in which they are tested.
+ORDER = re.findall(r"[A-Z]\w+", re.search(r"in the order (.*)", PAGE.read_text())[1])
 # The definition of each bound that has one.
 DEFINED = {
     ("value", "byte string"): ["avm_states/specs/Entries most_value_bytes"],
@@ -34,10 +36,13 @@ DEFINED = {
     ("call", "foreign applications"): ["avm_call/specs/CallRules most_foreign_applications"],
     ("call", "global schema"): ["avm_states/specs/Schemas most_global_entries"],
     ("call", "local schema"): ["avm_states/specs/Schemas most_local_entries"],
+    ("calls", "calls"): ["avm_block/specs/Blocks most_calls"],
     ("outcome", "place"): ["teal_code/specs/Limits most_program_bytes"],
     ("block", "entries"): ["avm_block/specs/Blocks most_calls"],
 }
-# Bytes at the bounds, and the fault of those beyond.
+# A call of application 1 by the address of zeros, in which nothing else is said, and a creation without programs.
+CALL, BARE = (f"{'00' * 129} {number} {'00' * 12}" for number in ("01", "00"))
+# Bytes at the bounds, and the fault of those beyond; of calls behind the number of the call.
 EDGES = (
     ("ledger", "0000000000000000", "Malformed"),
     ("value", "00", "Malformed"), ("value", "01 0000000000000000", None), ("value", "02 00", None), ("value", "03", "Malformed"),
@@ -53,6 +58,12 @@ EDGES = (
     ("outcome", "03 01", None), ("outcome", "03 04", None), ("outcome", "03 05", "Field"), ("outcome", "04 00", None),
     ("outcome", "04 01", None), ("outcome", "04 02 18 0400", None), ("outcome", "04 02 19", "Field"), ("outcome", "04 03", "Field"),
     ("outcome", "05", "Field"),
+    ("calls", "", "Truncated"), ("calls", "000000", "Truncated"), ("calls", "00000000", None), ("calls", "00000000 00", "Rest"),
+    ("calls", f"00000001 {CALL}", None), ("calls", f"00000001 {CALL[:-2]}", "1 Truncated"), ("calls", f"00000001 {CALL} 00", "Rest"),
+    ("calls", f"00000002 {CALL}", "2 Truncated"), ("calls", f"00000002 {CALL} {CALL[:-2]}", "2 Truncated"),
+    ("calls", f"00000002 {BARE}", "1 ProgramsMissing"), ("calls", f"00000002 {CALL} {BARE}", "2 ProgramsMissing"),
+    ("calls", f"00000001 {BARE} 00", "1 ProgramsMissing"), ("calls", f"00001000 {CALL * 4096}", None),
+    ("calls", f"00001001 {CALL * 4097}", "TooMany"),
 )  # fmt: skip
 
 
@@ -68,6 +79,7 @@ class Row:
         self.field, self.limits = cells[0].strip("`"), cells[2]
         self.spelled, _, conditions = cells[1].partition(", of ")
         self.conditions = [tuple(words.rsplit(" ", 1)) for words in conditions.split(" or of ")] if conditions else []
+        self.found_bounds = list(self.read_bounds())
 
     def is_there(self, record):
         of = record.get("item") or record
@@ -75,6 +87,9 @@ class Row:
 
     def bounds(self):
         """Least and most of what is measured, whether that is a sum, and the rule of calls that is named."""
+        return self.found_bounds
+
+    def read_bounds(self):
         told = re.sub(r"(\d),(\d)", r"\1\2", self.limits)
         for least in re.findall(r"at least (\d+)", told):
             yield int(least), None, False, None
@@ -187,12 +202,17 @@ RULES = {
     ("block", "magic"): lambda _, letters: letters == b"AVMB",
 }
 NAMED = {("block", "magic"): "Magic", ("block", "format"): "Format", ("entry of a block", "timestamp"): "Order"}
-OF_CALLS = ("call", "outcome", "block", "entry of a block")
+OF_CALLS = ("call", "calls", "outcome", "block", "entry of a block")
+
+
+def broken_bounds(record, rows):
+    """The rules with a bound, and whether each is broken."""
+    return [(rule, measure(record[row.field], together) > most) for row in rows for _, most, together, rule in row.bounds() if rule]
 
 
 def broken_rules(call, rows):
     """The rules of calls that are broken, in the order of the page."""
-    bounds = [(rule, measure(call[row.field], together) > most) for row in rows for _, most, together, rule in row.bounds() if rule]
+    bounds = broken_bounds(call, rows)
     programs = [call["approval program"], call["clear program"]]
     creates = call["application"] == 0
     brings = creates or call["completion"] == UPDATE
@@ -200,8 +220,7 @@ def broken_rules(call, rows):
     bounds += [("ProgramsMissing", brings and not all(programs)), ("ProgramsGiven", not brings and any(programs)),
                ("SchemaSize", not creates and schemas > 0), ("ClearOnCreate", creates and call["completion"] == CLEAR_STATE),
                ("Program", brings and not all(is_program(call, program) and len(program) <= 1024 for program in programs))]
-    order = re.findall(r"[A-Z]\w+", re.search(r"in the order (.*)", PAGE.read_text())[1])
-    return sorted((rule for rule, broken in bounds if broken), key=order.index)
+    return sorted((rule for rule, broken in bounds if broken), key=ORDER.index)
 
 
 class Reader:
@@ -244,8 +263,11 @@ class Reader:
         size, _, one = row.spelled.partition(" + each ")
         self.judge(layout, row, record, count := self.simple(row.field, size))
         items = record[row.field] = []
-        for _ in range(count):
-            items.append(self.spelled("each", one, around=record, before=items[-1] if items else None))
+        for number in range(1, count + 1):
+            try:
+                items.append(self.spelled("each", one, around=record, before=items[-1] if items else None))
+            except Fault as fault:
+                raise Fault(f"{number} {fault}") if layout == "calls" else fault
 
     def spelled(self, name, spelled, **near):
         link = re.match(r"\[(.*?)\]", spelled)
@@ -286,10 +308,15 @@ class Reader:
         return record
 
     def accept(self, call):
-        """A call of a block keeps the rules, and the profile."""
+        """A call of a list keeps the rules, and one of a block the profile too."""
+        broken = broken_rules(call, self.layouts["call"])
+        if "calls" in call["around"]:
+            if broken:
+                raise Fault(broken[0])
+            return
         profile = 3 if around(call, "format") == 2 else 2
         newest = max(version(call[name]) for name in ("approval program", "clear program"))
-        if newest > profile or broken_rules(call, self.layouts["call"]):
+        if newest > profile or broken:
             raise Fault("Field")
 
     def seal(self, block, row):
@@ -308,6 +335,9 @@ def read(layouts, name, data, known=(), **near):
     record = reader.layout(name, **near)
     if reader.place < len(data):
         raise Fault("Rest")
+    for rule, broken in broken_bounds(record, layouts[name]) if name == "calls" else ():
+        if broken:
+            raise Fault(rule)
     return record, reader.told
 
 
@@ -391,7 +421,7 @@ def compare():
         fields += len(told)
         wrong += [f"docs/FORMATS.md, example of {name}: {line} is not {other}" for line, other in zip(lines, told) if line != other]
         parts = [fault_of(layouts, name, data[:end], **near) for end in range(len(data))]
-        if set(parts) != {"Truncated"} or fault_of(layouts, name, data + b"\0", **near) != "Rest":
+        if {part and part.split()[-1] for part in parts} != {"Truncated"} or fault_of(layouts, name, data + b"\0", **near) != "Rest":
             wrong.append(f"docs/FORMATS.md: beginnings of the example of {name} are {set(parts)}")
     if wrong:
         return "none", wrong

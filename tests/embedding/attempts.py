@@ -121,12 +121,11 @@ def replay(machine, path):
 
 
 def refusal(machine, header, call, known):
+    """What is wrong with the call or the items, or the status where that says all."""
     try:
         machine.attempt(header, call, known)
-    except avm.NoCall as error:
-        return error.fault
     except avm.AvmError as error:
-        return error.status
+        return error.kind or error.status
     return None
 
 
@@ -159,26 +158,26 @@ def refusals(machine):
     header, call, known = (page[name][0] for name in ("header", "call", "items"))
     record, _ = formats.read(LAYOUTS, "call", call)
     many = spell("call", {**record, "accounts": [bytes(32)] * 5})
-    no_items = avm.Status.NO_ITEMS
+    of_call, of_items = avm.CallFault, avm.LedgerFault
     for given, wanted in (
         ((header[1:], call, known), avm.Status.NO_HEADER), ((header + b"\0", call[1:], known), avm.Status.NO_HEADER),
-        ((header, call[:-1], known), avm.CallFault.Truncated), ((header, call + b"\0", b""), avm.CallFault.Rest),
-        ((header, many, b""), avm.CallFault.Accounts), ((header, call, b""), no_items), ((header, call, known[:-1]), no_items),
-        ((header, call, known + b"\0"), no_items), ((header, call, bytes.fromhex("00000002") + known[4:29] * 2), no_items),
+        ((header, call[:-1], known), of_call.Truncated), ((header, call + b"\0", b""), of_call.Rest),
+        ((header, many, b""), of_call.Accounts), ((header, call, b""), of_items.Truncated), ((header, call, known[:-1]), of_items.Truncated),
+        ((header, call, known + b"\0"), of_items.Rest), ((header, call, bytes.fromhex("00000002") + known[4:29] * 2), of_items.Malformed),
     ):  # fmt: skip
-        assert refusal(machine, *given) == wanted, f"{refusal(machine, *given)} and not {wanted}"
+        assert refusal(machine, *given) is wanted, f"{refusal(machine, *given)!r} and not {wanted!r}"
     for data, wanted, given in (
-        (header, avm.Status.NO_HEADER, lambda part: (part, call, known)), (call, avm.CallFault.Truncated, lambda part: (header, part, known)),
-        (known, no_items, lambda part: (header, call, part)),
+        (header, avm.Status.NO_HEADER, lambda part: (part, call, known)), (call, of_call.Truncated, lambda part: (header, part, known)),
+        (known, of_items.Truncated, lambda part: (header, call, part)),
     ):  # fmt: skip
-        assert {refusal(machine, *given(data[:end])) for end in range(len(data))} == {wanted}, f"a beginning is not {wanted}"
+        assert all(refusal(machine, *given(data[:end])) is wanted for end in range(len(data))), f"a beginning is not {wanted!r}"
     for name, spelled, fault in formats.EDGES:
         if name == "items":
             found = refusal(machine, header, call, bytes.fromhex(spelled))
-            assert found == (fault and no_items), f"items {spelled} are {found}, and by docs/FORMATS.md {fault}"
+            assert found is (fault and of_items[fault]), f"items {spelled} are {found!r}, and by docs/FORMATS.md {fault}"
     for number, (entry, are_items) in enumerate(bounds()):
         found = refusal(machine, header, call, items(dict([entry])))
-        assert found == (None if are_items else no_items), f"bound {number}: {found}"
+        assert found is (None if are_items else of_items.Malformed), f"bound {number}: {found!r}"
     wanted = machine.attempt(header, call).needs
     for size in range(len(wanted) + 2):
         room, written, end = ctypes.create_string_buffer(b"\x77" * 80, 80), ctypes.c_size_t(), avm._End(7, 7, 7)

@@ -3,7 +3,8 @@
 #include <string.h>
 
 const char *const function_names[FUNCTIONS] = {"check", "assemble", "list", "replay", "apply", "state",
-                                                   "view", "answer", "json", "attempt", "call"};
+                                                   "view", "answer", "json", "attempt", "call",
+                                                   "propose", "trace", "diagnose"};
 
 void clear(struct answer *answer) {
     memset(answer, MARK, sizeof *answer);
@@ -38,5 +39,13 @@ void make(const struct call *call, struct answer *answer, size_t room) {
         answer->status = avm_c_call(first, length, second, other, call->third.at, call->third.length, answer->room, room,
                                     &answer->written, &answer->end);
         break;
+    case PROPOSE:
+        answer->status = avm_c_propose(first, length, second, other, call->third.at, call->third.length, answer->room, room,
+                                       &answer->written, &answer->trouble);
+        break;
+    case TRACE:
+        answer->status = avm_c_trace(first, length, second, other, call->entry, answer->room, room, &answer->written);
+        break;
+    case DIAGNOSE: answer->status = avm_c_diagnose((uint32_t)call->number, first, length, &answer->trouble); break;
     }
 }

@@ -56,6 +56,24 @@ static void add_json(struct call *calls, size_t *count, const char *words, size_
     add(calls, count, JSON, copy_of(words, length), input);
 }
 
+/* Whether the bytes are what the status says that they are not; and so of the bytes but for the last. */
+static void add_diagnoses(struct call *calls, size_t *count, uint32_t status, struct bytes bytes) {
+    struct bytes none = copy_of("", 0);
+    add(calls, count, DIAGNOSE, bytes, none)->number = status;
+    bytes.length--;
+    add(calls, count, DIAGNOSE, bytes, none)->number = status;
+}
+
+static void add_text_diagnoses(struct call *calls, size_t *count, struct bytes text, struct bytes program) {
+    struct bytes none = copy_of("", 0), no_text = copy_of("\xff", 1), no_line = copy_of("int 1", 5);
+    add_diagnoses(calls, count, AVM_NOT_ASSEMBLED, text);
+    add(calls, count, DIAGNOSE, no_line, none)->number = AVM_NOT_ASSEMBLED;
+    add(calls, count, DIAGNOSE, no_text, none)->number = AVM_NO_TEXT;
+    add_diagnoses(calls, count, AVM_NO_PROGRAM, program);
+    add(calls, count, DIAGNOSE, none, none)->number = AVM_NO_PROGRAM;
+    add(calls, count, DIAGNOSE, none, none)->number = AVM_DONE;
+}
+
 static void add_source(struct call *calls, size_t *count, struct bytes text) {
     static struct answer answer;
     struct bytes none = copy_of("", 0);
@@ -65,6 +83,7 @@ static void add_source(struct call *calls, size_t *count, struct bytes text) {
     add(calls, count, CHECK, program, none);
     add(calls, count, LIST, program, none);
     add_answer(calls, count, "asm", 3, text);
+    add_text_diagnoses(calls, count, text, program);
 }
 
 /* The views of each entry after 0, 1, 2, 4, 8.. steps, up to one behind the end. */
@@ -103,6 +122,13 @@ static size_t behind_call(struct bytes block, size_t place) {
     return behind_strings(block, place, 2) + 4;
 }
 
+/* The place behind the outcome that begins there. */
+static size_t behind_outcome(struct bytes block, size_t place) {
+    static const size_t sizes[] = {1, 1, 4, 2}, cleared[] = {2, 2, 5};
+    uint8_t kind = block.at[place];
+    return place + (kind < 4 ? sizes[kind] : cleared[block.at[place + 1]]);
+}
+
 /* The value of an item that nothing is known of, behind the item: the next id 1, or that it is absent. */
 static size_t put_value(uint8_t *at, uint8_t kind) {
     memset(at, 0, 8);
@@ -120,6 +146,22 @@ static struct bytes header_in(struct bytes block) {
 
 static struct bytes first_in(struct bytes block) {
     return copy_of(block.at + FIRST, behind_call(block, FIRST) - FIRST);
+}
+
+/* The calls of a block of format 2 as a list, but for the first ones. */
+static struct bytes calls_in(struct bytes block, size_t left_out) {
+    size_t place = HEADER + 40 + 4, length = 4, all = number_at(block, HEADER + 40, 4);
+    struct bytes calls = copy_of(block.at, block.length);
+    for (size_t number = 0; number < all; number++) {
+        size_t begin = place + 8, end = behind_call(block, begin);
+        place = behind_outcome(block, end);
+        if (number < left_out) continue;
+        memcpy(calls.at + length, block.at + begin, end - begin);
+        length += end - begin;
+    }
+    for (size_t i = 0; i < 4; i++) calls.at[i] = (uint8_t)((all - left_out) >> 8 * (3 - i));
+    calls.length = length;
+    return calls;
 }
 
 /* That call over these items. */
@@ -140,7 +182,6 @@ static void add_no_attempts(struct call *calls, size_t *count, struct bytes bloc
 /* That call over the ledger; and over no items, and then over each item that it asks for, to its end. */
 static void add_calls(struct call *calls, size_t *count, struct bytes ledger, struct bytes block) {
     static struct answer answer;
-    if (number_at(block, 4, 2) != 0x0203 || number_at(block, HEADER + 40, 4) == 0) return;
     add_no_attempts(calls, count, block);
     add(calls, count, CALL, ledger, header_in(block))->third = first_in(block);
     uint8_t known[MOST_KNOWN] = {0};
@@ -156,6 +197,54 @@ static void add_calls(struct call *calls, size_t *count, struct bytes ledger, st
     } while (answer.status == AVM_NEEDS);
 }
 
+static struct call *add_proposal(struct call *calls, size_t *count, struct bytes ledger, struct bytes header, struct bytes list) {
+    struct call *call = add(calls, count, PROPOSE, ledger, header);
+    call->third = list;
+    return call;
+}
+
+/* Bytes that are no ledger, no header, or no calls. */
+static void add_no_proposals(struct call *calls, size_t *count, struct bytes ledger, struct bytes header, struct bytes list) {
+    add_proposal(calls, count, ledger, header, list)->first.length--;
+    add_proposal(calls, count, ledger, header, list)->second.length--;
+    add_proposal(calls, count, ledger, header, list)->third.length--;
+}
+
+static struct call *add_trace(struct call *calls, size_t *count, struct bytes ledger, struct bytes block, uint64_t entry) {
+    struct call *call = add(calls, count, TRACE, ledger, block);
+    call->entry = entry;
+    return call;
+}
+
+/* The calls of a block over its ledger. The last one alone is refused over the empty ledger, and no program runs. */
+static void add_proposals(struct call *calls, size_t *count, struct bytes ledger, struct bytes block) {
+    static struct answer answer;
+    struct bytes empty = copy_of("\0\0\0\0\0\0\0\1\0\0\0\0\0\0\0\0", 16), header = header_in(block), list = calls_in(block, 0);
+    add_proposal(calls, count, ledger, header, list);
+    add_no_proposals(calls, count, ledger, header, list);
+    make(add_proposal(calls, count, empty, header, calls_in(block, number_at(block, HEADER + 40, 4) - 1)), &answer, ROOM);
+    if (answer.status != AVM_DONE) fail("is not proposed", "a call of examples/");
+    struct bytes made = copy_of(answer.room, answer.written);
+    add_trace(calls, count, empty, made, 0);
+    add_trace(calls, count, empty, made, 1);
+    add_trace(calls, count, empty, block, 1);
+    add_trace(calls, count, ledger, block, 1);
+    add_trace(calls, count, ledger, block, UINT64_MAX);
+    add_trace(calls, count, ledger, block, 1)->first.length--;
+    add_trace(calls, count, ledger, block, 1)->second.length--;
+}
+
+static void add_parts(struct call *calls, size_t *count, struct bytes ledger, struct bytes block) {
+    static const uint8_t none[4];
+    add_calls(calls, count, ledger, block);
+    add_proposals(calls, count, ledger, block);
+    add_diagnoses(calls, count, AVM_NO_LEDGER, ledger);
+    add_diagnoses(calls, count, AVM_NO_BLOCK, block);
+    add_diagnoses(calls, count, AVM_NO_HEADER, header_in(block));
+    add_diagnoses(calls, count, AVM_NO_CALL, first_in(block));
+    add_diagnoses(calls, count, AVM_NO_ITEMS, copy_of(none, sizeof none));
+}
+
 static void add_block(struct call *calls, size_t *count, struct bytes text) {
     size_t place = 0;
     struct bytes ledger = line_of(text, &place), block = line_of(text, &place);
@@ -164,7 +253,7 @@ static void add_block(struct call *calls, size_t *count, struct bytes text) {
     add(calls, count, STATE, ledger, block)->number = 0;
     add(calls, count, STATE, ledger, block)->number = UINT64_MAX;
     add_views(calls, count, ledger, block);
-    add_calls(calls, count, ledger, block);
+    if (number_at(block, 4, 2) == 0x0203 && number_at(block, HEADER + 40, 4) > 0) add_parts(calls, count, ledger, block);
     add_answer(calls, count, "replay", 6, text);
     add_answer(calls, count, "state\0--at\0" "3", 12, text);
     add_answer(calls, count, "debug\0--entry\0" "3\0--steps\0" "9", 25, text);

@@ -2,61 +2,16 @@
    the block says, and its writes make the items of the ledger after it. It does the same over the items in another order and over
    all items of the ledger; without one that it asked for it asks for that. Changed items are refused exactly where they are none, and
    a changed call exactly where the block with it is none. */
-#include "blocks.h"
-#include "items.h"
+#include "made.h"
 
 #include <string.h>
 
-enum { HEADER = 40, MOST_ASKED = 256, CHANGES = 4 };
-
-/* A call of a block that agrees. */
-struct made {
-    struct bytes header, call;
-    struct bytes outcome;
-};
-
-static uint32_t attempted(struct bytes header, struct bytes call, struct bytes known, struct answer *answer) {
-    struct call asked = {ATTEMPT, header, call, 0, 0, known};
-    return called(asked, answer);
-}
-
-static uint32_t attempted_over(const struct made *it, const struct table *known, struct answer *answer) {
-    static uint8_t room[ITEMS_ROOM];
-    return attempted(it->header, it->call, spell_items(known, room), answer);
-}
-
-static bool says_nothing(const struct avm_end *end) {
-    return end->ending == 0 && end->number == 0 && end->place == 0;
-}
-
-/* Looks up each item that is asked for, until the call ends. False where the answer or the items are longer than their room. */
-static bool look_up(const struct made *it, const struct table *ledger, struct table *known, struct answer *answer) {
-    static const uint8_t absent[] = {0};
-    known->count = known->used = 0;
-    for (;;) {
-        uint32_t status = attempted_over(it, known, answer);
-        if (status == AVM_NO_ROOM) return false;
-        demand(status == AVM_DONE || status == AVM_NEEDS, "a call of a block is not attempted");
-        if (status == AVM_DONE) return true;
-        struct bytes name = answered(answer);
-        demand(says_nothing(&answer->end), "a call that has not ended has an end");
-        demand(is_item(name), "what is asked for is no item");
-        demand(!find(known, name), "an item is asked for that is known");
-        demand(known->count < MOST_ASKED, "a call asks on and on");
-        const struct item *found = find(ledger, name);
-        demand(found || name.at[0] != NEXT_ID, "a ledger has no next id");
-        note(ENDINGS, 256 + name.at[0] * 2u + (found != NULL));
-        if (!put(known, name, found ? found->value : bytes_of(absent, 1))) return false;
-    }
-}
+enum { CHANGES = 4 };
 
 /* The call ends as the entry says, and leads to the items of the ledger after it. */
 static void look_at_end(const struct made *it, struct bytes after, const struct table *before, struct answer *answer) {
     static struct table table, writes, wanted;
-    uint8_t spelled[8];
-    struct avm_difference found = {0, answer->end.ending, answer->end.number, answer->end.place};
-    demand(found.ending <= AVM_CLEARED_FAULTED, "an ending has no such number");
-    demand(are_same(bytes_of(spelled, spell_outcome(&found, spelled)), it->outcome), "a call ends otherwise than in the block");
+    demand(ends_as(&answer->end, it->outcome), "a call ends otherwise than in the block");
     demand(read_items(answered(answer), &writes), "what is written is no items");
     note(ENDINGS, 320 + (writes.count < 31 ? (unsigned)writes.count : 31));
     table.count = table.used = 0;
@@ -145,10 +100,9 @@ static void look_at_call(const struct made *it, struct bytes ledger, struct byte
     is_call = is_call && parts.entries[number].begin + 8 == begin && parts.entries[number].outcome == begin + it->call.length;
     uint32_t status = attempted(it->header, bytes_of(same + begin, it->call.length), bytes_of("\0\0\0", 4), &answer);
     demand((status == AVM_NO_CALL) == !is_call, "a changed call is read otherwise than in a block");
-    uint32_t fault = answer.end.number;
-    bool is_fault = (fault >= AVM_CALL_FIELD && fault <= AVM_CALL_REST) || (fault >= AVM_CALL_ACCOUNTS && fault <= AVM_CALL_NOTE);
+    bool is_fault = is_call_fault(answer.end.number);
     demand(is_fault == (status == AVM_NO_CALL), "a call has a fault, or none, that it should not");
-    if (is_fault) note(NAMES, 4096 + fault);
+    if (is_fault) note(NAMES, 4096 + answer.end.number);
 }
 
 static void look_at_header(const struct made *it, uint32_t chosen) {
@@ -163,11 +117,8 @@ static void look_at_header(const struct made *it, uint32_t chosen) {
 static void look_at_entry(const struct pair *pair, struct bytes block, const struct parts *parts, size_t number, uint32_t chosen) {
     static struct answer before, after, answer;
     static struct table ledger, known;
-    const struct entry *entry = &parts->entries[number];
-    struct made it = {bytes_of(block.at + parts->base + DIGEST, HEADER), bytes_of(block.at + entry->begin + 8, entry->outcome - entry->begin - 8),
-                      bytes_of(block.at + entry->outcome, entry->end - entry->outcome)};
-    if (state_at(pair->ledger, block, entry->timestamp - 1, &before) != AVM_DONE) return;
-    if (state_at(pair->ledger, block, entry->timestamp, &after) != AVM_DONE) return;
+    struct made it;
+    if (!make_entry(pair->ledger, block, parts, number, &it, &before, &after)) return;
     if (!table_of(answered(&before), &ledger) || !look_up(&it, &ledger, &known, &answer)) return;
     note(ENDINGS, 288 + (known.count < 31 ? (unsigned)known.count : 31));
     look_at_end(&it, answered(&after), &ledger, &answer);

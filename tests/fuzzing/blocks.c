@@ -11,6 +11,7 @@ enum { OUTCOME = 4 };
 const uint8_t *take(struct reader *reader, size_t count) {
     static const uint8_t nothing[256];
     if (reader->fails || count > reader->bytes.length - reader->place) {
+        reader->is_short = reader->is_short || !reader->fails;
         reader->fails = true;
         return nothing;
     }
@@ -29,6 +30,7 @@ struct bytes read_string(struct reader *reader, size_t size, bool is_program) {
     struct field field = {.place = reader->place, .size = size, .is_program = is_program};
     field.length = read_number(reader, size);
     if (reader->fails || field.length > reader->bytes.length - reader->place) {
+        reader->is_short = reader->is_short || !reader->fails;
         reader->fails = true;
         return bytes_of(reader->bytes.at, 0);
     }
@@ -57,21 +59,27 @@ struct bytes read_key(struct reader *reader) {
     return key;
 }
 
-uint64_t read_state(struct reader *reader) {
+void read_state(struct reader *reader, uint64_t most) {
     struct bytes last = {0};
     uint64_t count = read_number(reader, 1);
-    for (uint64_t left = count; left > 0 && !reader->fails; left--) {
+    if (count > most) reader->fails = true;
+    for (; count > 0 && !reader->fails; count--) {
         struct bytes key = read_key(reader);
         if (last.at && order_of(last, key) >= 0) reader->fails = true;
         last = key;
         read_value(reader);
     }
-    return count;
+}
+
+struct ends ends_of(const struct reader *reader) {
+    struct ends ends = {reader->is_short, !reader->fails && reader->place < reader->bytes.length};
+    return ends;
 }
 
 struct reader reader_of(struct bytes bytes, struct parts *parts) {
-    struct reader reader = {bytes, 0, false, parts};
+    struct reader reader = {bytes, 0, false, false, parts};
     parts->field_count = parts->application_count = parts->entry_count = 0;
+    parts->ends = (struct ends){false, false};
     return reader;
 }
 
@@ -79,26 +87,31 @@ bool is_read(const struct reader *reader) {
     return !reader->fails && reader->place == reader->bytes.length;
 }
 
-static bool keeps_schemas(uint64_t schemas) {
-    uint64_t global = (schemas >> 24) + (schemas >> 16 & 255), local = (schemas >> 8 & 255) + (schemas & 255);
-    return global <= MOST_GLOBAL && local <= MOST_LOCAL;
+static struct bytes read_checked(struct reader *reader) {
+    static struct program program;
+    struct bytes code = read_string(reader, 2, true);
+    if (!read_program(code, &program) || program.cost > MOST_COST) reader->fails = true;
+    return code;
+}
+
+static void read_schema(struct reader *reader, uint64_t most) {
+    uint64_t both = read_number(reader, 2);
+    if ((both >> 8) + (both & 255) > most) reader->fails = true;
 }
 
 void read_row(struct reader *reader, struct application *it) {
-    static struct program program;
     take(reader, 32);
-    it->approval = read_string(reader, 2, true);
-    it->clear = read_string(reader, 2, true);
-    bool are_programs = read_program(it->approval, &program) && program.cost <= MOST_COST;
-    are_programs = are_programs && read_program(it->clear, &program) && program.cost <= MOST_COST;
-    if (!are_programs || !keeps_schemas(read_number(reader, 4))) reader->fails = true;
+    it->approval = read_checked(reader);
+    it->clear = read_checked(reader);
+    read_schema(reader, MOST_GLOBAL);
+    read_schema(reader, MOST_LOCAL);
 }
 
 static struct application read_application(struct reader *reader, uint64_t last, uint64_t next) {
     struct application it = {.id = read_number(reader, 8)};
     if (it.id <= last || it.id >= next) reader->fails = true;
     read_row(reader, &it);
-    read_state(reader);
+    read_state(reader, MOST_GLOBAL);
     return it;
 }
 
@@ -110,14 +123,14 @@ static void read_local_states(struct reader *reader, uint64_t next) {
         uint64_t id = read_number(reader, 8);
         if (id < 1 || id >= next || (last.at && order_of(last, key) >= 0)) reader->fails = true;
         last = key;
-        read_state(reader);
+        read_state(reader, MOST_LOCAL);
     }
 }
 
 bool read_ledger(struct bytes bytes, struct parts *parts) {
     struct reader reader = reader_of(bytes, parts);
     uint64_t next = read_number(&reader, 8), last = 0;
-    if (next < 1) return false;
+    if (next < 1) reader.fails = true;
     for (uint64_t count = read_number(&reader, 4); count > 0 && !reader.fails; count--) {
         struct application it = read_application(&reader, last, next);
         last = it.id;
@@ -125,6 +138,7 @@ bool read_ledger(struct bytes bytes, struct parts *parts) {
         parts->applications[parts->application_count++] = it;
     }
     read_local_states(&reader, next);
+    parts->ends = ends_of(&reader);
     return is_read(&reader);
 }
 
@@ -136,20 +150,24 @@ static void read_outcome(struct reader *reader) {
     else if (kind > AVM_FAULTED) reader->fails = true;
 }
 
-static struct entry read_entry(struct reader *reader) {
-    struct entry it = {.begin = reader->place};
-    it.timestamp = read_number(reader, 8);
+static void read_call(struct reader *reader, struct entry *it) {
     take(reader, 32 + 3 * 8);
     read_string(reader, 2, false);
     take(reader, 32 + 32);
-    it.application = read_number(reader, 8);
-    it.completion = (uint8_t)read_number(reader, 1);
+    it->application = read_number(reader, 8);
+    it->completion = (uint8_t)read_number(reader, 1);
     for (uint64_t count = read_number(reader, 1); count > 0 && !reader->fails; count--) read_string(reader, 2, false);
     for (uint64_t count = read_number(reader, 1); count > 0 && !reader->fails; count--) take(reader, 32);
     for (uint64_t count = read_number(reader, 1); count > 0 && !reader->fails; count--) take(reader, 8);
-    it.approval = read_string(reader, 2, true);
-    it.clear = read_string(reader, 2, true);
+    it->approval = read_string(reader, 2, true);
+    it->clear = read_string(reader, 2, true);
     read_number(reader, 4);
+}
+
+static struct entry read_entry(struct reader *reader) {
+    struct entry it = {.begin = reader->place};
+    it.timestamp = read_number(reader, 8);
+    read_call(reader, &it);
     it.outcome = reader->place;
     read_outcome(reader);
     it.end = reader->place;
@@ -158,9 +176,9 @@ static struct entry read_entry(struct reader *reader) {
 
 bool read_block(struct bytes bytes, struct parts *parts) {
     struct reader reader = reader_of(bytes, parts);
-    if (memcmp(take(&reader, 4), "AVMB", 4)) return false;
+    if (memcmp(take(&reader, 4), "AVMB", 4)) reader.fails = true;
     uint64_t format = read_number(&reader, 1), last = 0;
-    if (format == 2 ? read_number(&reader, 1) != PROFILE : format != 1) return false;
+    if (format == 2 ? read_number(&reader, 1) != PROFILE : format != 1) reader.fails = true;
     parts->base = reader.place;
     take(&reader, DIGEST + 5 * 8);
     parts->count_place = reader.place;
@@ -173,7 +191,36 @@ bool read_block(struct bytes bytes, struct parts *parts) {
     }
     parts->after = reader.place;
     take(&reader, 2 * DIGEST);
+    parts->ends = ends_of(&reader);
     return is_read(&reader);
+}
+
+bool read_list(struct bytes bytes, struct list *list) {
+    static struct parts scratch;
+    struct reader reader = reader_of(bytes, &scratch);
+    struct entry it;
+    list->count = read_number(&reader, 4);
+    if (reader.fails || list->count > MOST_ENTRIES) return false;
+    for (list->whole = 0; list->whole <= list->count; list->whole++) {
+        size_t begin = reader.place;
+        list->rest = bytes_of(bytes.at + begin, bytes.length - begin);
+        if (list->whole == list->count) return true;
+        read_call(&reader, &it);
+        if (reader.fails) return true;
+        list->calls[list->whole] = bytes_of(bytes.at + begin, reader.place - begin);
+    }
+    return true;
+}
+
+struct bytes list_of(struct bytes block, const struct parts *parts, uint8_t *room) {
+    size_t length = 4;
+    memcpy(room, block.at + parts->count_place, length);
+    for (size_t i = 0; i < parts->entry_count; i++) {
+        const struct entry *it = &parts->entries[i];
+        memcpy(room + length, block.at + it->begin + 8, it->outcome - it->begin - 8);
+        length += it->outcome - it->begin - 8;
+    }
+    return bytes_of(room, length);
 }
 
 struct pair pair_of(const uint8_t *at, size_t length) {
@@ -262,16 +309,24 @@ static bool put_digest_after(const struct pair *pair, struct bytes block) {
     return status == AVM_DONE;
 }
 
-bool settle(const struct pair *pair, struct bytes *block) {
+bool rebase(const struct pair *pair, struct bytes *block) {
     static uint8_t room[LONGEST_BLOCK + 8 * MOST_ENTRIES];
     static struct parts parts;
-    static struct answer answer;
-    struct bytes made = {room, pair->block.length};
-    size_t last = 0;
-    bool put = false;
     if (pair->block.length > LONGEST_BLOCK || !read_block(pair->block, &parts)) return false;
+    *block = bytes_of(room, pair->block.length);
     memcpy(room, pair->block.at, pair->block.length);
     sha256(pair->ledger.at, pair->ledger.length, room + parts.base);
+    seal(*block);
+    return true;
+}
+
+bool settle(const struct pair *pair, struct bytes *block) {
+    static struct parts parts;
+    static struct answer answer;
+    struct bytes made;
+    size_t last = 0;
+    bool put = false;
+    if (!rebase(pair, &made)) return false;
     for (;;) {
         seal(made);
         uint32_t status = replayed(pair->ledger, made, &answer);

@@ -21,6 +21,11 @@ struct field {
     bool is_program;
 };
 
+/* How bytes end that were read: inside a field, or with more behind the last field. */
+struct ends {
+    bool is_short, has_rest;
+};
+
 struct application {
     uint64_t id;
     struct bytes approval, clear;
@@ -42,11 +47,26 @@ struct parts {
     size_t base, count_place, after;
     struct entry entries[MOST_ENTRIES];
     size_t entry_count;
+    struct ends ends;
+};
+
+/* Calls of a list that are whole, and the bytes from the first on that is none. */
+struct list {
+    uint64_t count;
+    struct bytes calls[MOST_ENTRIES];
+    size_t whole;
+    struct bytes rest;
 };
 
 /* Whether all the bytes are a ledger, or a block, by its form. What is beyond the room of `parts` is none. */
 bool read_ledger(struct bytes bytes, struct parts *parts);
 bool read_block(struct bytes bytes, struct parts *parts);
+
+/* Reads a list of calls, by their form. False where the count is cut short, or more than there is room for. */
+bool read_list(struct bytes bytes, struct list *list);
+
+/* The calls of a block that was read as a list, into room for as many bytes as it has. */
+struct bytes list_of(struct bytes block, const struct parts *parts, uint8_t *room);
 
 /* A ledger and a block, and what an input chooses besides. */
 struct pair {
@@ -60,6 +80,9 @@ struct pair pair_of(const uint8_t *at, size_t length);
 
 /* Writes the digest of all before it to the last bytes of a block. */
 void seal(struct bytes block);
+
+/* A copy of the block in which the digest before is that of the ledger, and its own digest is right. False where the block is none. */
+bool rebase(const struct pair *pair, struct bytes *block);
 
 /* A copy of the block in which the digest before is that of the ledger, every entry says how its call ends, and the digests
    after are right: what replays of the copy say is put into it, and that has to lead to a block that agrees. Gives whether it

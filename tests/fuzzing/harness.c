@@ -76,12 +76,23 @@ bool are_same(struct bytes one, struct bytes other) {
 }
 
 static bool has_text(const struct call *call, uint32_t status) {
-    return status == AVM_DONE || (call->function == ANSWER && (status == AVM_REFUSED || status == AVM_USAGE)) ||
+    bool is_program = call->function == ANSWER || call->function == JSON;
+    return status == AVM_DONE || (is_program && (status == AVM_REFUSED || status == AVM_USAGE)) ||
            (call->function == ATTEMPT && status == AVM_NEEDS);
 }
 
+/* Whether the status comes with numbers in `end`, or in `trouble`. */
+static bool has_end(const struct call *call, uint32_t status) {
+    return (call->function == ATTEMPT || call->function == CALL) && status != AVM_MEMORY;
+}
+
+static bool has_trouble(const struct call *call, uint32_t status) {
+    bool is_told = status != AVM_DONE && status != AVM_USAGE && status != AVM_MEMORY;
+    return call->function == DIAGNOSE ? is_told : call->function == PROPOSE && status == AVM_NO_CALL;
+}
+
 static bool is_lent_room(const struct call *call) {
-    return call->function != CHECK && call->function != REPLAY;
+    return call->function != CHECK && call->function != REPLAY && call->function != DIAGNOSE;
 }
 
 static bool is_marked(const void *at, size_t length) {
@@ -92,10 +103,11 @@ static bool is_marked(const void *at, size_t length) {
 /* Nothing is written but what the status says. */
 static void look_at_marks(const struct call *call, const struct answer *answer, size_t room) {
     uint32_t status = answer->status;
-    bool agrees = call->function == REPLAY && status == AVM_DONE, differs = call->function == REPLAY && status == AVM_WRONG_OUTCOME;
+    bool agrees = call->function == REPLAY && status == AVM_DONE, differs = status == AVM_WRONG_OUTCOME;
     demand(agrees || is_marked(answer->digest, sizeof answer->digest), "a digest was written");
     demand(differs || is_marked(&answer->difference, sizeof answer->difference), "a difference was written");
-    demand((call->function == ATTEMPT && status != AVM_MEMORY) || is_marked(&answer->end, sizeof answer->end), "an end was written");
+    demand(has_end(call, status) || is_marked(&answer->end, sizeof answer->end), "an end was written");
+    demand(has_trouble(call, status) || is_marked(&answer->trouble, sizeof answer->trouble), "a trouble was written");
     if (!is_lent_room(call)) {
         demand(is_marked(answer->room, sizeof answer->room), "something was written where nothing is lent");
         return;
@@ -144,8 +156,9 @@ uint32_t called(struct call call, struct answer *answer) {
     make_whole(&call, answer, ROOM);
     long most = allocations;
     uint32_t status = answer->status, chosen = hash_of(call.first.at, call.first.length) ^ (uint32_t)call.number;
-    /* Headers are mostly the same. */
-    if (call.function == ATTEMPT) chosen ^= hash_of(call.second.at, call.second.length) ^ hash_of(call.third.at, call.third.length);
+    /* Headers are mostly the same, and ledgers. */
+    bool has_more = call.third.length > 0 || call.function == APPLY || call.function == TRACE || call.function == JSON;
+    if (has_more) chosen ^= hash_of(call.second.at, call.second.length) ^ hash_of(call.third.at, call.third.length);
     demand(status != AVM_MEMORY, "memory was refused by nobody");
     note(STATUSES, (unsigned)call.function * 32 + status);
     if (chosen % ONE_IN == 0 && is_lent_room(&call) && has_text(&call, status) && answer->written > 0) {

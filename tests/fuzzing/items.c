@@ -119,8 +119,7 @@ static void read_present(struct reader *reader, uint8_t kind) {
         if (uints + read_number(reader, 1) > MOST_IN_COUNTS) reader->fails = true;
         break;
     case KEY: read_value(reader); break;
-    default:
-        if (read_state(reader) > MOST_LOCAL) reader->fails = true;
+    default: read_state(reader, MOST_LOCAL);
     }
 }
 
@@ -142,8 +141,9 @@ bool read_items(struct bytes bytes, struct table *table) {
     table->count = table->used = 0;
     for (uint64_t count = read_number(&reader, 4); count > 0 && !reader.fails; count--) {
         struct bytes name = read_name(&reader), value = read_value_of(&reader, name);
-        if (reader.fails || find(table, name) || !put(table, name, value)) return false;
+        if (!reader.fails && (find(table, name) || !put(table, name, value))) reader.fails = true;
     }
+    table->ends = ends_of(&reader);
     return is_read(&reader);
 }
 
@@ -202,7 +202,7 @@ bool table_of(struct bytes ledger, struct table *table) {
     for (uint64_t left = read_number(&reader, 4); left > 0 && !reader.fails; left--) {
         struct bytes name = bytes_of(take(&reader, ACCOUNT + ID), ACCOUNT + ID);
         size_t begin = reader.place;
-        read_state(&reader);
+        read_state(&reader, MOST_LOCAL);
         put_present(&reader, table, LOCAL_STATE, name, none, since(&reader, begin));
     }
     return is_read(&reader);

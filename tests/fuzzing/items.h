@@ -2,7 +2,7 @@
 #ifndef ITEMS_H
 #define ITEMS_H
 
-#include "fuzzing.h"
+#include "blocks.h"
 
 enum { NEXT_ID, ROW, COUNTS, KEY, LOCAL_STATE, ITEM_KINDS };
 enum { MOST_ITEMS = 1024, ITEMS_ROOM = 1 << 17 };
@@ -17,12 +17,13 @@ struct table {
     size_t count;
     uint8_t room[ITEMS_ROOM];
     size_t used;
+    struct ends ends; /* of what `read_items` has read */
 };
 
 /* The items of a ledger; not where they are more than there is room for, or the bytes are none. */
 bool table_of(struct bytes ledger, struct table *table);
 
-/* Whether all the bytes are items with their values. What is beyond the room of the table is none. */
+/* Whether all the bytes are items with their values; else the table says how they end. What is beyond the room of the table is none. */
 bool read_items(struct bytes bytes, struct table *table);
 
 /* Whether all the bytes are one item. */

@@ -10,15 +10,16 @@ enum { MOST_KEY = 64, MOST_GLOBAL = 64, MOST_LOCAL = 16 };
 struct reader {
     struct bytes bytes;
     size_t place;
-    bool fails;
+    bool fails, is_short; /* whether something is none, and whether that is since the bytes end in a field */
     struct parts *parts;
 };
 
 /* A reader at the beginning of the bytes, which forgets what stands in the parts. */
 struct reader reader_of(struct bytes bytes, struct parts *parts);
 
-/* Whether all was read, and nothing was none. */
+/* Whether all was read, and nothing was none; and what is wrong else. */
 bool is_read(const struct reader *reader);
+struct ends ends_of(const struct reader *reader);
 
 /* So many bytes; zeros where there are less. */
 const uint8_t *take(struct reader *reader, size_t count);
@@ -31,8 +32,8 @@ struct bytes read_string(struct reader *reader, size_t size, bool is_program);
 struct bytes read_key(struct reader *reader);
 void read_value(struct reader *reader);
 
-/* Entries by rising key; gives their count. */
-uint64_t read_state(struct reader *reader);
+/* At most so many entries, by rising key. */
+void read_state(struct reader *reader, uint64_t most);
 
 /* An application without its id and its global state. */
 void read_row(struct reader *reader, struct application *it);

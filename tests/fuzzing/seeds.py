@@ -1,8 +1,8 @@
 """The first inputs of the fuzz targets, from examples/ and the rows of crates/rows, and the stored ones of corpus/.
 
-A stored input is a line of digits in corpus/TARGET. Inputs of check and list are programs, those of assemble texts; of replay, state,
-view and attempt a ledger's length, two numbers that choose, a ledger and a block; of answer a byte that chooses, and what the command
-reads.
+A stored input is a line of digits in corpus/TARGET. Inputs of check and list are programs, those of assemble texts; of answer and json a
+byte that chooses, and what the command reads; of diagnose a byte that chooses, and bytes that may be refused; of the others a ledger's
+length, two numbers that choose, a ledger and a block.
 """
 
 import hashlib
@@ -12,11 +12,13 @@ from pathlib import Path
 HERE = Path(__file__).resolve().parent
 TOP = HERE.parent.parent
 sys.path.insert(0, str(TOP / "tests"))
+import formats  # noqa: E402
 import stored  # noqa: E402
 
-TARGETS = ("check", "assemble", "list", "replay", "state", "view", "answer", "attempt")
-PROGRAMS, TEXTS, BLOCKS = ("check", "list"), ("assemble",), ("replay", "state", "view", "attempt")
-LONGEST = {"check": 1100, "list": 1100, "assemble": 4096, "replay": 6000, "state": 6000, "view": 6000, "answer": 6000, "attempt": 6000}
+PROGRAMS, TEXTS, CHOOSING = ("check", "list"), ("assemble",), ("answer", "json", "diagnose")
+BLOCKS = ("replay", "apply", "state", "view", "trace", "attempt", "call", "propose")
+TARGETS = (*PROGRAMS, *TEXTS, *BLOCKS, *CHOOSING)
+LONGEST = {**dict.fromkeys(PROGRAMS, 1100), **dict.fromkeys(TEXTS, 4096), **dict.fromkeys((*BLOCKS, *CHOOSING), 6000)}
 ANN, BOB = b"\xaa" * 32, b"\xbb" * 32
 NOOP, OPT_IN, CLEAR = 0, 1, 3
 AS_DIGITS, WORDS = 8, 16
@@ -129,6 +131,53 @@ def answers(programs, texts, pairs, inputs):
     return found
 
 
+def documents(pairs):
+    """Inputs of avm_c_json: each command on ledgers and blocks, on documents, and words as they are."""
+    found = [bytes([command + AS_DIGITS]) + it for it in pairs for command in range(8)]
+    for path in sorted((TOP / "examples").glob("*/*.json")):
+        found += [bytes([command]) + path.read_bytes() for command in (1, 2)]
+    for _, words, given, _, _ in stored.json_cases():
+        word = "\0".join(words).encode()
+        if len(given) < LONGEST["json"] and len(word) < 256:
+            found.append(bytes([WORDS, len(word)]) + word + given)
+    return found
+
+
+def diagnoses(programs, texts, pairs):
+    """Inputs of avm_c_diagnose: texts, programs, ledgers, blocks, calls, items and headers, and statuses that say nothing of bytes."""
+    found = [b"\0" + text for text in texts] + [b"\1" + program for program in programs]
+    page = formats.examples(formats.PAGE.read_text())
+    for base, over in (halves(it) for it in pairs):
+        found += [b"\2" + base, b"\3" + over]
+    lines = [line.split() for line in stored.rows("stdin")[0].split("\n")]
+    found += [b"\4" + bytes.fromhex(words[1]) for words in lines if words[:1] == ["calldata"] and is_digits(words[1:])]
+    found += [b"\4" + call(ANN, 0, NOOP, program, bytes([4, 4, 4, 4])) for program in programs] + [b"\4" + page["call"][0]]
+    found += [b"\5" + bytes.fromhex(spelled) for name, spelled, _ in formats.EDGES if name == "items"] + [b"\5" + page["items"][0]]
+    found += [b"\5" + items(program) for program in programs] + [b"\6" + page["header"][0]]
+    return found + [bytes([7 + 8 * status]) for status in range(32)]
+
+
+def halves(spelled):
+    """The ledger and the block of an input."""
+    front, length = 6, int.from_bytes(spelled[:4], "big")
+    return spelled[front : front + length], spelled[front + length :]
+
+
+def is_digits(words):
+    return len(words) == 1 and len(words[0]) % 2 == 0 and set(words[0]) <= set("0123456789abcdef")
+
+
+def items(program):
+    """An item of each kind, with a value."""
+    row = b"\x01" + ANN + string(program) * 2 + bytes([8, 8, 4, 4])
+    state = b"\x02" + entry_of_state(b"k", 7) + entry_of_state(b"n", b"text")
+    entries = [
+        b"\x00" + number(2, 8), b"\x01" + number(1, 8) + row, b"\x02" + number(1, 8) + b"\x01\x01\x01",
+        b"\x03" + number(1, 8) + string(b"k", 1) + b"\x01\x01" + number(7, 8), b"\x04" + ANN + number(1, 8) + b"\x01" + state,
+    ]  # fmt: skip
+    return number(len(entries), 4) + b"".join(entries)
+
+
 def seeds():
     """The inputs of each target."""
     programs, texts, blocks, inputs = collected()
@@ -139,6 +188,8 @@ def seeds():
     found |= {target: texts + long_texts for target in TEXTS}
     found |= {target: list(pairs) for target in BLOCKS}
     found["answer"] = answers(programs, texts, pairs[::4], inputs)
+    found["json"] = documents(pairs[::4])
+    found["diagnose"] = diagnoses(programs + long_programs, texts + long_texts, pairs)
     for target in TARGETS:
         path = HERE / "corpus" / target
         found[target] += lines(path.read_text()) if path.exists() else []
