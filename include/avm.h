@@ -5,7 +5,7 @@
    that it is given, unless memory is refused. What is said below of statuses, of answers and of what is written is proved, by
    the contracts of crates/avm_c/src/lib.rt, which cite the definitions of the commands of the program `avm`.
 
-   docs/FORMATS.md has the bytes of ledgers, items, headers, calls and blocks, field by field.
+   docs/FORMATS.md has the bytes of ledgers, items, headers, calls and blocks, field by field; avm_names.h the names of the numbers below.
 
    What a caller owes
    - Bytes are a pointer and then their number. No pointer is null, also of no bytes and of no room. An empty std::vector or Go
