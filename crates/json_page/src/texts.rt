@@ -458,7 +458,7 @@ function drawChanges(trace) {
     ...trace["local-deltas"].flatMap(({ address, delta }) => delta.map(one => row(["local, ", make("span", "value", address)], one)))];
   if (rows.length === 0) return make("p", "", "The program has changed no state.");
   const lost = trace.outcome === "approved" ? [] : make("p", "", "The ledger keeps none of these changes, since the call is not approved.");
-  return make("div", "", table("DocumentFault the program has changed", ["State", "Key", "Value"], rows), lost);
+  return make("div", "", table("What the program has changed", ["State", "Key", "Value"], rows), lost);
 }
 
 function placeOf({ disassembly, outcome, "app-call-trace": states }, step) {
