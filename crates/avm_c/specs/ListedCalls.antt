@@ -1,5 +1,5 @@
 -- A list of calls, read from its bytes: the count in four bytes, and then each.
-use Rattle.std.specs.Prelude.{ℕ, zero, suc, ◌+◌, nat_lt, if◌then◌else◌, List, [], ◌∷◌, ◌++◌, length, Result, Ok, Err}
+use Rattle.std.specs.Prelude.{ℕ, zero, suc, ◌+◌, nat_lt, if◌then◌else◌, List, [], ◌∷◌, length, Result, Ok, Err}
 use Rattle.std.specs.Int.{w32}
 use Rattle.teal_value.specs.Answer.{◌>>=◌}
 use Rattle.avm_ledger.specs.FieldReader.{number_at}
@@ -27,10 +27,13 @@ abbrev pub listed_call : List ℕ → ℕ → ℕ → Result (CallData × ℕ) R
 listed_call bytes number place =
     of_call number (on_bytes (call_from bytes place)) >>= λ read. of_call number (unless_broken read.0 (call_fault read.0)) >>= λ call. Ok (call, read.1)
 
--- the calls so far and so many more, of which the first has this number and begins at this place, and the place behind them
-abbrev pub more_calls : List ℕ → List CallData → ℕ → ℕ → ℕ → Result (List CallData × ℕ) Refused
-more_calls bytes calls number zero place = Ok (calls, place)
-more_calls bytes calls number (suc left) place = listed_call bytes number place >>= λ c. more_calls bytes (calls ++ c.0 ∷ []) (number + 1) left c.1
+-- so many calls, of which the first has this number and begins at this place, and the place behind them
+abbrev pub more_calls : List ℕ → ℕ → ℕ → ℕ → Result (List CallData × ℕ) Refused
+more_calls bytes number zero place = Ok ([], place)
+more_calls bytes number (suc left) place = do
+  call ← listed_call bytes number place
+  more ← more_calls bytes (number + 1) left call.1
+  Ok (call.0 ∷ more.0, more.1)
 
 -- all of them, behind which no bytes stand
 abbrev pub unless_rest : List ℕ → List CallData × ℕ → Result (List CallData) Refused
@@ -38,4 +41,4 @@ unless_rest bytes read = if nat_lt read.1 (length bytes) then Err (no_call 0 (li
 
 -- the calls that the bytes are
 abbrev pub calls_of : List ℕ → Result (List CallData) Refused
-calls_of bytes = number_at (no_call 0 (line.Bytes Truncated)) w32 bytes >>= λ count. more_calls bytes [] 1 count.0 4 >>= unless_rest bytes
+calls_of bytes = number_at (no_call 0 (line.Bytes Truncated)) w32 bytes >>= λ count. more_calls bytes 1 count.0 4 >>= unless_rest bytes

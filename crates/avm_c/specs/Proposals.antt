@@ -21,7 +21,7 @@ use Rattle.avm_c.specs.Attempts.{header_of}
 use Rattle.avm_c.specs.Calls.{ledger_in}
 use Rattle.avm_c.specs.ListedCalls.{calls_of}
 use Rattle.avm_c.specs.Shown.{answer_shown}
-use Rattle.avm_c.specs.Troubles.{trouble_at}
+use Rattle.avm_c.specs.Troubles.{told_trouble, trouble_at}
 
 -- ---- what is asked
 
@@ -75,11 +75,6 @@ IsProposed (Ok d) p = IsMade d (calls_fault d.header d.calls) p
 IsProposed (Err r) p = p ≡ not_proposed r
 
 -- ---- what C is told
-
--- the trouble that is told, or what stood there
-abbrev pub told_trouble : Trouble → Option Trouble → Trouble
-told_trouble old None = old
-told_trouble old (Some found) = found
 
 -- memory was refused, and nothing was told but that
 pub record IsNotProposed (room told : List ℕ) (trouble shown : Trouble) (written result : ℕ) : Type 0 where

@@ -27,3 +27,8 @@ refusal_of of_fault (Err fault) = Some (of_fault fault)
 abbrev pub IsToldTrouble : Option Refused → Trouble → Trouble → ℕ → Type 0
 IsToldTrouble None old new result = (result ≡ status_number status.Done) × (new ≡ old)
 IsToldTrouble (Some r) old new result = (result ≡ status_number r.status) × (new ≡ r.trouble)
+
+-- the trouble that is told, or what stood there
+abbrev pub told_trouble : Trouble → Option Trouble → Trouble
+told_trouble old None = old
+told_trouble old (Some found) = found

@@ -34,7 +34,7 @@ ghost use Rattle.avm_c.specs.Calls.{called, on_ledger};
 ghost use Rattle.avm_c.specs.Diagnoses.{IsDiagnosed, IsToldWrong, kind_of, wrong_with};
 ghost use Rattle.avm_c.specs.Findings.{IsFound};
 ghost use Rattle.avm_c.specs.Programs.{assembled_answer, check_status, listed_answer};
-ghost use Rattle.avm_c.specs.Proposals.{IsToldProposed, calls_on_ledger, told_trouble};
+ghost use Rattle.avm_c.specs.Proposals.{IsToldProposed, calls_on_ledger};
 ghost use Rattle.avm_c.specs.Statuses.{status_number};
 ghost use Rattle.avm_c.specs.TraceAnswers.{IsTraceAnswer};
 ghost use Rattle.avm_c.specs.ViewAnswers.{IsViewAnswer};
@@ -53,7 +53,7 @@ use crate::proposals::Propose;
 use crate::questions::ask;
 use crate::statuses::Status;
 use crate::traces::TraceOf;
-use crate::troubles::{Trouble, write_trouble};
+use crate::troubles::{Trouble, tell_trouble, write_trouble};
 use crate::views::ViewAfter;
 use crate::words::{AvmWords, JsonWords};
 use std::alloc::Global;
@@ -331,7 +331,7 @@ pub extern "C" fn avm_c_propose(
         },
     ) {
         Ok(proposed) => {
-            tell(proposed.trouble, trouble);
+            tell_trouble(proposed.trouble, trouble);
             place(&proposed.answer, room, written)
         }
         Err(_) => place_nothing(written),
@@ -384,14 +384,5 @@ fn diagnosed(alloc: Global, kind: Kind, bytes: &[u8], trouble: &mut Trouble) -> 
     match wrong_with(alloc, kind, bytes) {
         Ok(found) => write_trouble(found, trouble),
         Err(_) => Status::Memory.number(),
-    }
-}
-
-/// Tells C what is wrong with a call, where one is none.
-fn tell(found: Option<Trouble>, trouble: &mut Trouble)
-    ensures { trouble.new ≡ told_trouble trouble.old found }
-{
-    if let Some(found) = found {
-        *trouble = found;
     }
 }

@@ -1,6 +1,6 @@
 //! Lists of calls, read from bytes.
 
-ghost use Rattle.std.specs.Prelude.{◌≡◌, []};
+ghost use Rattle.std.specs.Prelude.{◌≡◌};
 ghost use Rattle.std.specs.Arc.{arc_value};
 ghost use Rattle.teal_value.specs.Answer.{Gives};
 ghost use Rattle.avm_call.specs.CallRules.{call_fault};
@@ -38,7 +38,7 @@ pub fn calls_of(alloc: Global, bytes: &[u8]) -> Result<Vec<Call>, Failure<Refuse
 
 /// So many calls behind their count, and the place behind them.
 fn many_of(alloc: Global, bytes: &[u8], count: u32) -> Result<(Vec<Call>, usize), Failure<Refused>>
-    ensures { Gives (λ x. (x.0.items, x.1)) result (more_calls bytes.now [] 1 count COUNT_LEN) }
+    ensures { Gives (λ x. (x.0.items, x.1)) result (more_calls bytes.now 1 count COUNT_LEN) }
 {
     let mut calls = Vec::new(alloc);
     let mut place = COUNT_LEN;

@@ -1,7 +1,7 @@
 //! What is wrong with bytes, as C is told it.
 
 ghost use Rattle.std.specs.Prelude.{◌≡◌};
-ghost use Rattle.avm_c.specs.Troubles.{IsToldTrouble, refused_for, trouble_at};
+ghost use Rattle.avm_c.specs.Troubles.{IsToldTrouble, refused_for, told_trouble, trouble_at};
 
 use crate::statuses::Status;
 
@@ -55,5 +55,14 @@ pub fn write_trouble(found: Option<Refused>, trouble: &mut Trouble) -> u32
             found.status.number()
         }
         None => Status::Done.number(),
+    }
+}
+
+/// Tells C a trouble without its status, where there is one.
+pub fn tell_trouble(found: Option<Trouble>, trouble: &mut Trouble)
+    ensures { trouble.new ≡ told_trouble trouble.old found }
+{
+    if let Some(found) = found {
+        *trouble = found;
     }
 }
