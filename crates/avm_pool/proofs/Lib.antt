@@ -1,6 +1,11 @@
 pub mod Beginnings
+pub mod LogSteps
+pub mod LoggedCommits
+pub mod Logs
+pub mod Prefixes
 pub mod Remaining
 pub mod Marks
+pub mod Noted
 pub mod Proposed
 pub mod Refused
 pub mod NumberSteps

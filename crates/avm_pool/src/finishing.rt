@@ -1,19 +1,20 @@
 //! From a journal to its proposal. The ledger after the calls takes about as long to make as the entries of the block, their
-//! bytes and SHA-256 of these; so one thread makes the one and another the others, and a third asks whether the journal is of
-//! the draft and frees the shards. Where no thread can be made, one comes after the other. Where the process ends with the
-//! proposal, shards and journal are left to the operating system.
+//! bytes and SHA-256 of these; so one thread makes the one and another the others, and a third frees the shards. Where no thread
+//! can be made, one comes after the other. Where the process ends with the proposal, shards and journal are left to the operating
+//! system.
 
-ghost use Rattle.std.specs.Prelude.{◌≡◌, ◌↔◌, IfNone, IfOk, IfSome, IsTrue};
+ghost use Rattle.std.specs.Prelude.{IfOk};
 ghost use Rattle.std.specs.Arc.{arc_value};
 ghost use Rattle.mv_parts.specs.MadeEntries.{IsDigestAfter};
-ghost use Rattle.mv_parts.specs.Sealing.{IsJournalOf};
 ghost use Rattle.avm_pool.specs.Finishing.{AreBegun, AreParts};
+ghost use Rattle.avm_pool.specs.Logged.{IsJournalOver};
 ghost use Rattle.avm_pool.specs.Proposals.{IsProposal};
 
 use crate::block_prefix::{BlockPrefix, front_of};
 use crate::draft::SharedDraft;
 use crate::left_numbers::left_of;
 use crate::locked_work::ShardLock;
+use crate::naming::Naming;
 use crate::proposal::Proposal;
 use avm_block::{Entry, Front};
 use avm_ledger::Header;
@@ -24,9 +25,9 @@ use std::thread::{Threads, join};
 
 /// What a run of workers leaves beside its journal.
 #[derive(Drop)]
-pub(crate) struct Remains {
+pub(crate) struct Remains<J: Naming> {
     /// None where the process ends with the proposal.
-    pub shards: Option<Vec<ShardLock>>,
+    pub shards: Option<Vec<ShardLock<J>>>,
     /// The front of the block so far.
     pub prefix: Option<BlockPrefix>,
 }
@@ -40,41 +41,38 @@ pub(crate) struct Parts {
     after: [u8; 32],
 }
 
-/// The proposal of a journal, if it is of this draft.
-pub(crate) fn proposal_of<R: Threads + Sync, const EXITS: bool>(
+/// The proposal of a journal of this draft. Where the process ends with it, what is left is not freed.
+pub(crate) fn proposal_of<J: Naming + Send + Sync, R: Threads + Sync>(
     rt: &R,
     draft: &SharedDraft,
     journal: Journal,
-    remains: Remains,
-) -> Result<Option<Proposal>, AllocError>
-    ensures proposal { IfOk result (λ made. IfSome made
-        (IsProposal draft.now.base.now draft.now.header (arc_value draft.now.calls).items)) }
-    ensures none { IfOk result (λ made. IfNone made (IsJournalOf journal
-        draft.now.base.now draft.now.header (arc_value draft.now.calls).items → ⊥)) }
+    remains: Remains<J>,
+    exits: bool,
+) -> Result<Proposal, AllocError>
+    requires { IsJournalOver
+        draft.now.base.now draft.now.header (arc_value draft.now.calls).items journal }
+    ensures { IfOk result (IsProposal
+        draft.now.base.now draft.now.header (arc_value draft.now.calls).items) }
 {
     let made = made_of(rt, draft, &journal, remains);
-    to_free::<Journal, EXITS>(journal);
+    to_free(journal, exits);
     made
 }
 
-/// The proposal of a journal that stays, if it is of this draft.
-fn made_of<R: Threads + Sync>(
+/// The proposal of a journal that stays.
+fn made_of<J: Naming + Send + Sync, R: Threads + Sync>(
     rt: &R,
     draft: &SharedDraft,
     journal: &Journal,
-    remains: Remains,
-) -> Result<Option<Proposal>, AllocError>
-    ensures proposal { IfOk result (λ made. IfSome made
-        (IsProposal draft.now.base.now draft.now.header (arc_value draft.now.calls).items)) }
-    ensures none { IfOk result (λ made. IfNone made (IsJournalOf journal.now
-        draft.now.base.now draft.now.header (arc_value draft.now.calls).items → ⊥)) }
+    remains: Remains<J>,
+) -> Result<Proposal, AllocError>
+    requires { IsJournalOver
+        draft.now.base.now draft.now.header (arc_value draft.now.calls).items journal.now }
+    ensures { IfOk result (IsProposal
+        draft.now.base.now draft.now.header (arc_value draft.now.calls).items) }
 {
-    let (is_own, parts) = test_and_parts(rt, draft, journal, remains);
-    if !is_own {
-        return Ok(None);
-    }
-    let proposal = proposal_with(draft.alloc, journal, parts?)?;
-    Ok(Some(proposal))
+    let parts = parts_beside(rt, draft, journal, remains)?;
+    proposal_with(draft.alloc, journal, parts)
 }
 
 /// The proposal that a journal's parts make.
@@ -102,34 +100,27 @@ fn proposal_with(alloc: Global, journal: &Journal, parts: Parts) -> Result<Propo
     })
 }
 
-/// Whether a journal is of this draft, and the parts of its block.
-fn test_and_parts<R: Threads + Sync>(
+/// The parts of a journal's block, which one thread makes while another frees what remains.
+fn parts_beside<J: Naming + Send + Sync, R: Threads + Sync>(
     rt: &R,
     draft: &SharedDraft,
     journal: &Journal,
-    remains: Remains,
-) -> (bool, Result<Parts, AllocError>)
-    ensures own { IsTrue result.0 ↔ IsJournalOf journal.now draft.now.base.now draft.now.header
-        (arc_value draft.now.calls).items }
-    ensures parts { IfOk result.1 (AreParts journal.now draft.now.base.now draft.now.header) }
+    remains: Remains<J>,
+) -> Result<Parts, AllocError>
+    ensures { IfOk result (AreParts journal.now draft.now.base.now draft.now.header) }
 {
     let Remains { shards, prefix } = remains;
     let alloc = draft.alloc;
-    let (base, header, calls) = (draft.base, &draft.header, draft.calls.as_slice());
-    join(
+    let (base, header) = (draft.base, &draft.header);
+    let (_freed, parts) = join(
         rt,
-        move || -> bool
-            ensures { IsTrue result
-                ↔ IsJournalOf journal.entry.now base.entry.now header.entry.now calls.entry.now }
-        {
-            free_shards(shards);
-            journal.is_of(base.ledger(), header, calls)
-        },
+        move || free_shards(shards),
         move || -> Result<Parts, AllocError>
             ensures { IfOk result
                 (AreParts journal.entry.now base.entry.now header.entry.now) }
         { parts_of(rt, alloc, journal, prefix, base, header) },
-    )
+    );
+    parts
 }
 
 /// The parts of a journal's block, over this ledger and under this header.
@@ -180,8 +171,8 @@ fn begun_of(
 }
 
 /// What is to be freed: nothing, where the process ends, which takes all memory back.
-pub(crate) fn to_free<T: Drop, const EXITS: bool>(value: T) -> Option<T> {
-    if EXITS {
+pub(crate) fn to_free<T: Drop>(value: T, exits: bool) -> Option<T> {
+    if exits {
         mem::forget(value);
         None
     } else {
@@ -189,4 +180,4 @@ pub(crate) fn to_free<T: Drop, const EXITS: bool>(value: T) -> Option<T> {
     }
 }
 
-fn free_shards(_shards: Option<Vec<ShardLock>>) {}
+fn free_shards<J: Naming>(_shards: Option<Vec<ShardLock<J>>>) {}

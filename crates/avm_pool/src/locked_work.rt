@@ -1,20 +1,23 @@
 //! A journal together with shards that are locked one after another.
 
 ghost use Rattle.std.specs.Prelude.{◌≡◌, ◌<◌, ◌≤◌, IfSome, length};
-ghost use Rattle.avm_pool.specs.LockedWork.{Works};
 ghost use Rattle.avm_pool.specs.declared.locked_work.LockedWork.TheVariants.{Commit};
 
+use crate::logged_held::LoggedHeld;
+use crate::logged_journal::LoggedJournal;
+use crate::logged_shard::LoggedShard;
+use crate::naming::Naming;
 use crate::waiting::lock_soon;
 use avm_run::Finished;
-use mv_parts::{Journal, RefusedCommit};
-use mv_shards::{Attempt, Held, Shard};
+use mv_parts::RefusedCommit;
+use mv_shards::Attempt;
 use std::alloc::Global;
 use std::mem;
 use std::sync::{Mutex, Wait};
 use teal_value::Failure;
 
 /// A shard, or nothing while it is held with others.
-pub(crate) type ShardLock = Mutex<Option<Shard>>;
+pub(crate) type ShardLock<J> = Mutex<Option<LoggedShard<J>>>;
 
 /// What is done with a journal and the shards that are held. It is lent while they are locked, and taken once.
 #[derive(Drop)]
@@ -49,17 +52,18 @@ impl LockedWork {
         mem::replace(self, LockedWork::Prune)
     }
 
-    /// Does it with all shards that are held. It is out of line, as is [`Work::not_done`], so that whoever locks shards has no
-    /// room for work among the own variables.
+    /// Does it with all shards that are held. It is out of line, as is [`LockedWork::not_done`], so that whoever locks shards
+    /// has no room for work among the own variables.
     #[inline(never)]
-    fn done(&mut self, journal: &mut Journal, held: &mut Held) -> CommitResult
-        ensures { Works self.old journal.old journal.new result }
-    {
+    fn done<J: Naming>(
+        &mut self,
+        journal: &mut LoggedJournal<J>,
+        held: &mut LoggedHeld<J>,
+    ) -> CommitResult {
         match self.taken() {
             LockedWork::Commit(attempt, finished) => commit(journal, held, attempt, finished),
             LockedWork::Prune => {
-                let clock = journal.clock();
-                journal.prune(held, clock);
+                journal.prune(held);
                 CommitResult::Done
             }
         }
@@ -68,9 +72,7 @@ impl LockedWork {
     /// What comes of it where a shard is not there.
     #[cold]
     #[inline(never)]
-    fn not_done(&mut self) -> CommitResult
-        ensures { (journal : _) → Works self.old journal journal result }
-    {
+    fn not_done(&mut self) -> CommitResult {
         match self.taken() {
             LockedWork::Commit(attempt, _finished) => CommitResult::Again(attempt),
             LockedWork::Prune => CommitResult::Done,
@@ -79,14 +81,12 @@ impl LockedWork {
 }
 
 /// Commits a call whose shards are held.
-fn commit(
-    journal: &mut Journal,
-    held: &mut Held,
+fn commit<J: Naming>(
+    journal: &mut LoggedJournal<J>,
+    held: &mut LoggedHeld<J>,
     attempt: Attempt,
     finished: Finished,
-) -> CommitResult
-    ensures { Works (Commit attempt finished) journal.old journal.new result }
-{
+) -> CommitResult {
     if !held.covers(attempt.reads()) || !held.covers(finished.writes()) {
         return CommitResult::Again(attempt);
     }
@@ -97,10 +97,7 @@ fn commit(
 }
 
 /// What comes of a commit that was refused.
-fn not_committed(refused: RefusedCommit) -> CommitResult
-    ensures { (finished : _) (journal : _)
-        → Works (Commit refused.attempt finished) journal journal result }
-{
+fn not_committed(refused: RefusedCommit) -> CommitResult {
     let RefusedCommit {
         error,
         attempt,
@@ -114,35 +111,31 @@ fn not_committed(refused: RefusedCommit) -> CommitResult
 
 /// The locks of all shards, which of them are wanted, by index, and the runtime in which a thread waits for them.
 #[derive(Drop)]
-pub(crate) struct Wanted<'a, R> {
+pub(crate) struct Wanted<'a, J: Naming, R> {
     pub rt: &'a R,
-    pub locks: &'a [ShardLock],
+    pub locks: &'a [ShardLock<J>],
     pub wanted: &'a [bool],
 }
 
 /// Locks the shards that are wanted, by rising index, and does the work while all of them are held. No lock is let go
 /// before it is done; then each shard goes back behind its own.
-pub(crate) fn work_with<R: Wait>(
-    shards: &Wanted<R>,
-    journal: &mut Journal,
-    held: &mut Held,
+pub(crate) fn work_with<J: Naming, R: Wait>(
+    shards: &Wanted<J, R>,
+    journal: &mut LoggedJournal<J>,
+    held: &mut LoggedHeld<J>,
     work: &mut LockedWork,
-) -> CommitResult
-    ensures { Works work.old journal.old journal.new result }
-{
+) -> CommitResult {
     work_from(shards, 0, journal, held, work)
 }
 
 /// Locks those from an index on too, and does the work.
-fn work_from<R: Wait>(
-    shards: &Wanted<R>,
+fn work_from<J: Naming, R: Wait>(
+    shards: &Wanted<J, R>,
     from: usize,
-    journal: &mut Journal,
-    held: &mut Held,
+    journal: &mut LoggedJournal<J>,
+    held: &mut LoggedHeld<J>,
     work: &mut LockedWork,
-) -> CommitResult
-    ensures { Works work.old journal.old journal.new result }
-{
+) -> CommitResult {
     let Some(index) = next_wanted(shards.wanted, from) else {
         return work.done(journal, held);
     };
@@ -161,7 +154,7 @@ fn work_from<R: Wait>(
 /// Holds the shard that is there with the others. It is out of line, so that whoever locks shards has no room for one among the
 /// own variables.
 #[inline(never)]
-fn hold(held: &mut Held, slot: &mut Option<Shard>) -> bool {
+fn hold<J: Naming>(held: &mut LoggedHeld<J>, slot: &mut Option<LoggedShard<J>>) -> bool {
     let Some(shard) = slot.take() else {
         return false;
     };
@@ -176,7 +169,7 @@ fn hold(held: &mut Held, slot: &mut Option<Shard>) -> bool {
 
 /// Puts the last of the shards that are held back. It is out of line, as [`hold`] is.
 #[inline(never)]
-fn give_back(held: &mut Held, slot: &mut Option<Shard>) {
+fn give_back<J: Naming>(held: &mut LoggedHeld<J>, slot: &mut Option<LoggedShard<J>>) {
     *slot = held.take();
 }
 

@@ -7,6 +7,7 @@ use crate::block_prefix::{BlockPrefix, Kept};
 use crate::ends::AttemptEnd;
 use crate::gate::{Gate, GateEvent};
 use crate::locked_work::ShardLock;
+use crate::naming::Naming;
 use crate::waiting::lock_soon;
 use avm_block::Entry;
 use avm_call::Call;
@@ -30,10 +31,10 @@ pub(crate) struct Executor<'a, O: Op> {
 
 /// What all workers share.
 #[derive(Drop)]
-pub(crate) struct Shared<'a, G> {
+pub(crate) struct Shared<'a, J: Naming, G> {
     pub alloc: Global,
     /// By index.
-    pub shards: &'a [ShardLock],
+    pub shards: &'a [ShardLock<J>],
     pub calls: &'a [Call],
     pub header: &'a Header,
     /// The front of the block so far; none where nobody makes it ahead, or memory was refused to whoever did.
@@ -43,14 +44,14 @@ pub(crate) struct Shared<'a, G> {
 
 /// An attempt that runs, and how many its call has had with it; 0 where one thread runs what the workers left.
 #[derive(Drop)]
-pub(crate) struct RunningAttempt<'a, 'b, G, R> {
-    pub shared: &'a Shared<'b, G>,
+pub(crate) struct RunningAttempt<'a, 'b, J: Naming, G, R> {
+    pub shared: &'a Shared<'b, J, G>,
     pub rt: &'a R,
     pub attempt: Attempt,
     pub tries: u32,
 }
 
-impl<'a, G: Gate> Shared<'a, G> {
+impl<'a, J: Naming, G: Gate> Shared<'a, J, G> {
     /// The call of a number, from 1.
     pub fn call(&self, number: u32) -> Option<&'a Call> {
         if number == 0 {
@@ -76,7 +77,7 @@ impl<'a, G: Gate> Shared<'a, G> {
     }
 }
 
-impl<'a, 'b, G: Gate, R: Wait> RunningAttempt<'a, 'b, G, R> {
+impl<'a, 'b, J: Naming, G: Gate, R: Wait> RunningAttempt<'a, 'b, J, G, R> {
     /// Runs the call of the attempt to its end. It fails with `Again` where an item could not be read at the attempt's
     /// timestamp, and with `Skipped` where memory was refused.
     pub fn run<O: Op>(&mut self, executor: &mut Executor<O>) -> Result<Finished, AttemptEnd>
@@ -118,7 +119,7 @@ impl<'a, 'b, G: Gate, R: Wait> RunningAttempt<'a, 'b, G, R> {
     }
 }
 
-impl<'a, 'b, G: Gate, R: Wait> Reader<AttemptEnd> for RunningAttempt<'a, 'b, G, R> {
+impl<'a, 'b, J: Naming, G: Gate, R: Wait> Reader<AttemptEnd> for RunningAttempt<'a, 'b, J, G, R> {
     ghost kept = { λ t. (t.attempt.number, t.attempt.timestamp) };
 
     /// Reads an item under the lock of its shard.

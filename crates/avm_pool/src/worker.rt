@@ -8,13 +8,16 @@ use crate::call_numbers::{NumberPass, Numbers};
 use crate::ends::{AttemptEnd, ThreadEnd};
 use crate::gate::{Gate, GateEvent};
 use crate::locked_work::{CommitResult, LockedWork, Wanted, work_with};
+use crate::logged_held::LoggedHeld;
+use crate::logged_journal::LoggedJournal;
+use crate::naming::Naming;
 use crate::running::{Executor, RunningAttempt, Shared};
 use crate::thread_room::take_room;
 use crate::waiting::{lock_soon, stand_back};
 use avm_ops::{Op, Ops};
 use avm_run::{Finished, FullOps};
-use mv_parts::{BeginFault, Journal};
-use mv_shards::{Attempt, Held, SHARD_COUNT, shard_of};
+use mv_parts::BeginFault;
+use mv_shards::{Attempt, SHARD_COUNT, shard_of};
 use std::alloc::AllocError;
 use std::sync::{Mutex, Wait};
 use teal_value::Failure;
@@ -56,11 +59,11 @@ pub(crate) fn enlist<'a, O: Op>(
 
 impl<'a, O: Op> Worker<'a, O> {
     /// Draws numbers until there is none, and runs their calls.
-    pub fn work<G: Gate, R: Wait>(
+    pub fn work<J: Naming, G: Gate, R: Wait>(
         self,
         rt: &R,
-        journal: &Mutex<Journal>,
-        shared: &Shared<G>,
+        journal: &Mutex<LoggedJournal<J>>,
+        shared: &Shared<J, G>,
     ) -> ThreadEnd {
         let Worker {
             numbers,
@@ -81,25 +84,25 @@ impl<'a, O: Op> Worker<'a, O> {
             spare: None,
         };
         take_room(shared.alloc, shared.calls.len(), CALL_ROOM);
-        let mut held = Held::new(shared.alloc);
+        let mut held = LoggedHeld::new(shared.alloc);
         context.run_numbers(&mut executor, &mut held, numbers, &mut pass)
     }
 }
 
-/// Where workers run calls: the runtime in which they wait, the journal behind its lock, and what all attempts share.
+/// Where calls run: the runtime in which a thread waits, the journal behind its lock, and what all attempts share.
 #[derive(Drop)]
-struct WorkerContext<'a, 'b, 'c, G, R> {
-    rt: &'a R,
-    journal: &'a Mutex<Journal>,
-    shared: &'b Shared<'c, G>,
+pub(crate) struct WorkerContext<'a, 'b, 'c, J: Naming, G, R> {
+    pub rt: &'a R,
+    pub journal: &'a Mutex<LoggedJournal<J>>,
+    pub shared: &'b Shared<'c, J, G>,
 }
 
-impl<'a, 'b, 'c, G: Gate, R: Wait> WorkerContext<'a, 'b, 'c, G, R> {
+impl<'a, 'b, 'c, J: Naming, G: Gate, R: Wait> WorkerContext<'a, 'b, 'c, J, G, R> {
     /// Runs the calls of the numbers that are drawn, and prunes after every so many commits.
     fn run_numbers<O: Op>(
         &self,
         executor: &mut Executor<O>,
-        held: &mut Held,
+        held: &mut LoggedHeld<J>,
         numbers: &Numbers,
         pass: &mut NumberPass,
     ) -> ThreadEnd
@@ -129,7 +132,7 @@ impl<'a, 'b, 'c, G: Gate, R: Wait> WorkerContext<'a, 'b, 'c, G, R> {
     fn run_call<O: Op>(
         &self,
         executor: &mut Executor<O>,
-        held: &mut Held,
+        held: &mut LoggedHeld<J>,
         number: u32,
     ) -> AttemptEnd {
         let mut tries = 1u32;
@@ -146,10 +149,10 @@ impl<'a, 'b, 'c, G: Gate, R: Wait> WorkerContext<'a, 'b, 'c, G, R> {
     }
 
     /// One attempt of a call. Each `let` that locks the journal lets it go at its end, so no lock is held at the gate.
-    fn run_attempt<O: Op>(
+    pub fn run_attempt<O: Op>(
         &self,
         executor: &mut Executor<O>,
-        held: &mut Held,
+        held: &mut LoggedHeld<J>,
         number: u32,
         tries: u32,
     ) -> AttemptEnd {
@@ -175,8 +178,8 @@ impl<'a, 'b, 'c, G: Gate, R: Wait> WorkerContext<'a, 'b, 'c, G, R> {
     /// Commits an attempt whose call has ended, or abandons it.
     fn commit(
         &self,
-        held: &mut Held,
-        running: RunningAttempt<G, R>,
+        held: &mut LoggedHeld<J>,
+        running: RunningAttempt<J, G, R>,
         finished: Finished,
     ) -> AttemptEnd {
         running.tell(GateEvent::BeforeCommit);
@@ -192,14 +195,24 @@ impl<'a, 'b, 'c, G: Gate, R: Wait> WorkerContext<'a, 'b, 'c, G, R> {
     }
 
     /// What comes of a commit.
-    fn worked(&self, held: &mut Held, attempt: Attempt, finished: Finished) -> CommitResult {
+    fn worked(
+        &self,
+        held: &mut LoggedHeld<J>,
+        attempt: Attempt,
+        finished: Finished,
+    ) -> CommitResult {
         let wanted = shards_of(&attempt, &finished);
         let mut work = LockedWork::commit(self.shared.alloc, attempt, finished);
         self.under_locks(held, &wanted, &mut work)
     }
 
     /// Takes the journal's lock, and then those of the shards that are wanted.
-    fn under_locks(&self, held: &mut Held, wanted: &[bool], work: &mut LockedWork) -> CommitResult {
+    fn under_locks(
+        &self,
+        held: &mut LoggedHeld<J>,
+        wanted: &[bool],
+        work: &mut LockedWork,
+    ) -> CommitResult {
         let mut guard = lock_soon(self.rt, self.journal);
         let locks = Wanted {
             rt: self.rt,
@@ -236,7 +249,8 @@ impl<'a, 'b, 'c, G: Gate, R: Wait> WorkerContext<'a, 'b, 'c, G, R> {
     /// fit wait for the next time.
     fn settled_from(&self, from: usize) -> Result<Vec<Kept>, AllocError> {
         let mut kept = Vec::with_capacity(self.shared.alloc, PREFIX_STEP)?;
-        let journal = lock_soon(self.rt, self.journal);
+        let guard = lock_soon(self.rt, self.journal);
+        let journal = guard.journal();
         let entries = journal.entries();
         let end = journal.settled().min(from.saturating_add(PREFIX_STEP));
         for index in from..end {
@@ -247,14 +261,14 @@ impl<'a, 'b, 'c, G: Gate, R: Wait> WorkerContext<'a, 'b, 'c, G, R> {
     }
 
     /// Drops the versions that no attempt can ask for any more.
-    fn prune(&self, held: &mut Held) {
+    fn prune(&self, held: &mut LoggedHeld<J>) {
         let all = [true; SHARD_COUNT];
         self.under_locks(held, &all, &mut LockedWork::Prune);
     }
 }
 
 /// Which shards have an item that was read or is written, by index.
-pub(crate) fn shards_of(attempt: &Attempt, finished: &Finished) -> [bool; SHARD_COUNT] {
+fn shards_of(attempt: &Attempt, finished: &Finished) -> [bool; SHARD_COUNT] {
     let mut wanted = [false; SHARD_COUNT];
     for (item, _value) in attempt.reads().as_slice() {
         wanted[usize::from(shard_of(item))] = true;

@@ -9,11 +9,12 @@ ghost use Rattle.avm_block.specs.Blocks.{most_calls};
 use crate::call_numbers::{NumberPass, Numbers};
 use crate::ends::ThreadEnd;
 use crate::gate::Gate;
+use crate::logged_journal::LoggedJournal;
+use crate::naming::Naming;
 use crate::pool_fault::{PoolError, PoolFault};
 use crate::running::Shared;
 use crate::worker::{Worker, enlist};
 use avm_ops::{Op, Ops};
-use mv_parts::Journal;
 use std::alloc::{AllocError, Global};
 use std::sync::{Mutex, Wait};
 use std::thread;
@@ -51,10 +52,10 @@ fn enlist_all<'a, O: Op>(
 }
 
 /// Has a worker of each set run the calls on a journal behind its lock, each in a thread of its own.
-pub(crate) fn run_sets<O: Op, G: Gate, R: Threads + Wait + Sync>(
+pub(crate) fn run_sets<J: Naming + Send + Sync, O: Op, G: Gate, R: Threads + Wait + Sync>(
     rt: &R,
-    journal: &Mutex<Journal>,
-    shared: &Shared<G>,
+    journal: &Mutex<LoggedJournal<J>>,
+    shared: &Shared<J, G>,
     sets: Vec<Ops<O>>,
 ) -> Result<(), PoolError>
     requires few { length shared.now.calls.now ≤ most_calls }
@@ -63,25 +64,29 @@ pub(crate) fn run_sets<O: Op, G: Gate, R: Threads + Wait + Sync>(
     let (numbers, mut pass) = Numbers::new(shared.alloc)?;
     put_all(rt, &numbers, &mut pass, shared.calls.len() as u32);
     let workers = enlist_all(shared.alloc, &numbers, &mut pass, sets)?;
-    match run_workers(rt, journal, shared, workers)? {
+    let work = |worker: Worker<O>| worker.work(rt, journal, shared);
+    match run_workers(rt, shared.alloc, &work, workers)? {
         ThreadEnd::Over => Ok(()),
         ThreadEnd::NotStarted => Err(Failure::Fault(PoolFault::Spawn)),
         ThreadEnd::ClockEnd => Err(Failure::Fault(PoolFault::ClockEnd)),
     }
 }
 
-/// Runs the workers in threads of their own, and joins those that were started.
-fn run_workers<O: Op, G: Gate, R: Threads + Wait + Sync>(
+/// Has each worker work in a thread of its own, and joins those that were started. Neither they nor what they share is named
+/// here, so that threads may have each is asked apart.
+fn run_workers<W: Send + Drop, F: Fn(W) -> ThreadEnd + Sync, R: Threads + Wait + Sync>(
     rt: &R,
-    journal: &Mutex<Journal>,
-    shared: &Shared<G>,
-    workers: Vec<Worker<O>>,
-) -> Result<ThreadEnd, AllocError> {
-    let mut handles = Vec::with_capacity(shared.alloc, workers.len())?;
+    alloc: Global,
+    work: &F,
+    workers: Vec<W>,
+) -> Result<ThreadEnd, AllocError>
+    requires { F.IsAlwaysCallable work.now }
+{
+    let mut handles = Vec::with_capacity(alloc, workers.len())?;
     Ok(thread::scope(thread::scope_env(), rt, move |scope| {
         let mut end = ThreadEnd::Over;
         for worker in workers {
-            match scope.spawn(move || worker.work(rt, journal, shared)) {
+            match scope.spawn(move || work(worker)) {
                 Ok(handle) => {
                     if let Err(refused) = handles.push(handle) {
                         refused.value.join(rt);

@@ -72,9 +72,8 @@ fn finds(
 // A commit at 5 makes the next id 2.
 fn committed_at_5(alloc: Global) -> Result<Held, AllocError> {
     let mut held = first_held(alloc)?;
-    let mut others = first_held(alloc)?;
     let writes = next_id_is(alloc, 2)?;
-    held.write_both(&mut others, &ItemMap::new(alloc), &writes, 5)?;
+    held.write(&ItemMap::new(alloc), &writes, 5)?;
     Ok(held)
 }
 

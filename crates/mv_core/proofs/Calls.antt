@@ -1,13 +1,13 @@
 -- What the calls of a store make of what it keeps, by the contracts of the journal and of the shards that are held.
 use Rattle.std.proofs.Common.{◌≡◌, ℕ, ◌+◌, ◌-◌, ◌<◌, ◌≤◌, ◌==◌, Bool, nat_lt, if◌then◌else◌, length, Option, None, Some, get_or, set, refl, sym, ap, ◌∙◌, subst, arith, inl, inr}
 use Rattle.std.specs.Prelude.{◌⊎◌, ◌||◌, ◌^◌, IsSome}
+use Rattle.std.proofs.lemmas.List.{get_or-set_other}
 use Rattle.std.proofs.lemmas.Option.{same_Some}
 use Rattle.teal_value.specs.declared.failure.Failure.{Failure}
 use Rattle.teal_value.specs.declared.failure.Failure.TheVariants as failure
 use Rattle.avm_items.specs.declared.item.Item.{Item}
 use Rattle.avm_items.specs.declared.item_value.ItemValue.{ItemValue}
 use Rattle.avm_items.specs.LedgerItems.{at}
-use Rattle.mv_chain.specs.Versions.{mark_in, oldest_timestamp}
 use Rattle.mv_history.specs.History.{commit_count}
 use Rattle.mv_history.specs.World.{after_abandon, after_begin, attempt_at, fresh_attempt, live_count, low_after_prune}
 use Rattle.mv_history.proofs.Attempts.{found_attempt}
@@ -18,22 +18,23 @@ use Rattle.mv_shards.specs.declared.read_fault.ReadFault.TheVariants.{Pruned}
 use Rattle.mv_shards.specs.Indexes.{shard_of}
 use Rattle.mv_shards.specs.Shards as shard
 use Rattle.mv_shards.specs.Shards.{Shard}
-use Rattle.mv_shards.specs.Helds.{ArePruned, IsHeld, IsPrunedIn, ShardSlots, shard_for}
+use Rattle.mv_shards.specs.Helds.{ArePruned, IsHeld, IsPrunedIn, IsPrunedSlot, ShardSlots, shard_for}
 use Rattle.mv_parts.specs.declared.begin_fault.BeginFault.{BeginFault}
 use Rattle.mv_parts.specs.declared.begin_fault.BeginFault.TheVariants.{ClockEnd, Done, NoCall, Taken}
 use Rattle.mv_parts.specs.Journals as journal
-use Rattle.mv_parts.specs.Journals.{IsBeginRefusal, IsOfNumber, IsShardOver, Journal, begin_fault, versions_indexed}
+use Rattle.mv_parts.specs.Journals.{IsBeginRefusal, IsOfNumber, Journal, begin_fault}
+use Rattle.mv_parts.specs.Agreeing.{AllAgree, ShardAgrees}
+use Rattle.mv_parts.proofs.Agreeing.{every_abandon_keeps_agreement, every_begin_keeps_agreement, every_prune_keeps_agreement, every_read_keeps_agreement}
+use Rattle.mv_core.specs.AllShards.{IsShardOver}
 use Rattle.mv_parts.proofs.Opens.{index_within}
-use Rattle.mv_shards.specs.Writing.{versions_for}
+use Rattle.mv_shards.proofs.Steps.{set_here}
 use Rattle.mv_core.specs.AttemptSlots.{HasLiveNumber, IsNowhere, IsAttemptAt, live_in}
 use Rattle.mv_core.specs.declared.faults.ReadFault.{ReadFault as StoreReadFault}
 use Rattle.mv_core.specs.declared.faults.ReadFault.TheVariants.{Unknown}
-use Rattle.mv_core.specs.Calls.{AreMarksBelow, IsKeptByJournal, as_journal, shown_by}
+use Rattle.mv_core.specs.Calls.{IsKeptByJournal, as_journal, shown_by}
 use Rattle.mv_core.specs.Stores.{CallSlots, IsFirstRead, IsPrune, IsPrunedFor, IsPrunedAttempt, IsReadAgain, IsReadSlot}
-use Rattle.mv_core.specs.SeenStores.{Store}
 use Rattle.mv_core.proofs.Attempts.{attempt_here, count_in, live_here, live_there, not_live_none, not_live_other}
-use Rattle.mv_core.proofs.Events.{kept_abandoned, kept_again, kept_begun, kept_pruned, kept_read, marks_left, never_pruned, once, still_above}
-use Rattle.mv_core.proofs.MarksBelow.{below_read}
+use Rattle.mv_core.proofs.Events.{kept_abandoned, kept_again, kept_begun, kept_pruned, kept_read, never_pruned, once}
 use Rattle.mv_core.proofs.Tickets.{at_none}
 
 -- ---- begin
@@ -79,7 +80,7 @@ module _ (j : Journal) (shard_slots : ShardSlots) (slots : CallSlots) where
       let b = begins_at j n none in
       subst (λ c. IsKeptByJournal new shard_slots (set slots (n - 1) (Some c)) × (shown_by new shard_slots (set slots (n - 1) (Some c)) ≡ record (shown_by j shard_slots slots) { world = after_begin (shown_by j shard_slots slots).world n })) (sym begun)
       (subst (λ i. IsKeptByJournal i shard_slots (set slots (n - 1) (Some (fresh_attempt n (j.world.clock + 1)))) × (shown_by i shard_slots (set slots (n - 1) (Some (fresh_attempt n (j.world.clock + 1)))) ≡ record (shown_by j shard_slots slots) { world = after_begin (shown_by j shard_slots slots).world n })) (sym is)
-      (let h = kept_begun j.base j.header j.calls j.world shard_slots slots k.kept n b.above b.within b.uncommitted b.idle in (record { kept = h.0; marks = k.marks }, h.1)))
+      (let h = kept_begun j.base j.header j.calls j.world shard_slots slots k.kept n b.above b.within b.uncommitted b.idle in (record { kept = h.0; agree = λ i s is. every_begin_keeps_agreement j s n (k.agree i s is) }, h.1)))
 
   -- a call that begins has a slot
   pub begun_within : (n : ℕ) → begin_fault j n ≡ None → IsKeptByJournal j shard_slots slots → n - 1 < length slots
@@ -113,7 +114,7 @@ module _ (j : Journal) (shard_slots : ShardSlots) (slots : CallSlots) where
         subst (λ i. IsKeptByJournal i shard_slots (set slots index None) × (shown_by i shard_slots (set slots index None) ≡ record (shown_by j shard_slots slots) { world = after_abandon (shown_by j shard_slots slots).world t }))
         (sym (is ∙ ap (λ (b : CallAttempt). record j { world = after_abandon j.world b.timestamp }) (same_Some _ _ (sym found ∙ p.found)) ∙ ap (λ u. record j { world = after_abandon j.world u }) p.time))
         (subst (λ i. IsKeptByJournal (record j { world = after_abandon j.world t }) shard_slots (set slots i None) × (shown_by (record j { world = after_abandon j.world t }) shard_slots (set slots i None) ≡ record (shown_by j shard_slots slots) { world = after_abandon (shown_by j shard_slots slots).world t })) (sym p.is)
-        (let h = kept_abandoned j.base j.header j.calls j.world shard_slots slots k.kept n t p.above p.within is_live in (record { kept = h.0; marks = k.marks }, h.1)))
+        (let h = kept_abandoned j.base j.header j.calls j.world shard_slots slots k.kept n t p.above p.within is_live in (record { kept = h.0; agree = λ i s is. every_abandon_keeps_agreement j s t (k.agree i s is) }, h.1)))
 
     -- what was taken from the index
     pub store_abandoned_at : (new : Journal) (o : Option CallAttempt) (a : CallAttempt) (left d : Option CallAttempt) → o ≡ d → d ≡ get_or slots index d → o ≡ Some a → left ≡ None → new ≡ record j { world = after_abandon j.world a.timestamp }
@@ -163,17 +164,26 @@ module _ (j : Journal) (shard_slots : ShardSlots) (slots : CallSlots) where
         time : r.before.timestamp ≡ t
         time = ap (λ (b : CallAttempt). b.timestamp) (same_Some _ _ (sym r.found ∙ p.found)) ∙ p.time
 
+        -- the shard that was read agrees still, and so do the others
+        agree_read : shard.IsFirstRead r.read.shard r.read.read_shard r.before r.after x v ⊎ shard.IsReadAgain r.read.shard r.read.read_shard r.before r.after x v → AllAgree j (set shard_slots (shard_of x) (Some r.read.read_shard))
+        agree_read read i s is = at_index (i == shard_of x) (equals i (shard_of x))
+          where
+            at_index : (b : Bool) → Equals i (shard_of x) b → ShardAgrees j s
+            at_index b (equal e) =
+                let here : get_or (set shard_slots (shard_of x) (Some r.read.read_shard)) i None ≡ Some r.read.read_shard =
+                ap (λ m. get_or (set shard_slots (shard_of x) (Some r.read.read_shard)) m None) e ∙ set_here shard_slots (shard_of x) r.read.shard r.read.read_shard r.read.found in
+                subst (ShardAgrees j) (same_Some _ _ (sym here ∙ is))
+                (every_read_keeps_agreement j r.read.shard r.read.read_shard r.before r.after x v read (k.agree (shard_of x) r.read.shard r.read.found))
+            at_index b (unequal e) = k.agree i s (sym (get_or-set_other shard_slots (shard_of x) i (Some r.read.read_shard) None e) ∙ is)
+
         by : (shard.IsFirstRead r.read.shard r.read.read_shard r.before r.after x v ⊎ shard.IsReadAgain r.read.shard r.read.read_shard r.before r.after x v)
             → Goal (set shard_slots (shard_of x) (Some r.read.read_shard)) (set slots (n - 1) (Some r.after))
         by (inl first) =
             let h = kept_read j.base j.header j.calls j.world shard_slots slots k.kept n r.before r.after x v r.read.shard r.read.read_shard p.above p.within found r.read.found first in
-            let old : oldest_timestamp (versions_for shard_slots x) ≤ j.world.low = (k.kept.store.holds x).old_enough in
-            let marks = below_read j.base j.world.low r.before.timestamp j.world.entries (versions_indexed j) (versions_for shard_slots) (versions_for (set shard_slots (shard_of x) (Some r.read.read_shard))) x (k.kept.store.holds x).chain (omega (arith, old, from)) h.1.versions k.marks in
-            (record { kept = h.0; marks = marks }, inl (subst (λ u. IsFirstRead (shown_by j shard_slots slots) (shown_by j (set shard_slots (shard_of x) (Some r.read.read_shard)) (set slots (n - 1) (Some r.after))) n u x v) time h.1))
+            (record { kept = h.0; agree = agree_read (inl first) }, inl (subst (λ u. IsFirstRead (shown_by j shard_slots slots) (shown_by j (set shard_slots (shard_of x) (Some r.read.read_shard)) (set slots (n - 1) (Some r.after))) n u x v) time h.1))
         by (inr again) =
             let h = kept_again j.base j.header j.calls j.world shard_slots slots k.kept n r.before r.after x v r.read.shard r.read.read_shard p.above p.within found r.read.found again in
-            let same : versions_for shard_slots ≡ versions_for (set shard_slots (shard_of x) (Some r.read.read_shard)) = ap (λ (s : Store). versions_for s.shard_slots) (sym h.1.unchanged) in
-            (record { kept = h.0; marks = subst (AreMarksBelow j.base j.world.low j.world.entries (versions_indexed j)) same k.marks }, inr (subst (λ u. IsReadAgain (shown_by j shard_slots slots) (shown_by j (set shard_slots (shard_of x) (Some r.read.read_shard)) (set slots (n - 1) (Some r.after))) n u x v) time h.1))
+            (record { kept = h.0; agree = agree_read (inr again) }, inr (subst (λ u. IsReadAgain (shown_by j shard_slots slots) (shown_by j (set shard_slots (shard_of x) (Some r.read.read_shard)) (set slots (n - 1) (Some r.after))) n u x v) time h.1))
 
   -- a call is not live at a timestamp at which its slot has no attempt
   pub store_nowhere : (n t : ℕ) → IsNowhere slots n t → IsKeptByJournal j shard_slots slots → HasLiveNumber (shown_by j shard_slots slots).world.live n t → ⊥
@@ -198,14 +208,14 @@ module _ (j : Journal) (shard_slots : ShardSlots) (slots : CallSlots) where
   pub store_pruned : (new_journal : Journal) (new : ShardSlots) (t : ℕ) → new_journal ≡ record j { world = record (j.world) { low = low_after_prune j.world t } } → ArePruned (low_after_prune j.world t) shard_slots new → IsKeptByJournal j shard_slots slots
       → IsKeptByJournal new_journal new slots × IsPrune (shown_by j shard_slots slots) (shown_by new_journal new slots) t
   store_pruned new_journal new t is pruned k = subst (λ i. IsKeptByJournal i new slots × IsPrune (shown_by j shard_slots slots) (shown_by i new slots) t) (sym is)
-      (let h = kept_pruned j.base j.header j.calls j.world shard_slots slots k.kept t new pruned in (record { kept = h.0; marks = marks }, h.1))
+      (let h = kept_pruned j.base j.header j.calls j.world shard_slots slots k.kept t new pruned in (record { kept = h.0; agree = agree_pruned }, h.1))
     where
-      marks : AreMarksBelow j.base (low_after_prune j.world t) j.world.entries (versions_indexed j) (versions_for new)
-      marks x n counts =
-          let higher = still_above j.base j.header j.calls j.world shard_slots slots k.kept t new x in
-          let below : mark_in n (versions_indexed j x) ≤ mark_in n (versions_for shard_slots x) = k.marks x n (omega (arith, higher, counts)) in
-          let left : mark_in n (versions_for new x) ≡ mark_in n (versions_for shard_slots x) = marks_left j.base j.header j.calls j.world shard_slots slots k.kept t new pruned x n counts in
-          omega (arith, below, left)
+      agree_pruned : AllAgree (record j { world = record (j.world) { low = low_after_prune j.world t } }) new
+      agree_pruned i s is = by (get_or shard_slots i None) refl (subst (IsPrunedSlot (low_after_prune j.world t) (get_or shard_slots i None)) is (pruned i))
+        where
+          by : (o : Option Shard) → get_or shard_slots i None ≡ o → IsPrunedSlot (low_after_prune j.world t) o (Some s) → ShardAgrees (record j { world = record (j.world) { low = low_after_prune j.world t } }) s
+          by None here h = absurd h
+          by (Some old) here h = every_prune_keeps_agreement j old s t h (k.agree i old here)
 
   -- ---- nothing changed
 

@@ -4,32 +4,32 @@ use Rattle.std.specs.Prelude.{IsSome}
 use Rattle.std.proofs.lemmas.Option.{same_Some}
 use Rattle.teal_value.specs.declared.failure.Failure.{Failure}
 use Rattle.teal_value.specs.declared.failure.Failure.TheVariants as failure
-use Rattle.avm_items.specs.declared.item.Item.{Item}
 use Rattle.avm_run.specs.Results.{CallRecord, IsFinishedCall}
-use Rattle.mv_history.specs.History.{entries_with}
 use Rattle.mv_history.specs.World.{after_commit, attempt_at}
-use Rattle.mv_chain.specs.Stores.{after_entry}
-use Rattle.mv_parts.specs.CallHistory.{CallAttempt, CallEntry, same_item}
+use Rattle.mv_parts.specs.CallHistory.{CallAttempt}
 use Rattle.mv_parts.specs.CallLaws.{entry_of}
 use Rattle.mv_shards.specs.Helds.{ShardSlots}
-use Rattle.mv_shards.specs.Writing.{versions_for}
+use Rattle.mv_shards.specs.Shards.{Shard}
+use Rattle.mv_shards.specs.Writing.{IsWrittenSlot}
 use Rattle.mv_parts.specs.declared.commit_fault.CommitFault.{CommitFault as PartsFault}
 use Rattle.mv_parts.specs.declared.commit_fault.CommitFault.TheVariants as parts_fault
 use Rattle.mv_parts.specs.Journals as journal
-use Rattle.mv_parts.specs.Journals.{IsIndexedStore, Journal, versions_indexed}
+use Rattle.mv_parts.specs.Journals.{IsConsistentJournal, Journal}
+use Rattle.mv_parts.specs.Agreeing.{AllAgree, ShardAgrees}
+use Rattle.mv_parts.proofs.Agreeing.{every_commit_keeps_agreement}
 use Rattle.mv_parts.specs.Commits.{IsOwnCall}
 use Rattle.mv_parts.specs.Commits as parts
 use Rattle.mv_core.specs.declared.faults.CommitFault.{CommitFault}
 use Rattle.mv_core.specs.declared.faults.CommitFault.TheVariants as fault
 use Rattle.mv_core.specs.AttemptSlots.{HasLiveNumber, IsAttemptAt, live_in}
-use Rattle.mv_core.specs.Calls.{AreMarksBelow, IsKeptByJournal, shown_by}
+use Rattle.mv_core.specs.Calls.{IsKeptByJournal, shown_by}
 use Rattle.mv_core.specs.Commits.{IsCommitRefusal, IsCommitted, IsCommittedSlot, IsOwn, IsRefusedFor, MayCommit, store_error}
 use Rattle.mv_core.specs.Stores.{CallSlots, IsKeptStore, store_shown}
 use Rattle.mv_core.specs.SeenStores.{Store}
 use Rattle.mv_core.proofs.Attempts.{attempt_here}
 use Rattle.mv_core.proofs.Calls.{live_in_journal, store_placed}
-use Rattle.mv_core.proofs.Commits.{fresh, from, in_time_here, kept_committed, late_shown, none_foreign, positive, unmoved, versions_new}
-use Rattle.mv_core.proofs.MarksBelow.{below_commit}
+use Rattle.mv_core.proofs.Commits.{in_time_here, kept_committed, late_shown, none_foreign, unmoved}
+use Rattle.mv_core.proofs.AllShards.{at_indexes}
 
 -- what was taken from a slot is there again
 pub put_back : {A : Type 0} (xs : List (Option A)) (i : ℕ) (o left d : Option A) (a b : A) → o ≡ d → d ≡ get_or xs i d → o ≡ Some a → b ≡ a → slice_set (slice_set xs i left) i (Some b) ≡ xs
@@ -47,7 +47,7 @@ pub record CommitsStore (s : Store) (new : Journal) (new_shard_slots : ShardSlot
   pub kept : IsKeptByJournal new new_shard_slots new_slots
   pub committed : IsCommitted s (shown_by new new_shard_slots new_slots) n t f
 
-module _ (j : Journal) (shard_slots : ShardSlots) (slots : CallSlots) (n t index : ℕ) (p : IsAttemptAt slots n t index) (k : IsKeptByJournal j shard_slots slots) (indexed : IsIndexedStore j) (f : CallRecord) (fin : IsFinishedCall f) where
+module _ (j : Journal) (shard_slots : ShardSlots) (slots : CallSlots) (n t index : ℕ) (p : IsAttemptAt slots n t index) (k : IsKeptByJournal j shard_slots slots) (consistent : IsConsistentJournal j) (f : CallRecord) (fin : IsFinishedCall f) where
   abbrev a : CallAttempt
   a = p.attempt
 
@@ -72,7 +72,7 @@ module _ (j : Journal) (shard_slots : ShardSlots) (slots : CallSlots) (n t index
   may_shown : parts.MayCommit j shard_slots a f → MayCommit s n a.timestamp f
   may_shown may = record {
     own = own_shown may.own;
-    in_time = in_time_here j.base j.header j.calls j.world shard_slots slots k.kept n a p.above p.within own_slot j.index indexed.marks k.marks f.writes may.write.in_time;
+    in_time = in_time_here j.base j.header j.calls j.world shard_slots slots k.kept n a p.above p.within own_slot k.agree f.writes may.write.in_time;
   }
 
   -- ---- refusals
@@ -85,7 +85,7 @@ module _ (j : Journal) (shard_slots : ShardSlots) (slots : CallSlots) (n t index
     where
       never : None ≡ Some x → ⊥
       never e = cc
-  known_by (failure.Fault (parts_fault.Foreign i)) (live, own, rest) = absurd (never (sym (none_foreign j.base j.header j.calls j.world shard_slots slots k.kept n a p.above p.within own_slot f.writes i) ∙ rest.1.foreign))
+  known_by (failure.Fault (parts_fault.Foreign i)) (live, own, rest) = absurd (never (sym (none_foreign j.base j.header j.calls j.world shard_slots slots k.kept n a p.above p.within own_slot k.agree f.writes i) ∙ rest.1.foreign))
     where
       never : false ≡ true → ⊥
       never e = cc
@@ -104,7 +104,7 @@ module _ (j : Journal) (shard_slots : ShardSlots) (slots : CallSlots) (n t index
   refused_by (failure.Fault (parts_fault.Late x version mark)) (live, own, rest) r is =
       subst (IsCommitRefusal s n t f) (same_Some _ _ (sym is))
       (subst (λ u. IsCommitRefusal s n u f (failure.Fault (fault.Late x version mark))) p.time
-      (own_shown own, late_shown j.base j.header j.calls j.world shard_slots slots k.kept n a p.above p.within own_slot j.index indexed.marks k.marks f.writes x version mark rest.2))
+      (own_shown own, late_shown j.base j.header j.calls j.world shard_slots slots k.kept n a p.above p.within own_slot k.agree f.writes x version mark rest.2))
 
   pub store_refused : (error : Failure PartsFault) → IsRefusedFor j shard_slots (get_or slots index None) f error → (r : Failure CommitFault) → Some r ≡ store_error error → IsCommitRefusal s n t f r
   store_refused error refused r is = refused_by error (subst (λ o. IsRefusedFor j shard_slots o f error) p.found refused) r is
@@ -117,7 +117,7 @@ module _ (j : Journal) (shard_slots : ShardSlots) (slots : CallSlots) (n t index
       subst (λ v. CommitsStore s new new_shard_slots new_slots n v f) p.time
       (subst (λ ss. CommitsStore s new new_shard_slots ss n a.timestamp f) (sym (r.others ∙ ap (λ i. set slots i None) p.is))
       (subst (λ i. CommitsStore s i new_shard_slots (set slots (n - 1) None) n a.timestamp f) journal_is
-      (record { may = may_shown may; kept = record { kept = h.0; marks = marks }; committed = h.1 })))
+      (record { may = may_shown may; kept = record { kept = h.0; agree = agree }; committed = h.1 })))
     where
       same : r.attempt ≡ a
       same = same_Some _ _ (sym r.found ∙ p.found)
@@ -131,25 +131,25 @@ module _ (j : Journal) (shard_slots : ShardSlots) (slots : CallSlots) (n t index
       same_entry : entry_of a.timestamp a.number f ≡ entry_of a.timestamp n f
       same_entry = ap (λ m. entry_of a.timestamp m f) is_here.1
 
-      journal_is : record { base = j.base; header = j.header; calls = j.calls; world = after_commit j.world (entry_of a.timestamp n f); index = new.index } ≡ new
+      journal_is : record { base = j.base; header = j.header; calls = j.calls; world = after_commit j.world (entry_of a.timestamp n f) } ≡ new
       journal_is = λ i. record {
         base = sym done.base i;
         header = sym done.header i;
         calls = sym done.calls i;
         world = sym (done.world ∙ ap (after_commit j.world) same_entry) i;
-        index = new.index;
       }
 
       h : IsKeptStore j.base j.header j.calls (after_commit j.world (entry_of a.timestamp n f)) new_shard_slots (set slots (n - 1) None)
           × IsCommitted s (store_shown j.base j.header j.calls (after_commit j.world (entry_of a.timestamp n f)) new_shard_slots (set slots (n - 1) None)) n a.timestamp f
       h = kept_committed j.base j.header j.calls j.world shard_slots slots k.kept n a p.above p.within own_slot f fin may.own (may_shown may).in_time new_shard_slots done.shards
 
-      index_is : (x : Item) → versions_indexed new x ≡ after_entry (λ value. value) same_item (entry_of a.timestamp n f) (versions_indexed j) x
-      index_is x = done.index x ∙ ap (λ (g : CallEntry). after_entry (λ value. value) same_item g (versions_indexed j) x) same_entry
-
-      marks : AreMarksBelow j.base j.world.low (entries_with (entry_of a.timestamp n f) j.world.entries) (versions_indexed new) (versions_for new_shard_slots)
-      marks =
-          below_commit j.base j.world.entries k.kept.store.consistent.journal.rising (entry_of a.timestamp n f) (positive j.base j.header j.calls j.world shard_slots slots k.kept n a p.above p.within own_slot)
-          (fresh j.base j.header j.calls j.world shard_slots slots k.kept n a p.above p.within own_slot) j.world.low (versions_indexed j) (versions_for shard_slots) (versions_indexed new) (versions_for new_shard_slots)
-          (from j.base j.header j.calls j.world shard_slots slots k.kept n a p.above p.within own_slot) indexed.store.holds k.kept.store.holds index_is
-          (versions_new j.base j.header j.calls j.world shard_slots slots k.kept n a p.above p.within own_slot f fin may.own (may_shown may).in_time new_shard_slots done.shards) k.marks
+      -- the shards agree with the new journal
+      agree : AllAgree (record { base = j.base; header = j.header; calls = j.calls; world = after_commit j.world (entry_of a.timestamp n f) }) new_shard_slots
+      agree i s is = subst (λ c. ShardAgrees c s) (sym journal_is) (by (get_or shard_slots i None) refl (subst (IsWrittenSlot i a.timestamp a.reads f.writes (get_or shard_slots i None)) is (done.shards i)))
+        where
+          by : (o : Option Shard) → get_or shard_slots i None ≡ o → IsWrittenSlot i a.timestamp a.reads f.writes o (Some s) → ShardAgrees new s
+          by None here h = absurd h
+          by (Some old) here h =
+              let index : old.index ≡ i = at_indexes j.base j.world.low shard_slots k.kept.shards i old here in
+              (every_commit_keeps_agreement j new shard_slots new_shard_slots a f consistent may done).held old s
+              (subst (λ m. get_or shard_slots m None ≡ Some old) (sym index) here) (subst (λ m. get_or new_shard_slots m None ≡ Some s) (sym index) is) (k.agree i old here)

@@ -1,5 +1,5 @@
 -- What a commit makes of a store, and why the journal refuses one, where all shards agree with it.
-use Rattle.std.proofs.Common.{◌≡◌, ◌≢◌, ℕ, suc, ◌-◌, ◌<◌, ◌≤◌, ◌==◌, ◌&&◌, ◌||◌, max, Bool, true, false, nat_lt, if◌then◌else◌, List, [], ◌∷◌, length, Option, None, Some, get_or, set, refl, sym, ap, ◌∙◌, subst, arith}
+use Rattle.std.proofs.Common.{◌≡◌, ◌≢◌, ℕ, suc, ◌-◌, ◌<◌, ◌≤◌, ◌==◌, max, Bool, true, false, nat_lt, if◌then◌else◌, List, [], ◌∷◌, length, Option, None, Some, get_or, set, refl, sym, ap, ◌∙◌, subst, arith}
 use Rattle.std.specs.Prelude.{option_map, IsSome}
 use Rattle.std.specs.Map.{lookup}
 use Rattle.std.specs.List.{AllByRecursion}
@@ -16,8 +16,6 @@ use Rattle.avm_call.specs.declared.outcome.Outcome.{Outcome}
 use Rattle.avm_run.specs.Results.{CallRecord, IsFinishedCall}
 use Rattle.avm_laws.specs.LedgerLooks.{IsOfLedger}
 use Rattle.avm_laws.proofs.Pruned.{value_itself}
-use Rattle.mv_chain.specs.declared.chain.Late.{Late as LateVersion}
-use Rattle.mv_chain.specs.declared.chain.Version.{Version}
 use Rattle.mv_chain.specs.Versions.{mark_in, newest_at}
 use Rattle.mv_history.specs.Facts.{IsCheckedCommit}
 use Rattle.mv_history.specs.History as history
@@ -26,31 +24,29 @@ use Rattle.mv_history.specs.Schedule.{AreMarked}
 use Rattle.mv_history.specs.World.{after_commit, attempt_at, attempts_without, greatest_mark}
 use Rattle.mv_history.proofs.Attempts.{all_without, found_attempt}
 use Rattle.mv_history.proofs.Lists.{Compared, less, not_less, compared, Equals, equal, unequal, equals}
-use Rattle.mv_history.proofs.SameWorlds.{version_below-monotone}
 use Rattle.mv_history.proofs.Versions.{all_with, next_below}
 use Rattle.mv_chain.specs.Stores.{IsStore, after_entry, marks_of}
-use Rattle.mv_chain.proofs.Agreements.{every_write_follows_the_version_below_lem, no_version_is_at_a_fresh_timestamp_lem}
+use Rattle.mv_chain.proofs.Agreements.{every_write_follows_the_version_below_lem}
 use Rattle.mv_chain.proofs.Stores.{every_commit_leaves_a_store_lem}
 use Rattle.mv_parts.specs.CallHistory.{CallAttempt, CallEntry, CallWorld, meaning_of, same_item}
 use Rattle.mv_parts.specs.CallNumbers.{call_of}
 use Rattle.mv_parts.specs.CallLaws.{entry_of}
 use Rattle.mv_parts.proofs.Histories.{finished_calls_are_entries}
 use Rattle.mv_parts.proofs.SerialCalls.{items_have_an_equality}
-use Rattle.mv_shards.specs.Indexes.{shard_of}
 use Rattle.mv_shards.specs.Helds.{ShardSlots}
-use Rattle.mv_shards.specs.Shards.{Shard, versions_held}
-use Rattle.mv_shards.specs.Writing.{AreWritten, IsLowAt, NoneForeign, committed_versions, has_timestamp, has_write_at, is_foreign, versions_for, versions_or_none}
-use Rattle.mv_parts.specs.Commits.{IsOwnCall, late_after, late_or, lateness_by, lateness_in, lateness_of, later, moved_item, no_version}
+use Rattle.mv_shards.specs.Writing.{AreWritten, NoneForeign, committed_versions, versions_for}
+use Rattle.mv_parts.specs.Commits.{IsOwnCall, late_after, late_or, lateness_in, lateness_of, moved_item, no_version}
 use Rattle.mv_parts.specs.Commits as parts
-use Rattle.mv_parts.specs.Journals.{AreMarkedByEntries, greatest_reader}
 use Rattle.mv_parts.proofs.Readers.{commit_mark, mark_after}
-use Rattle.mv_parts.proofs.Commits.{held_all, low_over, over_written, versions_written}
+use Rattle.mv_parts.specs.Agreeing.{AllAgree}
+use Rattle.mv_parts.specs.CommitTests.{IsOpenAt}
+use Rattle.mv_parts.proofs.CommitTests as tests
+use Rattle.mv_core.proofs.AllShards.{at_indexes, held_all, over_written, versions_written}
 use Rattle.mv_parts.specs.declared.commit_fault.CommitFault.{CommitFault as PartsFault}
 use Rattle.mv_parts.specs.declared.commit_fault.CommitFault.TheVariants as parts_fault
 use Rattle.mv_core.specs.declared.faults.CommitFault.{CommitFault}
 use Rattle.mv_core.specs.declared.faults.CommitFault.TheVariants as fault
 use Rattle.mv_core.specs.AttemptSlots.{HasLiveNumber, live_in}
-use Rattle.mv_core.specs.Calls.{AreMarksBelow}
 use Rattle.mv_core.specs.Commits.{IsCommitted, late_write}
 use Rattle.mv_core.specs.Stores.{CallSlots, IsKeptStore, marks_in, store_shown}
 use Rattle.mv_core.proofs.Attempts.{attempt_here, live_ended, slots_ended}
@@ -62,30 +58,6 @@ use Rattle.mv_core.proofs.Held.{marks_of_slots}
 agrees_unmoved : (look : Look) (reads : ItemMap) → Agrees reads look → moved_item look reads ≡ None
 agrees_unmoved look [] h = refl
 agrees_unmoved look (e ∷ es) h = ap (λ b. if b then moved_item look es else Some e.0) (ap (λ v. is_same_value v e.1) h.0 ∙ value_itself e.1) ∙ agrees_unmoved look es h.1
-
-none_at : (t : ℕ) (vs : List (Version ItemValue)) → AllByRecursion (λ v. v.timestamp ≢ t) vs → has_timestamp t vs ≡ false
-none_at t [] h = refl
-none_at t (v ∷ vs) h = by (v.timestamp == t) (equals v.timestamp t) (none_at t vs h.1)
-  where
-    by : (b : Bool) → Equals v.timestamp t b → has_timestamp t vs ≡ false → (b || has_timestamp t vs) ≡ false
-    by b (equal e) rest = absurd (h.0 e)
-    by b (unequal e) rest = rest
-
--- of two marks of one version the greater decides
-later_of : (t v m n : ℕ) → m ≤ n → later (late_after t v m) (late_after t v n) ≡ late_after t v n
-later_of t v m n h = by (nat_lt t m) (nat_lt t n) (compared t m) (compared t n)
-  where
-    both : (c : Bool) → Compared m n c → t < m
-        → ◌≡◌ {A = Option LateVersion} (if c then Some (record { version = v; mark = n }) else Some (record { version = v; mark = m })) (Some (record { version = v; mark = n }))
-    both c (less k) p = refl
-    both c (not_less k) p = ap (λ i. Some (record { version = v; mark = i })) (let same : m ≡ n = omega (arith, h, k) in same)
-
-    by : (a b : Bool) → Compared t m a → Compared t n b
-        → later (if a then Some (record { version = v; mark = m }) else None) (if b then Some (record { version = v; mark = n }) else None) ≡ (if b then Some (record { version = v; mark = n }) else None)
-    by a b (less p) (less q) = both (nat_lt m n) (compared m n) p
-    by a b (less p) (not_less q) = absurd (omega (arith, p, q, h))
-    by a b (not_less p) (less q) = refl
-    by a b (not_less p) (not_less q) = refl
 
 -- a mark that is there already is not raised
 no_more : (f t n m : ℕ) (same : Bool) → Equals f n same → (f ≡ n → t ≤ m) → (if same then max m t else m) ≡ m
@@ -117,36 +89,11 @@ module _ (base : Ledger) (header : Header) (calls : List CallData) (w : CallWorl
   marked : AreMarked same_item (at base) (marks_of (versions_for shard_slots)) w.entries a.timestamp a.reads
   marked = found_attempt (λ (b : CallAttempt). AreMarked same_item (at base) (marks_of (versions_for shard_slots)) w.entries b.timestamp b.reads) a.timestamp a (live_in slots w.live) is_here.2 k.store.consistent.schedule.live_marked
 
-  absent : (x : Item) → AllByRecursion (λ v. v.timestamp ≢ a.timestamp) (versions_for shard_slots x)
-  absent x = no_version_is_at_a_fresh_timestamp_lem Item ItemValue Outcome ItemValue (λ value. value) same_item (at base) w.low w.entries x (versions_for shard_slots x) (k.store.holds x) k.store.consistent.journal.rising a.timestamp positive fresh
-
-  -- ---- no read has moved, and no shard is foreign
+  -- ---- no read has moved
 
   -- what the attempt has read is still what the entries below it leave
   pub unmoved : moved_item (state_below same_item (at base) w.entries a.timestamp) a.reads ≡ None
   unmoved = agrees_unmoved (state_below same_item (at base) w.entries a.timestamp) a.reads agrees
-
-  no_write_at : (i : ℕ) (s : Shard) → get_or shard_slots i None ≡ Some s → (writes : ItemMap) → has_write_at i a.timestamp writes s ≡ false
-  no_write_at i s there [] = refl
-  no_write_at i s there (e ∷ es) = by (shard_of e.0 == i) (equals (shard_of e.0) i) (no_write_at i s there es)
-    where
-      by : (b : Bool) → Equals (shard_of e.0) i b → has_write_at i a.timestamp es s ≡ false → ((b && has_timestamp a.timestamp (versions_held s e.0)) || has_write_at i a.timestamp es s) ≡ false
-      by b (equal h) rest =
-          let own : AllByRecursion (λ v. v.timestamp ≢ a.timestamp) (versions_held s e.0) = subst (λ o. AllByRecursion (λ v. v.timestamp ≢ a.timestamp) (versions_or_none o e.0)) (ap (λ j. get_or shard_slots j None) h ∙ there) (absent e.0) in
-          ap (λ c. c || has_write_at i a.timestamp es s) (none_at a.timestamp (versions_held s e.0) own) ∙ rest
-      by b (unequal h) rest = rest
-
-  -- no shard keeps the attempt from writing, by its low mark or by a version at the timestamp
-  pub none_foreign : (writes : ItemMap) → NoneForeign a.timestamp writes shard_slots
-  none_foreign writes i = by (get_or shard_slots i None) refl (low_over base w.low a.timestamp shard_slots k.shards from i)
-    where
-      low_first : (s : Shard) → s.low ≤ a.timestamp → (b : Bool) → Compared a.timestamp s.low b → has_write_at i a.timestamp writes s ≡ false → (b || has_write_at i a.timestamp writes s) ≡ false
-      low_first s low b (less h) none = absurd (omega (arith, low, h))
-      low_first s low b (not_less h) none = none
-
-      by : (o : Option Shard) → get_or shard_slots i None ≡ o → IsLowAt a.timestamp o → is_foreign i a.timestamp writes o ≡ false
-      by None there low = refl
-      by (Some s) there low = low_first s low (nat_lt a.timestamp s.low) (compared a.timestamp s.low) (no_write_at i s there writes)
 
   -- ---- writes that are late
 
@@ -159,14 +106,21 @@ module _ (base : Ledger) (header : Header) (calls : List CallData) (w : CallWorl
       let mark : (newest_at a.timestamp (versions_for shard_slots x) no_version).mark ≡ mark_in (followed x) (versions_for shard_slots x) = every_write_follows_the_version_below_lem Item ItemValue Outcome ItemValue (λ value. value) same_item (at base) w.low w.entries x (versions_for shard_slots x) (k.store.holds x) a.timestamp no_version from in
       λ i. late_after a.timestamp (time i) (mark i)
 
-  module _ (index : ShardSlots) (read : AreMarkedByEntries base w.entries (versions_for index)) (below : AreMarksBelow base w.low w.entries (versions_for index) (versions_for shard_slots)) where
+  module _ (agree : AllAgree (record { base = base; header = header; calls = calls; world = w }) shard_slots) where
+    open_here : IsOpenAt (record { base = base; header = header; calls = calls; world = w }) a.timestamp
+    open_here = record { positive = positive; unused = fresh; above = from }
+
+    -- no shard keeps the attempt from writing, by its low mark or by a version at the timestamp
+    pub none_foreign : (writes : ItemMap) → NoneForeign a.timestamp writes shard_slots
+    none_foreign writes =
+        tests.none_foreign (record { base = base; header = header; calls = calls; world = w }) shard_slots agree (at_indexes base w.low shard_slots k.shards) a.timestamp open_here
+        k.store.consistent.journal.rising writes
+
     -- the mark that decides is the world's
     late_here : (x : Item) → lateness_of base w.entries shard_slots a.timestamp x ≡ late_after a.timestamp (followed x) (greatest_mark same_item (marks_in shard_slots) x (followed x))
     late_here x =
-        let reached : (version_below same_item (at base) w.entries (suc w.low) x).0 ≤ followed x = version_below-monotone same_item (at base) (suc w.low) (suc a.timestamp) w.entries x (omega (arith, from)) k.store.consistent.journal.rising in
-        ap (later (lateness_by base w.entries a.timestamp x)) (found_late x)
-        ∙ later_of a.timestamp (followed x) (greatest_reader base w.entries x (followed x)) (mark_in (followed x) (versions_for shard_slots x)) (subst (λ m. m ≤ mark_in (followed x) (versions_for shard_slots x)) (read x (followed x)) (below x (followed x) reached))
-        ∙ ap (late_after a.timestamp (followed x)) (sym (marks_are base header calls w shard_slots slots k x (followed x)))
+        sym (tests.late_item (record { base = base; header = header; calls = calls; world = w }) shard_slots agree (at_indexes base w.low shard_slots k.shards) a.timestamp open_here x (held_all base w.low shard_slots k.shards x))
+        ∙ found_late x ∙ ap (late_after a.timestamp (followed x)) (sym (marks_are base header calls w shard_slots slots k x (followed x)))
 
     late_same : (writes : ItemMap) → parts.late_write (lateness_of base w.entries shard_slots a.timestamp) writes ≡ option_map as_parts (late_write (store_shown base header calls w shard_slots slots) a.timestamp writes)
     late_same [] = refl

@@ -34,7 +34,7 @@ use Rattle.mv_shards.specs.Shards.{Shard, versions_held}
 use Rattle.mv_shards.specs.Shards as shard
 use Rattle.mv_shards.specs.Helds.{ArePruned, ShardSlots, shard_for}
 use Rattle.mv_shards.specs.Writing.{versions_for, versions_or_none}
-use Rattle.mv_parts.specs.Journals.{IsShardOver}
+use Rattle.mv_core.specs.AllShards.{IsShardOver}
 use Rattle.mv_parts.proofs.Opens.{index_within}
 use Rattle.mv_core.specs.Running.{index_among}
 use Rattle.mv_core.proofs.Workers.{with_item-new}
@@ -329,14 +329,6 @@ module _ (base : Ledger) (header : Header) (calls : List CallData) (w : CallWorl
         },
         pruned_world (λ x n counts. marks_are x n ∙ sym (raised_store.1 x n counts) ∙ sym (new_marks x n)) (record { kept_or_dropped = kept_or_dropped; needed = needed }) raised_versions,
       )
-
-    -- the marks of the versions that are left
-    pub marks_left : ArePruned (low_after_prune w t) shard_slots new → (x : Item) (n : ℕ) → (version_below same_item (at base) w.entries (suc (low_after_prune w t)) x).0 ≤ n → mark_in n (versions_for new x) ≡ mark_in n (versions_for shard_slots x)
-    marks_left pruned x n counts = (raised_store pruned).1 x n counts
-
-    -- the low mark after the prune finds no older version than the one before
-    pub still_above : (x : Item) → (version_below same_item (at base) w.entries (suc w.low) x).0 ≤ (version_below same_item (at base) w.entries (suc (low_after_prune w t)) x).0
-    still_above x = version_below-monotone same_item (at base) (suc w.low) (suc (low_after_prune w t)) w.entries x (omega (arith, low_below)) k.store.consistent.journal.rising
 
     -- after the prune of the shards the store keeps its facts, and shows the prune
     pub kept_pruned : ArePruned (low_after_prune w t) shard_slots new

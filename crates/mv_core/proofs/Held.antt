@@ -20,7 +20,7 @@ use Rattle.mv_shards.specs.Shards.{Shard, versions_held}
 use Rattle.mv_shards.specs.Helds.{IsPrunedSlot, ShardSlots, shard_for}
 use Rattle.mv_shards.specs.Writing.{versions_for, versions_or_none}
 use Rattle.mv_shards.proofs.Steps.{set_here}
-use Rattle.mv_parts.specs.Journals.{AreAllOver, IsShardOver}
+use Rattle.mv_core.specs.AllShards.{AreAllOver, IsShardOver}
 use Rattle.mv_parts.proofs.Agreeing.{read_in}
 use Rattle.mv_core.specs.Stores.{items_in, items_or_none, marks_in}
 use Rattle.mv_core.proofs.MarkLists.{among_both, is_among, marks_listed}

@@ -1,8 +1,8 @@
+pub mod AllShards
 pub mod Attempts
 pub mod MarkLists
 pub mod Held
 pub mod Events
-pub mod MarksBelow
 pub mod Tickets
 pub mod Calls
 pub mod Openings

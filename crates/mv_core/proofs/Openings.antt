@@ -14,8 +14,12 @@ use Rattle.mv_chain.specs.Stores.{marks_of}
 use Rattle.mv_chain.proofs.Agreements.{every_first_version_agrees_lem}
 use Rattle.mv_parts.specs.CallHistory.{CallAttempt, same_item}
 use Rattle.mv_shards.specs.Writing.{versions_for}
+use Rattle.mv_shards.specs.Helds.{ShardSlots}
+use Rattle.mv_parts.specs.Journals.{Journal, first_journal}
 use Rattle.mv_parts.specs.Opening.{first_slots}
-use Rattle.mv_parts.proofs.Opens.{first_over, no_marks, versions_first}
+use Rattle.mv_parts.proofs.Agreeing.{every_first_shard_agrees}
+use Rattle.mv_core.specs.Calls.{IsKeptByJournal}
+use Rattle.mv_core.proofs.AllShards.{first_over, no_marks, versions_first}
 use Rattle.mv_core.specs.AttemptSlots.{AreEmpty, IsSlotOf}
 use Rattle.mv_core.specs.Stores.{CallSlots, IsKeptStore}
 
@@ -45,3 +49,9 @@ kept_first base header calls slots orderly empty = record {
   count = empty.are;
   attempts = λ i within. subst (IsSlotOf [] (i + 1)) (sym (empty.each i)) refl;
 }
+
+-- so does one whose journal has just been opened, with its shards
+pub kept_opened : (base : Ledger) (header : Header) (calls : List CallData) (j : Journal) (shard_slots : ShardSlots) (slots : CallSlots) → j ≡ first_journal base header calls → shard_slots ≡ first_slots base → IsOrderly base
+    → AreEmpty (length calls) slots → IsKeptByJournal j shard_slots slots
+kept_opened base header calls j shard_slots slots first all orderly empty =
+    rw (first, all) (record { kept = kept_first base header calls slots orderly empty; agree = every_first_shard_agrees base header calls })

@@ -1,3 +1,4 @@
+pub mod AllShards
 pub mod AttemptSlots
 pub mod Running
 pub mod RunningLaws

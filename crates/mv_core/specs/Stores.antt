@@ -19,7 +19,8 @@ use Rattle.mv_parts.specs.SerialCalls.{AreOfCalls}
 use Rattle.mv_shards.specs.Shards.{Shard}
 use Rattle.mv_shards.specs.Helds.{IsHeldPruned, IsHeldRead, ShardSlots}
 use Rattle.mv_shards.specs.Writing.{versions_for}
-use Rattle.mv_parts.specs.Journals.{AreAllOver, AreLiveCalls}
+use Rattle.mv_parts.specs.Journals.{AreLiveCalls}
+use Rattle.mv_core.specs.AllShards.{AreAllOver}
 use Rattle.mv_core.specs.Running.{index_among}
 use Rattle.mv_core.specs.Marks.{marks_among}
 use Rattle.mv_core.specs.AttemptSlots.{AreSlotsOf, AttemptSlots, live_in}

@@ -1,6 +1,7 @@
 //! Commits of the attempt in a slot.
 
 ghost use Rattle.std.specs.Prelude.{◌≡◌, None, Some, IfErr, IfOk, IsSome, OnErr, get_or};
+ghost use Rattle.mv_parts.specs.Agreeing.{AllAgree};
 ghost use Rattle.mv_core.specs.Commits.{AreAllHeld, IsCommittedSlot, IsRefusedFor, store_error};
 
 use crate::faults::{CommitError, CommitFault};
@@ -25,6 +26,7 @@ pub(crate) fn commit_at(
     finished: Finished,
 ) -> Result<u64, RefusedAttempt>
     requires held { AreAllHeld held.old }
+    requires agree { AllAgree journal.old held.old }
     requires there { IsSome (get_or attempts.old.items index None) }
     ensures ok { IfOk result (λ timestamp. IsCommittedSlot journal.old journal.new
         held.old held.new attempts.old.items attempts.new.items index finished timestamp) }
@@ -35,7 +37,7 @@ pub(crate) fn commit_at(
         × (held.new ≡ held.old) × (attempts.new.items ≡ attempts.old.items)) }
 {
     match attempts[index].take() {
-        Some(attempt) => match journal.commit(held, attempt, finished) {
+        Some(attempt) => match journal.commit_agreeing(held, attempt, finished) {
             Ok(timestamp) => Ok(timestamp),
             Err(refused) => {
                 attempts[index] = Some(refused.attempt);

@@ -1,5 +1,5 @@
--- The greatest readers of versions among the entries, and the marks of the journal's own versions, which are these.
-use Rattle.std.proofs.Common.{◌≡◌, ◌≢◌, ℕ, ◌<◌, ◌≤◌, ◌==◌, ◌&&◌, max, Bool, true, false, nat_lt, if◌then◌else◌, List, [], ◌∷◌, Option, None, Some, refl, sym, ap, ◌∙◌, arith}
+-- The greatest readers of versions among the entries, which are the marks that a journal rests on.
+use Rattle.std.proofs.Common.{◌≡◌, ◌≢◌, ℕ, ◌<◌, ◌≤◌, ◌==◌, ◌&&◌, max, Bool, true, false, nat_lt, if◌then◌else◌, List, [], ◌∷◌, Option, None, Some, refl, sym, ap, ◌∙◌, subst, arith}
 use Rattle.std.specs.Prelude.{IsSome, is_some}
 use Rattle.std.specs.Map.{lookup}
 use Rattle.std.specs.List.{AllByRecursion}
@@ -17,7 +17,8 @@ use Rattle.mv_history.specs.Schedule.{AreMarked}
 use Rattle.mv_history.specs.World.{IsInTime}
 use Rattle.mv_history.proofs.Events.{spared_by_marks}
 use Rattle.mv_history.proofs.Journals.{versions_spared}
-use Rattle.mv_history.proofs.Lists.{all_found, all_map}
+use Rattle.mv_history.specs.Facts.{MarksReads}
+use Rattle.mv_history.proofs.Lists.{Equals, equal, unequal, equals, all_found, all_map}
 use Rattle.mv_history.proofs.Newest.{every_commit_is_found_lem}
 use Rattle.mv_history.proofs.Versions.{next_below}
 use Rattle.mv_chain.specs.Agreement.{HoldsVersions}
@@ -27,7 +28,7 @@ use Rattle.mv_chain.proofs.Stores.{reads_found}
 use Rattle.mv_parts.specs.CallHistory.{CallEntry, same_item}
 use Rattle.mv_parts.proofs.SerialCalls.{items_have_an_equality}
 use Rattle.mv_parts.specs.Commits.{version_followed}
-use Rattle.mv_parts.specs.Journals.{AreMarkedByEntries, greatest_among, greatest_reader, has_read, version_read}
+use Rattle.mv_parts.specs.Journals.{greatest_among, greatest_reader, has_read, version_read}
 
 -- ---- the greatest timestamp of those that a test takes
 
@@ -66,6 +67,15 @@ greatest_reached (f ∷ fs) = (
     more : (b : Bool) (t rest : ℕ) → t ≤ rest → t ≤ (if b then max f.timestamp rest else rest)
     more true t rest h = omega (arith, h)
     more false t rest h = h
+
+-- it is not above a bound that none is above
+pub greatest_at_most : (takes : CallEntry → Bool) (es : List CallEntry) (m : ℕ) → AllByRecursion (λ g. takes g ≡ true → g.timestamp ≤ m) es → greatest_among takes es ≤ m
+greatest_at_most takes [] m below = omega arith
+greatest_at_most takes (g ∷ gs) m below = by (takes g) refl (greatest_at_most takes gs m below.1)
+  where
+    by : (b : Bool) → takes g ≡ b → greatest_among takes gs ≤ m → (if b then max g.timestamp (greatest_among takes gs) else greatest_among takes gs) ≤ m
+    by true taken rest = omega (arith, rest, below.0 taken)
+    by false other rest = rest
 
 -- ---- what the entries read, as marks
 
@@ -128,6 +138,42 @@ module _ (base : Ledger) (es : List CallEntry) (rising : IsRising 0 es) (e : Cal
         by None = refl
         by (Some value) = one (version_followed base es e.timestamp x == n) e.timestamp (greatest_reader base es x n)
 
+    -- a commit raises the marks of what it read to its timestamp, and no others
+    mark_more : (o : Option ItemValue) (found t n m : ℕ) → m ≤ mark_after o found t n m
+    mark_more None found t n m = omega arith
+    mark_more (Some value) found t n m = by (found == n)
+      where
+        by : (b : Bool) → m ≤ (if b then max m t else m)
+        by true = omega arith
+        by false = omega arith
+
+    mark_not_more : (o : Option ItemValue) (found t n m : ℕ) → mark_after o found t n m ≤ max t m
+    mark_not_more None found t n m = omega arith
+    mark_not_more (Some value) found t n m = by (found == n)
+      where
+        by : (b : Bool) → (if b then max m t else m) ≤ max t m
+        by true = omega arith
+        by false = omega arith
+
+    mark_own : (o : Option ItemValue) (found t n m : ℕ) → IsSome o → found ≡ n → t ≤ mark_after o found t n m
+    mark_own None found t n m some same = absurd cc
+    mark_own (Some value) found t n m some same = by (found == n) (equals found n)
+      where
+        by : (b : Bool) → Equals found n b → t ≤ (if b then max m t else m)
+        by b (equal k) = omega arith
+        by b (unequal k) = absurd (k same)
+
+    pub reads_marked : IsInTime same_item (at base) (greatest_reader base es) es e → MarksReads same_item (at base) (greatest_reader base es) (greatest_reader base (entries_with e es)) es e
+    reads_marked in_time = record {
+      more = λ x n. subst (λ m. greatest_reader base es x n ≤ m) (sym (reader_after in_time x n)) (mark_more (lookup (same_item x) e.reads) (version_followed base es e.timestamp x) e.timestamp n (greatest_reader base es x n));
+      not_more = λ x n. subst (λ m. m ≤ max e.timestamp (greatest_reader base es x n)) (sym (reader_after in_time x n)) (mark_not_more (lookup (same_item x) e.reads) (version_followed base es e.timestamp x) e.timestamp n (greatest_reader base es x n));
+      marked = all_map (λ (r : Item × ItemValue). IsSome (lookup (same_item r.0) e.reads)) _ e.reads
+          (λ r found. let n : ℕ = (version_below same_item (at base) es e.timestamp r.0).0 in
+          subst (λ m. e.timestamp ≤ m) (sym (reader_after in_time r.0 n))
+          (mark_own (lookup (same_item r.0) e.reads) (version_followed base es e.timestamp r.0) e.timestamp n (greatest_reader base es r.0 n) found (ap (λ (v : ℕ × ItemValue). v.0) (next_below same_item e.timestamp es r.0 (0, at base r.0) fresh))))
+          (reads_found same_item items_have_an_equality.itself e.reads);
+    }
+
     -- ---- the marks of versions that hold the entries
 
     module _ (positive : 0 < e.timestamp) (from : ℕ) (all : Item → List (Version ItemValue)) (holds : HoldEntries (λ value. value) same_item (at base) from es all) (above : from ≤ e.timestamp) where
@@ -154,10 +200,3 @@ module _ (base : Ledger) (es : List CallEntry) (rising : IsRising 0 es) (e : Cal
       commit_mark x n =
           write_mark x n (lookup (same_item x) e.writes) (marked_where (lookup (same_item x) e.reads) e.timestamp (all x)) (still_absent x (lookup (same_item x) e.reads))
           ∙ read_mark x n (lookup (same_item x) e.reads)
-
-    -- marks that are the entries' reads are so after a commit in time
-    pub marks_committed : 0 < e.timestamp → (all new : Item → List (Version ItemValue)) → HoldEntries (λ value. value) same_item (at base) 0 es all → ((x : Item) → new x ≡ after_entry (λ value. value) same_item e all x)
-        → IsInTime same_item (at base) (greatest_reader base es) es e → AreMarkedByEntries base es all → AreMarkedByEntries base (entries_with e es) new
-    marks_committed positive all new holds is in_time marks x n =
-        ap (mark_in n) (is x) ∙ commit_mark positive 0 all holds (omega arith) x n
-        ∙ ap (mark_after (lookup (same_item x) e.reads) (version_followed base es e.timestamp x) e.timestamp n) (marks x n) ∙ sym (reader_after in_time x n)

@@ -1,12 +1,12 @@
 //! What is tested of an attempt before it commits.
 
-ghost use Rattle.std.specs.Prelude.{◌≡◌, ◌↔◌, ◌-◌, ◌<◌, IsTrue, Some};
+ghost use Rattle.std.specs.Prelude.{◌≡◌, ◌↔◌, ◌-◌, ◌<◌, IsTrue, None, Some};
 ghost use Rattle.std.specs.Option.{option_copied};
 ghost use Rattle.mv_chain.specs.Versions.{newest_at};
 ghost use Rattle.mv_parts.specs.CallNumbers.{call_of};
-ghost use Rattle.mv_shards.specs.Helds.{AreHeld, IsHeld};
+ghost use Rattle.mv_shards.specs.Helds.{AreHeld};
 ghost use Rattle.mv_shards.specs.Writing.{AreLow, versions_for};
-ghost use Rattle.mv_parts.specs.Commits.{IsOwnCall, late_write, lateness_in_both, later as later_of, moved_item, no_version};
+ghost use Rattle.mv_parts.specs.Commits.{IsOwnCall, late_or, late_write, lateness_in, moved_item, no_version};
 
 use crate::commit_fault::CommitFault;
 use avm_call::Call;
@@ -59,70 +59,42 @@ pub(crate) fn call_at(calls: &[Call], number: u32) -> Option<&Call>
     calls.get(number as usize - 1)
 }
 
-/// The least item that was read with another value than it has up to a timestamp.
-pub(crate) fn moved(versions: &Held, reads: &ItemMap, timestamp: u64) -> Option<Item>
-    requires held { AreHeld versions.now reads.now }
-    requires low { AreLow timestamp versions.now }
+/// The least item that was read with another value than it has up to a timestamp in the shards that are held.
+pub(crate) fn moved(held: &Held, reads: &ItemMap, timestamp: u64) -> Option<Item>
+    requires held { AreHeld held.now reads.now }
+    requires low { AreLow timestamp held.now }
     ensures { result ≡ moved_item (λ x.
-        (newest_at timestamp (versions_for versions.now x) no_version).value) reads.now }
+        (newest_at timestamp (versions_for held.now x) no_version).value) reads.now }
 {
     for (item, value) in reads.as_slice() {
-        if !versions.has_value(item, timestamp, value) {
+        if !held.has_value(item, timestamp, value) {
             return Some(item.copied());
         }
     }
     None
 }
 
-/// The least item whose write at a timestamp is late, by the journal's versions or in the shards that are held.
-pub(crate) fn late(
-    versions: &Held,
-    held: &Held,
-    writes: &ItemMap,
-    timestamp: u64,
-) -> Option<CommitFault>
-    requires indexed { AreHeld versions.now writes.now }
-    requires low { AreLow timestamp versions.now }
+/// The least item whose write at a timestamp is late in the shards that are held.
+pub(crate) fn late(held: &Held, writes: &ItemMap, timestamp: u64) -> Option<CommitFault>
     requires held { AreHeld held.now writes.now }
-    requires held_low { AreLow timestamp held.now }
-    ensures { result ≡ late_write (lateness_in_both versions.now held.now timestamp) writes.now }
+    requires low { AreLow timestamp held.now }
+    ensures { result ≡ late_write (lateness_in held.now timestamp) writes.now }
 {
     for (item, _value) in writes.as_slice() {
-        if let Some(late) = late_at(versions, held, item, timestamp) {
-            return Some(CommitFault::Late {
-                item: item.copied(),
-                version: late.version,
-                mark: late.mark,
-            });
+        if let Some(late) = held.late(item, timestamp) {
+            return Some(late_fault(item, late));
         }
     }
     None
 }
 
-/// Whether a write of an item is late.
-fn late_at(versions: &Held, held: &Held, item: &Item, timestamp: u64) -> Option<Late>
-    requires indexed { IsHeld versions.now item.now }
-    requires low { AreLow timestamp versions.now }
-    requires held { IsHeld held.now item.now }
-    requires held_low { AreLow timestamp held.now }
-    ensures { result ≡ lateness_in_both versions.now held.now timestamp item.now }
+/// A write of an item that is late.
+pub(crate) fn late_fault(item: &Item, late: Late) -> CommitFault
+    ensures { Some result ≡ late_or item.now (Some late) None }
 {
-    later(versions.late(item, timestamp), held.late(item, timestamp))
-}
-
-/// The one of the greater mark.
-fn later(late: Option<Late>, other: Option<Late>) -> Option<Late>
-    ensures { result ≡ later_of late other }
-{
-    match (late, other) {
-        (None, other) => other,
-        (Some(late), None) => Some(late),
-        (Some(late), Some(other)) => {
-            if late.mark < other.mark {
-                Some(other)
-            } else {
-                Some(late)
-            }
-        }
+    CommitFault::Late {
+        item: item.copied(),
+        version: late.version,
+        mark: late.mark,
     }
 }

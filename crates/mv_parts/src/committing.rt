@@ -11,31 +11,22 @@ use avm_run::Finished;
 use mv_shards::{Attempt, Held};
 use std::alloc::{AllocError, Global};
 
-/// Makes room for an entry, and writes to the journal's versions and to the shards that are held.
+/// Makes room for an entry, and writes to the shards that are held.
 pub(crate) fn write_all(
     entries: &mut Vec<Entry>,
-    index: &mut Held,
     held: &mut Held,
     attempt: &Attempt,
     finished: &Finished,
 ) -> Result<(), AllocError>
-    requires index { CanTake attempt.now.timestamp index.old attempt.now.reads finished.now.writes }
-    requires held { CanTake attempt.now.timestamp held.old attempt.now.reads finished.now.writes }
+    requires { CanTake attempt.now.timestamp held.old attempt.now.reads finished.now.writes }
     ensures entries { entries.new.items ≡ entries.old.items }
     ensures room { OnOk result (0 < vec_capacity entries.new - vec_len entries.new) }
     ensures written { OnOk result (AreWritten attempt.now.timestamp
-        attempt.now.reads finished.now.writes index.old index.new × AreWritten attempt.now.timestamp
         attempt.now.reads finished.now.writes held.old held.new) }
-    ensures unchanged { OnErr result ((index.new ≡ index.old) × (held.new ≡ held.old)) }
+    ensures unchanged { OnErr result (held.new ≡ held.old) }
 {
     entries.reserve(1)?;
-    index.write_both(
-        held,
-        attempt.reads(),
-        finished.writes(),
-        attempt.timestamp(),
-    )?;
-    Ok(())
+    held.write(attempt.reads(), finished.writes(), attempt.timestamp())
 }
 
 /// The entry of an attempt's own call. Entries stay to the end of the block, so its lists have no room for more.

@@ -8,9 +8,11 @@ ghost use Rattle.mv_history.specs.World.{after_abandon, after_begin, fresh_attem
 ghost use Rattle.mv_parts.specs.CallNumbers.{call_of};
 ghost use Rattle.mv_parts.specs.SerialCalls.{AreOfCalls, AreSerialCalls};
 ghost use Rattle.mv_shards.specs.Helds.{ArePruned};
-ghost use Rattle.teal_value.specs.declared.failure.Failure.TheVariants.{Memory};
-ghost use Rattle.mv_parts.specs.Commits.{AreCovered, IsCommitRefusal, IsCommitted, IsTestRefusal, IsWriteRefusal, MayCommit, MayWrite};
-ghost use Rattle.mv_parts.specs.Journals.{AreLiveCalls, IsBeginRefusal, IsIndexedStore, IsLive, begin_fault};
+ghost use Rattle.teal_value.specs.declared.failure.Failure.TheVariants.{Fault, Memory};
+ghost use Rattle.mv_parts.specs.Commits.{AreCovered, IsCommitRefusal, IsCommitted, IsForeign, IsOwnCall, IsTestRefusal, IsWriteRefusal, MayCommit, MayWrite};
+ghost use Rattle.mv_parts.specs.CommitTests.{IsOpenAt};
+ghost use Rattle.mv_parts.specs.Agreeing.{AllAgree};
+ghost use Rattle.mv_parts.specs.Journals.{AreLiveCalls, IsBeginRefusal, IsConsistentJournal, IsLive, begin_fault};
 ghost use Rattle.avm_block.specs.CallsFaults.{calls_fault};
 
 use crate::base::SharedBase;
@@ -20,6 +22,7 @@ use crate::commit_fault::{CommitFault, RefusedCommit};
 use crate::commit_tests::{is_own_call, late, moved};
 use crate::committing::{entry_of, index_of, insert_entry, write_all};
 use crate::entry::Entry;
+use crate::entry_tests::{late_by_entries, moved_by_entries};
 use crate::live::LiveCalls;
 use crate::serial_calls::every_consistent_world_of_calls_is_serial;
 use avm_call::Call;
@@ -43,8 +46,6 @@ pub struct Journal {
     pub(crate) entries: Vec<Entry>,
     pub(crate) states: Vec<CallState>,
     pub(crate) live: LiveCalls,
-    /// All versions, in shards of the journal's own that are never pruned.
-    pub(crate) index: Held,
 }
 
 /// Written out, so that whoever owns one drops it by one call and not part by part.
@@ -61,7 +62,6 @@ impl Drop for Journal {
             entries: _,
             states: _,
             live: _,
-            index: _,
         } = self;
     }
 }
@@ -72,9 +72,9 @@ impl Model for Journal {
 
     ghost Value = { Journal };
 
-    ghost view = { λ j. journal_of j.base j.header (arc_value j.calls).items j.clock j.low j.entries.items j.live j.index };
+    ghost view = { λ j. journal_of j.base j.header (arc_value j.calls).items j.clock j.low j.entries.items j.live };
 
-    ghost invariant = { λ j. IsKeptJournal j.base j.header (arc_value j.calls).items j.clock j.low j.entries.items j.states.items j.live j.index };
+    ghost invariant = { λ j. IsKeptJournal j.base j.header (arc_value j.calls).items j.clock j.low j.entries.items j.states.items j.live };
 }
 
 impl Journal {
@@ -150,7 +150,7 @@ impl Journal {
     }
 
     /// Raises the low mark to a timestamp, as far as the clock and the live attempts allow, and that of each shard that is
-    /// held to the journal's. What the journal itself keeps of versions stays. It takes no memory.
+    /// held to the journal's. It takes no memory.
     pub fn prune(&mut self, held: &mut Held, timestamp: u64)
         ensures event { self.new ≡ record self.old
             { world = record self.old.world { low = low_after_prune self.old.world timestamp } } }
@@ -185,6 +185,9 @@ impl Journal {
     /// A call that has ended joins the committed ones, at its attempt's timestamp, and is written to the shards that are held.
     /// Its reads are checked against the entries, and its writes against the marks of the entries' reads and of the shards'. It
     /// gives the timestamp. Where it is refused, nothing that is seen of either has changed, and what was given is handed back.
+    ///
+    /// The shards need not agree with the journal, so the entries are asked one by one, for each item: in time that grows with
+    /// their number, and for a write with its square. [`commit_agreeing`](Journal::commit_agreeing) asks the shards.
     pub fn commit(
         &mut self,
         held: &mut Held,
@@ -211,7 +214,55 @@ impl Journal {
         self.write(held, attempt, finished)
     }
 
-    /// Why an attempt does not commit, other than that memory ran out.
+    /// The same, where the shards that are held agree with the journal: they alone are asked. So none of them is foreign.
+    pub fn commit_agreeing(
+        &mut self,
+        held: &mut Held,
+        attempt: Attempt,
+        finished: Finished,
+    ) -> Result<u64, RefusedCommit>
+        requires covers { AreCovered held.old attempt.reads finished.writes }
+        requires agree { AllAgree self.old held.old }
+        ensures committed { IfOk result (λ timestamp. (timestamp ≡ attempt.timestamp)
+            × MayCommit self.old held.old attempt finished
+            × IsCommitted self.old self.new held.old held.new attempt finished) }
+        ensures refused { IfErr result
+            (λ refused. IsCommitRefusal self.old held.old attempt finished refused.error) }
+        ensures none_foreign { IfErr result (λ refused. IsForeign refused.error → ⊥) }
+        ensures back { IfErr result (λ refused. (refused.attempt ≡ attempt)
+            × (refused.finished ≡ finished)) }
+        ensures unchanged { OnErr result ((self.new ≡ self.old) × (held.new ≡ held.old)) }
+    {
+        if let Some(fault) = self.agreeing_fault(held, &attempt, &finished) {
+            return Err(RefusedCommit {
+                error: Failure::Fault(fault),
+                attempt,
+                finished,
+            });
+        }
+        self.write(held, attempt, finished)
+    }
+
+    /// Why an attempt does not commit whatever it read and its call wrote: it is not live, or the call is not its own.
+    fn own_fault(&self, attempt: &Attempt, finished: &Finished) -> Option<CommitFault>
+        ensures some { IfSome result
+            (λ fault. (held : _) → IsTestRefusal self.now held attempt.now finished.now fault) }
+        ensures not_foreign { IfSome result (λ fault. IsForeign (Fault fault) → ⊥) }
+        ensures live { IfNone result (IsLive self.now.world attempt.now) }
+        ensures own { IfNone result
+            (IsOwnCall self.now.calls self.now.header attempt.now finished.now) }
+    {
+        if !self.is_live(attempt) {
+            return Some(CommitFault::Unknown);
+        }
+        if is_own_call(&self.calls, &self.header, attempt, finished) {
+            None
+        } else {
+            Some(CommitFault::Stranger)
+        }
+    }
+
+    /// Why an attempt does not commit, other than that memory ran out, by the entries.
     fn commit_fault(
         &self,
         held: &Held,
@@ -222,22 +273,44 @@ impl Journal {
         ensures some { IfSome result (IsTestRefusal self.now held.now attempt.now finished.now) }
         ensures none { IfNone result (MayCommit self.now held.now attempt.now finished.now) }
     {
-        if !self.is_live(attempt) {
-            return Some(CommitFault::Unknown);
-        }
-        if is_own_call(&self.calls, &self.header, attempt, finished) {
-            self.write_fault(
+        self.holds();
+        match self.own_fault(attempt, finished) {
+            Some(fault) => Some(fault),
+            None => self.write_fault(
                 held,
                 attempt.reads(),
                 finished.writes(),
                 attempt.timestamp(),
-            )
-        } else {
-            Some(CommitFault::Stranger)
+            ),
         }
     }
 
-    /// Why a live attempt's own call does not commit.
+    /// Why an attempt does not commit, other than that memory ran out, by shards that agree with the journal.
+    fn agreeing_fault(
+        &self,
+        held: &Held,
+        attempt: &Attempt,
+        finished: &Finished,
+    ) -> Option<CommitFault>
+        requires covers { AreCovered held.now attempt.now.reads finished.now.writes }
+        requires agree { AllAgree self.now held.now }
+        ensures some { IfSome result (IsTestRefusal self.now held.now attempt.now finished.now) }
+        ensures not_foreign { IfSome result (λ fault. IsForeign (Fault fault) → ⊥) }
+        ensures none { IfNone result (MayCommit self.now held.now attempt.now finished.now) }
+    {
+        self.holds();
+        match self.own_fault(attempt, finished) {
+            Some(fault) => Some(fault),
+            None => self.agreeing_write_fault(
+                held,
+                attempt.reads(),
+                finished.writes(),
+                attempt.timestamp(),
+            ),
+        }
+    }
+
+    /// Why a live attempt's own call does not commit, by the entries.
     fn write_fault(
         &self,
         held: &Held,
@@ -246,17 +319,41 @@ impl Journal {
         timestamp: u64,
     ) -> Option<CommitFault>
         requires covers { AreCovered held.now reads.now writes.now }
-        requires positive { 0 < timestamp }
+        requires open { IsOpenAt self.now timestamp }
         ensures some { IfSome result
             (IsWriteRefusal self.now held.now timestamp reads.now writes.now) }
         ensures none { IfNone result (MayWrite self.now held.now timestamp reads.now writes.now) }
     {
-        match moved(&self.index, reads, timestamp - 1) {
+        match moved_by_entries(self.base(), self.entries(), reads, timestamp) {
             Some(item) => Some(CommitFault::Moved { item }),
             None => match held.foreign(writes, timestamp) {
                 Some(shard) => Some(CommitFault::Foreign { shard }),
-                None => late(&self.index, held, writes, timestamp),
+                None => late_by_entries(self.entries(), held, writes, timestamp),
             },
+        }
+    }
+
+    /// The same, by shards that agree with the journal.
+    fn agreeing_write_fault(
+        &self,
+        held: &Held,
+        reads: &ItemMap,
+        writes: &ItemMap,
+        timestamp: u64,
+    ) -> Option<CommitFault>
+        requires covers { AreCovered held.now reads.now writes.now }
+        requires agree { AllAgree self.now held.now }
+        requires open { IsOpenAt self.now timestamp }
+        ensures some { IfSome result
+            (IsWriteRefusal self.now held.now timestamp reads.now writes.now) }
+        ensures not_foreign { IfSome result (λ fault. IsForeign (Fault fault) → ⊥) }
+        ensures none { IfNone result (MayWrite self.now held.now timestamp reads.now writes.now) }
+    {
+        self.holds();
+        held.holds();
+        match moved(held, reads, timestamp) {
+            Some(item) => Some(CommitFault::Moved { item }),
+            None => late(held, writes, timestamp),
         }
     }
 
@@ -280,13 +377,7 @@ impl Journal {
         // What a finished call keeps, and the order of the live calls, as their readers say.
         finished.holds();
         let _first = self.live.first();
-        match write_all(
-            &mut self.entries,
-            &mut self.index,
-            held,
-            &attempt,
-            &finished,
-        ) {
+        match write_all(&mut self.entries, held, &attempt, &finished) {
             Ok(()) => {
                 self.live.remove(timestamp);
                 self.states[attempt.number() as usize - 1] = CallState::Committed;
@@ -360,7 +451,7 @@ impl Journal {
             self.now.header self.now.calls self.now.world }
         ensures orderly { IsOrderly self.now.base }
         ensures opened { calls_fault self.now.header self.now.calls ≡ None }
-        ensures store { IsIndexedStore self.now }
+        ensures consistent { IsConsistentJournal self.now }
         ensures are_calls { AreOfCalls self.now.calls self.now.world.entries }
         ensures live_calls { AreLiveCalls self.now.calls self.now.world.live }
         ensures few { length self.now.world.entries ≤ length self.now.calls }

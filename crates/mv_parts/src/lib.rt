@@ -15,6 +15,7 @@ mod commit_fault;
 mod commit_tests;
 mod committing;
 mod entry;
+mod entry_tests;
 mod journal;
 mod laws;
 mod live;

@@ -16,36 +16,20 @@ use std::alloc::{AllocError, Global};
 /// The shards that are held, each at its index.
 pub(crate) type StateSlots = [Option<ShardState>; 16];
 
-/// Where the chains stand of what was read, and of what is to be written, beside its new value.
+/// Where the chains stand of what was read, and of what is to be written, beside its new value. Its lists are used again from
+/// commit to commit, so that few commits take memory for them.
 #[derive(Drop)]
 pub(crate) struct CommitScratch {
     pub(crate) reads: Vec<ChainRef>,
     pub(crate) writes: Vec<(ChainRef, ItemValue)>,
 }
 
-/// The room in two sets of parts. Its lists are used again from commit to commit, so that few commits take memory for them.
-#[derive(Drop)]
-pub(crate) struct ScratchPair {
-    pub(crate) own: CommitScratch,
-    pub(crate) others: CommitScratch,
-}
-
 impl CommitScratch {
     /// Lists of nothing. They take no memory.
-    fn new(alloc: Global) -> CommitScratch {
+    pub(crate) fn new(alloc: Global) -> CommitScratch {
         CommitScratch {
             reads: Vec::new(alloc),
             writes: Vec::new(alloc),
-        }
-    }
-}
-
-impl ScratchPair {
-    /// Lists of nothing. They take no memory.
-    pub(crate) fn new(alloc: Global) -> ScratchPair {
-        ScratchPair {
-            own: CommitScratch::new(alloc),
-            others: CommitScratch::new(alloc),
         }
     }
 }
@@ -137,8 +121,8 @@ fn place_writes(
 
 /// Gives each item that was read a chain in its shard, and each item that is to be written a chain with room, and
 /// copies the writes. What is seen of the shards stays, also where memory is refused.
-fn make_room(
-    room: &mut CommitScratch,
+pub(crate) fn make_room(
+    scratch: &mut CommitScratch,
     parts: &mut StateSlots,
     reads: &ItemMap,
     writes: &ItemMap,
@@ -146,31 +130,9 @@ fn make_room(
     requires reads { AllByRecursion (λ e. IsHeldIn parts.old e.0) reads.now }
     requires writes { AllByRecursion (λ e. IsHeldIn parts.old e.0) writes.now }
     ensures grown { AreGrown parts.old parts.new }
-    ensures room { OnOk result (IsScratch parts.new reads.now writes.now room.new) }
+    ensures room { OnOk result (IsScratch parts.new reads.now writes.now scratch.new) }
 {
-    place_reads(&mut room.reads, parts, reads)?;
-    place_writes(&mut room.writes, parts, writes)?;
+    place_reads(&mut scratch.reads, parts, reads)?;
+    place_writes(&mut scratch.writes, parts, writes)?;
     Ok(())
-}
-
-/// Makes room in two sets of parts, with copies of the writes for each.
-pub(crate) fn make_both(
-    rooms: &mut ScratchPair,
-    parts: &mut StateSlots,
-    others: &mut StateSlots,
-    reads: &ItemMap,
-    writes: &ItemMap,
-) -> Result<(), AllocError>
-    requires reads { AllByRecursion (λ e. IsHeldIn parts.old e.0) reads.now }
-    requires writes { AllByRecursion (λ e. IsHeldIn parts.old e.0) writes.now }
-    requires other_reads { AllByRecursion (λ e. IsHeldIn others.old e.0) reads.now }
-    requires other_writes { AllByRecursion (λ e. IsHeldIn others.old e.0) writes.now }
-    ensures grown { AreGrown parts.old parts.new × AreGrown others.old others.new }
-    ensures room { OnOk result (IsScratch parts.new reads.now writes.now rooms.new.own
-        × IsScratch others.new reads.now writes.now rooms.new.others) }
-{
-    match make_room(&mut rooms.own, parts, reads, writes) {
-        Ok(()) => make_room(&mut rooms.others, others, reads, writes),
-        Err(refused) => Err(refused),
-    }
 }

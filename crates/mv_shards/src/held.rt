@@ -5,7 +5,7 @@ ghost use Rattle.std.proofs.Common.{replicate};
 ghost use Rattle.teal_value.specs.declared.failure.Failure.TheVariants.{Fault};
 ghost use Rattle.mv_shards.specs.declared.read_fault.ReadFault.TheVariants.{Pruned};
 ghost use Rattle.mv_shards.specs.Indexes.{shard_count};
-ghost use Rattle.mv_shards.specs.Helds.{AreFree, AreHeld, IsHeld, IsHeldPruned, IsHeldRead, IsLastTaken, IsTakenFrom, ArePruned};
+ghost use Rattle.mv_shards.specs.Helds.{AreAtIndexes, AreFree, AreHeld, IsHeld, IsHeldPruned, IsHeldRead, IsLastTaken, IsTakenFrom, ArePruned};
 ghost use Rattle.mv_shards.specs.KeptHelds.{AreInSlots, AreFreeFrom, IsEnd, IsShardStateOrNone, seen_all, seen_or_none};
 ghost use Rattle.avm_items.specs.SameValues.{is_same_value};
 ghost use Rattle.mv_shards.specs.Writing.{AreLow, AreWritten, CanTake, IsFirstForeign, IsLowAt, NoneForeign, versions_for};
@@ -13,7 +13,7 @@ ghost use Rattle.mv_shards.specs.SlotWriting.{IsAbove, IsLeastWith, has_timestam
 ghost use Rattle.mv_chain.specs.Versions.{lateness, newest_at};
 
 use crate::attempt::Attempt;
-use crate::commit_scratch::{ScratchPair, StateSlots};
+use crate::commit_scratch::{CommitScratch, StateSlots};
 use crate::index::{SHARD_COUNT, shard_of};
 use crate::read_fault::ReadError;
 use crate::shard::Shard;
@@ -30,7 +30,7 @@ pub struct Held {
     /// One more than the index of the last part, or 0 where there is none.
     end: usize,
     /// Where a commit finds its chains. Nothing rests on it between commits.
-    rooms: ScratchPair,
+    scratch: CommitScratch,
 }
 
 /// Written out, so that whoever owns one drops it by one call and not part by part.
@@ -40,7 +40,7 @@ impl Drop for Held {
         let Held {
             parts: _,
             end: _,
-            rooms: _,
+            scratch: _,
         } = self;
     }
 }
@@ -67,7 +67,7 @@ impl Held {
                 None, None,
             ],
             end: 0,
-            rooms: ScratchPair::new(alloc),
+            scratch: CommitScratch::new(alloc),
         }
     }
 
@@ -121,6 +121,13 @@ impl Held {
             }
         }
         true
+    }
+
+    /// What all shards keep that are held together: each stands at its index. It does no work.
+    pub fn holds(&self)
+        ensures { AreAtIndexes self.now }
+    {
+        let _end = self.end;
     }
 
     /// Reads an item of the item's shard, as [`Shard::read`] does.
@@ -202,31 +209,20 @@ impl Held {
         prune_all(&mut self.parts, timestamp);
     }
 
-    /// Marks what a commit at a timestamp has read, and adds a version of each item that it writes, here and in other shards.
-    /// All room is made first: where memory is refused, nothing has changed in either. Where the chains stand is listed by the
-    /// others: they are a thread's own, and these lists then stay with its processor.
-    pub fn write_both(
+    /// Marks what a commit at a timestamp has read, and adds a version of each item that it writes. All room is made first: where
+    /// memory is refused, nothing that is seen has changed.
+    pub fn write(
         &mut self,
-        others: &mut Held,
         reads: &ItemMap,
         writes: &ItemMap,
         timestamp: u64,
     ) -> Result<(), AllocError>
         requires held { CanTake timestamp self.old reads.now writes.now }
-        requires others { CanTake timestamp others.old reads.now writes.now }
         requires positive { 0 < timestamp }
-        ensures written { OnOk result (AreWritten timestamp reads.now writes.now self.old self.new
-            × AreWritten timestamp reads.now writes.now others.old others.new) }
-        ensures unchanged { OnErr result ((self.new ≡ self.old) × (others.new ≡ others.old)) }
+        ensures written { OnOk result (AreWritten timestamp reads.now writes.now self.old self.new) }
+        ensures unchanged { OnErr result (self.new ≡ self.old) }
     {
-        write_parts(
-            &mut others.rooms,
-            &mut self.parts,
-            &mut others.parts,
-            reads,
-            writes,
-            timestamp,
-        )
+        write_parts(&mut self.scratch, &mut self.parts, reads, writes, timestamp)
     }
 }
 

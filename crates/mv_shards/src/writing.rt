@@ -8,7 +8,7 @@ ghost use Rattle.mv_shards.specs.KeptHelds.{IsHeldIn};
 ghost use Rattle.mv_shards.specs.Indexes.{shard_of as shard_index};
 
 use crate::chain_ref::ChainRef;
-use crate::commit_scratch::{ScratchPair, StateSlots, make_both};
+use crate::commit_scratch::{CommitScratch, StateSlots, make_room};
 use avm_items::{ItemMap, ItemValue};
 use std::alloc::AllocError;
 use std::mem;
@@ -64,26 +64,6 @@ fn install_all(parts: &mut StateSlots, placed: &mut [(ChainRef, ItemValue)], tim
     }
 }
 
-/// Adds versions in two sets of parts.
-fn install_both(
-    parts: &mut StateSlots,
-    placed: &mut [(ChainRef, ItemValue)],
-    others: &mut StateSlots,
-    others_placed: &mut [(ChainRef, ItemValue)],
-    timestamp: u64,
-)
-    requires ready { AreReadyPlaced timestamp parts.old placed.old }
-    requires others_ready { AreReadyPlaced timestamp others.old others_placed.old }
-    requires positive { 0 < timestamp }
-    ensures own { (writes : _) → ArePlaced parts.old writes placed.old
-        → AreInstalledAt timestamp writes parts.old parts.new }
-    ensures others { (writes : _) → ArePlaced others.old writes others_placed.old
-        → AreInstalledAt timestamp writes others.old others.new }
-{
-    install_all(parts, placed, timestamp);
-    install_all(others, others_placed, timestamp);
-}
-
 /// What is to be written at a spot, which is left with nothing to write.
 fn taken(placed: &mut (ChainRef, ItemValue)) -> (ChainRef, ItemValue)
     ensures { result ≡ placed.old }
@@ -91,12 +71,10 @@ fn taken(placed: &mut (ChainRef, ItemValue)) -> (ChainRef, ItemValue)
     (placed.0, mem::replace(&mut placed.1, ItemValue::Absent))
 }
 
-/// Marks what was read and adds what was written, in this order, in two sets of parts. Where memory is refused, nothing that
-/// is seen of either has changed.
+/// Marks what was read and adds what was written, in this order. Where memory is refused, nothing that is seen has changed.
 pub(crate) fn write_parts(
-    rooms: &mut ScratchPair,
+    scratch: &mut CommitScratch,
     parts: &mut StateSlots,
-    others: &mut StateSlots,
     reads: &ItemMap,
     writes: &ItemMap,
     timestamp: u64,
@@ -107,31 +85,13 @@ pub(crate) fn write_parts(
     requires absent { AllByRecursion (λ e.
         AllByRecursion (λ v. v.timestamp ≢ timestamp) (versions_of (first_at parts.old
         (shard_index e.0)) (chains_for parts.old e.0) e.0)) writes.now }
-    requires other_reads { AllByRecursion (λ e. IsHeldIn others.old e.0) reads.now }
-    requires other_writes { AllByRecursion (λ e. IsHeldIn others.old e.0) writes.now }
-    requires other_chains { (i : _)
-        → AreChains (first_at others.old i) timestamp (chains_at others.old i) }
-    requires other_absent { AllByRecursion (λ e.
-        AllByRecursion (λ v. v.timestamp ≢ timestamp) (versions_of (first_at others.old
-        (shard_index e.0)) (chains_for others.old e.0) e.0)) writes.now }
     requires positive { 0 < timestamp }
     ensures written { OnOk result (AreWrittenSlots timestamp reads.now writes.now parts.old
-        parts.new × AreWrittenSlots timestamp reads.now writes.now others.old others.new) }
-    ensures grown { OnErr result (AreGrown parts.old parts.new × AreGrown others.old others.new) }
+        parts.new) }
+    ensures grown { OnErr result (AreGrown parts.old parts.new) }
 {
-    match make_both(rooms, parts, others, reads, writes) {
-        Ok(()) => {
-            mark_all(parts, &rooms.own.reads, timestamp);
-            mark_all(others, &rooms.others.reads, timestamp);
-            install_both(
-                parts,
-                &mut rooms.own.writes,
-                others,
-                &mut rooms.others.writes,
-                timestamp,
-            );
-            Ok(())
-        }
-        Err(refused) => Err(refused),
-    }
+    make_room(scratch, parts, reads, writes)?;
+    mark_all(parts, &scratch.reads, timestamp);
+    install_all(parts, &mut scratch.writes, timestamp);
+    Ok(())
 }

@@ -1,0 +1,39 @@
+use Rattle.std.proofs.Common.{◌≡◌, ℕ, sym, subst}
+use Rattle.std.proofs.lemmas.Result.{on_err_weaker}
+use Rattle.avm_items.specs.Items.{ItemMap}
+use Rattle.mv_shards.specs.Helds.{ShardSlots}
+use Rattle.mv_shards.specs.Writing.{CanTake}
+use Rattle.mv_shards.proofs.Ends.{end_framed}
+use Rattle.mv_shards.proofs.OneChain.{either_way, ok_then}
+use Rattle.mv_shards.proofs.SeenWrites.{all_absent, all_chains, all_held_in, grown_seen, kept_grown, kept_written, written_seen}
+use Rattle.mv_shards.proofs.held.Held.write.Goals as goal
+
+-- what is asked of the shards, asked of what is seen of their parts
+can_take : {t : ℕ} {seen shard_slots : ShardSlots} {reads writes : ItemMap} → seen ≡ shard_slots → CanTake t shard_slots reads writes → CanTake t seen reads writes
+can_take {t} {reads = reads} {writes = writes} same can = subst (λ s. CanTake t s reads writes) (sym same) can
+
+pub write_parts-requires-clause-reads : goal.write_parts-requires-clause-reads
+write_parts-requires-clause-reads c = all_held_in c.self.inside.parts c.args.reads.now (can_take c.self.view_is c.requires.held).reads_held
+
+pub write_parts-requires-clause-writes : goal.write_parts-requires-clause-writes
+write_parts-requires-clause-writes c = all_held_in c.self.inside.parts c.args.writes.now (can_take c.self.view_is c.requires.held).writes_held
+
+pub write_parts-requires-clause-chains : goal.write_parts-requires-clause-chains
+write_parts-requires-clause-chains c = all_chains c.args.timestamp c.self.inside.parts c.self.invariant.0 (can_take c.self.view_is c.requires.held).low
+
+pub write_parts-requires-clause-absent : goal.write_parts-requires-clause-absent
+write_parts-requires-clause-absent c =
+    let can = can_take c.self.view_is c.requires.held in
+    all_absent c.args.timestamp c.self.inside.parts c.args.writes.now c.self.invariant.0 can.writes_held can.absent
+
+pub invariant_of-self : goal.invariant_of-self
+invariant_of-self c =
+    either_way c.write_parts.result _ _ _ c.write_parts.ensures.written c.write_parts.ensures.grown
+    (λ w. (kept_written c.args.timestamp c.args.reads.now c.args.writes.now c.self.inside.parts _ c.self.invariant.0 (can_take c.self.view_is c.requires.held).low w, end_framed c.self.inside.parts _ c.self.inside.end w.frames c.self.invariant.1))
+    (λ g. (kept_grown c.self.inside.parts _ c.self.invariant.0 g, end_framed c.self.inside.parts _ c.self.inside.end g.frames c.self.invariant.1))
+
+pub returns-clause-written : goal.returns-clause-written
+returns-clause-written c = rw (← c.self.view_is) (ok_then c.write_parts.result _ _ (written_seen c.args.timestamp c.args.reads.now c.args.writes.now c.self.inside.parts _ c.self.invariant.0 (invariant_of-self c).0) c.write_parts.ensures.written)
+
+pub returns-clause-unchanged : goal.returns-clause-unchanged
+returns-clause-unchanged c = rw (← c.self.view_is) (on_err_weaker c.write_parts.result (grown_seen c.self.inside.parts _ c.self.invariant.0) c.write_parts.ensures.grown)
