@@ -41,12 +41,12 @@ def as_json(name, value):
 def main():
     try:
         dump = msgpack.unpackb(sys.stdin.buffer.read())
-    except (ValueError, msgpack.UnpackException):
+        text = json.dumps(as_json("", dump), indent=2, allow_nan=False)
+    except (ValueError, TypeError, RecursionError, msgpack.UnpackException):
         dump = None
     if not isinstance(dump, dict):
         sys.exit("This is no dump in msgpack. One that begins with `{` is JSON already.")
-    json.dump(as_json("", dump), sys.stdout, indent=2)
-    print()
+    print(text)
 
 
 if __name__ == "__main__":
