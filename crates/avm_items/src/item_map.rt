@@ -106,9 +106,24 @@ impl ItemMap {
     pub fn without_room(self, alloc: Global) -> ItemMap
         ensures { result ≡ self }
     {
-        ItemMap {
-            values: exact(alloc, self.values),
+        let (fitted, _room) = self.fitted(alloc);
+        fitted
+    }
+
+    /// The same, as [`ItemMap::without_room`] gives it, and no items in the room that it had.
+    pub fn fitted(self, alloc: Global) -> (ItemMap, ItemMap)
+        ensures same { result.0 ≡ self }
+        ensures room { result.1 ≡ [] }
+    {
+        let mut values = self.values;
+        if values.len() < values.capacity() {
+            if let Ok(mut exact) = Vec::with_capacity(alloc, values.len()) {
+                if exact.append(&mut values).is_ok() {
+                    return (ItemMap { values: exact }, ItemMap::in_room_of(values));
+                }
+            }
         }
+        (ItemMap { values }, ItemMap::new(alloc))
     }
 
     /// Whether these are the same items with the same values. Nothing is copied.
@@ -184,23 +199,6 @@ impl ItemMap {
             Ok(place) => self.values[place].1.remove_entry(key),
             Err(_) => Ok(()),
         }
-    }
-}
-
-/// A list without room for more, where there is memory for another one.
-fn exact(alloc: Global, values: Vec<(Item, ItemValue)>) -> Vec<(Item, ItemValue)>
-    ensures { result.items ≡ values.items }
-{
-    if values.len() == values.capacity() {
-        return values;
-    }
-    let mut values = values;
-    match Vec::with_capacity(alloc, values.len()) {
-        Ok(mut exact) => match exact.append(&mut values) {
-            Ok(()) => exact,
-            Err(_refused) => values,
-        },
-        Err(_refused) => values,
     }
 }
 

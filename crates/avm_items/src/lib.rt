@@ -19,4 +19,4 @@ pub use item::Item;
 pub use item_map::ItemMap;
 pub use item_value::ItemValue;
 pub use ledger_items::{is_value_in, item_of};
-pub use writing::{put_items, put_open};
+pub use writing::{put_copies, put_items, put_open};

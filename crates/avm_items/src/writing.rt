@@ -1,6 +1,6 @@
 //! Items put into a ledger.
 
-ghost use Rattle.std.specs.Prelude.{◌≡◌, ◌++◌, [], false, IfErr, IfOk};
+ghost use Rattle.std.specs.Prelude.{◌≡◌, ◌++◌, [], false, IfErr, IfOk, OnOk};
 ghost use Rattle.avm_ledger.specs.Ledgers.{IsOrderly, Ledger as LedgerMaps};
 ghost use Rattle.avm_items.specs.declared.item_value.ItemValue.TheVariants.{Absent};
 ghost use Rattle.avm_items.specs.LedgerItems.{at, put, put_one};
@@ -204,4 +204,39 @@ pub fn put_items(alloc: Global, ledger: &mut Ledger, items: ItemMap) -> Result<I
             Err(refused)
         }
     }
+}
+
+/// Puts copies of items into a ledger. Where memory is refused, the ledger is dropped.
+///
+/// What is put leaves a ledger: no application has the next id or one above it.
+pub fn put_copies(
+    alloc: Global,
+    ledger: Ledger,
+    items: &[(Item, ItemValue)],
+) -> Result<Ledger, AllocError>
+    requires { IsOrderly (put ledger items.now) }
+    ensures { IfOk result (λ after. after ≡ put ledger items.now) }
+{
+    let mut open = ledger.open();
+    for (item, value) in items {
+        put_copy(alloc, &mut open, item, value)?;
+    }
+    Ok(open.close())
+}
+
+/// Puts a copy of an item's value into an open ledger.
+fn put_copy(
+    alloc: Global,
+    ledger: &mut OpenLedger,
+    item: &Item,
+    value: &ItemValue,
+) -> Result<(), AllocError>
+    ensures { OnOk result (ledger.new ≡ put_one ledger.old item.now value.now) }
+{
+    if let ItemValue::Absent = value {
+        remove(ledger, item);
+        return Ok(());
+    }
+    set(alloc, ledger, item, value.clone()?)?;
+    Ok(())
 }

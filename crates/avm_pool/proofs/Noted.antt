@@ -8,11 +8,12 @@ use Rattle.avm_ledger.specs.Ledgers.{Ledger}
 use Rattle.avm_items.specs.declared.call_data.CallData.{CallData}
 use Rattle.avm_items.specs.declared.item.Item.{Item}
 use Rattle.avm_items.specs.declared.item_value.ItemValue.{ItemValue}
+use Rattle.avm_items.specs.Items.{with_item}
 use Rattle.mv_history.specs.World.{low_after_prune}
 use Rattle.mv_history.proofs.Lists.{Compared, less, not_less, compared, Equals, equal, unequal, equals}
 use Rattle.mv_shards.specs.Helds.{ArePruned, IsPrunedSlot, ShardSlots}
 use Rattle.mv_shards.specs.Indexes.{shard_count}
-use Rattle.mv_shards.specs.Shards.{IsFirstRead, IsPrunedShard, IsRaisedTo, IsReadAgain, Shard}
+use Rattle.mv_shards.specs.Shards.{IsPrunedShard, IsRaisedTo, IsReadAt, Shard}
 use Rattle.mv_parts.specs.Agreeing.{AllAgree, EveryPruneKeepsAgreement, EveryReadKeepsAgreement, ShardAgrees}
 use Rattle.mv_parts.specs.CallHistory.{CallAttempt, CallEntry}
 use Rattle.mv_parts.specs.Journals.{Journal, first_journal}
@@ -155,12 +156,14 @@ module _ (base : Ledger) (header : Header) (calls : List CallData) where
 
   -- ---- a read
 
-  pub read_keeps : {E : Type 0} (log : List CallEntry) (old new : Shard) (before after : CallAttempt) (x : Item) (r : Result ItemValue E) → EveryReadKeepsAgreement
-      → IfOk r (λ v. IsFirstRead old new before after x v ⊎ IsReadAgain old new before after x v) → OnErr r (new ≡ old) → AgreesAfter base header calls log old → AgreesAfter base header calls log new
-  read_keeps log old new before after x (Ok v) law done same a =
-      let k = law (journal_after base header calls old.low log) old new before after x v done a in
+  -- it is the first read of an attempt that has read nothing
+  pub read_keeps : {E : Type 0} (log : List CallEntry) (old new : Shard) (t : ℕ) (x : Item) (r : Result ItemValue E) → EveryReadKeepsAgreement
+      → IfOk r (IsReadAt t old new x) → OnErr r (new ≡ old) → AgreesAfter base header calls log old → AgreesAfter base header calls log new
+  read_keeps log old new t x (Ok v) law done same a =
+      let none : CallAttempt = record { number = 0; timestamp = t; reads = [] } in
+      let k = law (journal_after base header calls old.low log) old new none (record none { reads = with_item [] x v }) x v (inl (done none refl refl)) a in
       subst (λ (n : ℕ). ShardAgrees (journal_after base header calls n log) new) (sym k.low) k
-  read_keeps log old new before after x (Err e) law done same a = subst (AgreesAfter base header calls log) (sym same) a
+  read_keeps log old new t x (Err e) law done same a = subst (AgreesAfter base header calls log) (sym same) a
 
   -- ---- a prune
 

@@ -23,6 +23,7 @@ mod logged_journal;
 mod logged_shard;
 mod naming;
 mod opening;
+mod own_call;
 mod pool_fault;
 mod proposal;
 mod proposing;

@@ -1,17 +1,15 @@
 //! A journal together with shards that are locked one after another.
 
 ghost use Rattle.std.specs.Prelude.{◌≡◌, ◌<◌, ◌≤◌, IfSome, length};
-ghost use Rattle.avm_pool.specs.declared.locked_work.LockedWork.TheVariants.{Commit};
 
 use crate::logged_held::LoggedHeld;
 use crate::logged_journal::LoggedJournal;
 use crate::logged_shard::LoggedShard;
 use crate::naming::Naming;
+use crate::own_call::OwnCall;
 use crate::waiting::lock_soon;
-use avm_run::Finished;
 use mv_parts::RefusedCommit;
 use mv_shards::Attempt;
-use std::alloc::Global;
 use std::mem;
 use std::sync::{Mutex, Wait};
 use teal_value::Failure;
@@ -21,8 +19,8 @@ pub(crate) type ShardLock<J> = Mutex<Option<LoggedShard<J>>>;
 
 /// What is done with a journal and the shards that are held. It is lent while they are locked, and taken once.
 #[derive(Drop)]
-pub(crate) enum LockedWork {
-    Commit(Attempt, Finished),
+pub(crate) enum LockedWork<J: Naming> {
+    Commit(OwnCall<J>),
     Prune,
 }
 
@@ -37,16 +35,9 @@ pub(crate) enum CommitResult {
     Memory(Attempt),
 }
 
-impl LockedWork {
-    /// A commit. The lists of what was read and is written are made as they stay, before any lock is taken.
-    pub fn commit(alloc: Global, attempt: Attempt, finished: Finished) -> LockedWork
-        ensures { result ≡ Commit attempt finished }
-    {
-        LockedWork::Commit(attempt.without_room(alloc), finished.without_room(alloc))
-    }
-
+impl<J: Naming> LockedWork<J> {
     /// The work, which is left as one that does little.
-    fn taken(&mut self) -> LockedWork
+    fn taken(&mut self) -> LockedWork<J>
         ensures { result ≡ self.old }
     {
         mem::replace(self, LockedWork::Prune)
@@ -55,13 +46,9 @@ impl LockedWork {
     /// Does it with all shards that are held. It is out of line, as is [`LockedWork::not_done`], so that whoever locks shards
     /// has no room for work among the own variables.
     #[inline(never)]
-    fn done<J: Naming>(
-        &mut self,
-        journal: &mut LoggedJournal<J>,
-        held: &mut LoggedHeld<J>,
-    ) -> CommitResult {
+    fn done(&mut self, journal: &mut LoggedJournal<J>, held: &mut LoggedHeld<J>) -> CommitResult {
         match self.taken() {
-            LockedWork::Commit(attempt, finished) => commit(journal, held, attempt, finished),
+            LockedWork::Commit(call) => commit(journal, held, call),
             LockedWork::Prune => {
                 journal.prune(held);
                 CommitResult::Done
@@ -74,7 +61,7 @@ impl LockedWork {
     #[inline(never)]
     fn not_done(&mut self) -> CommitResult {
         match self.taken() {
-            LockedWork::Commit(attempt, _finished) => CommitResult::Again(attempt),
+            LockedWork::Commit(call) => CommitResult::Again(call.into_attempt()),
             LockedWork::Prune => CommitResult::Done,
         }
     }
@@ -84,10 +71,10 @@ impl LockedWork {
 fn commit<J: Naming>(
     journal: &mut LoggedJournal<J>,
     held: &mut LoggedHeld<J>,
-    attempt: Attempt,
-    finished: Finished,
+    call: OwnCall<J>,
 ) -> CommitResult {
-    if !held.covers(attempt.reads()) || !held.covers(finished.writes()) {
+    let (attempt, finished) = call.into_parts();
+    if !held.covers(finished.reads()) || !held.covers(finished.writes()) {
         return CommitResult::Again(attempt);
     }
     match journal.commit(held, attempt, finished) {
@@ -123,7 +110,7 @@ pub(crate) fn work_with<J: Naming, R: Wait>(
     shards: &Wanted<J, R>,
     journal: &mut LoggedJournal<J>,
     held: &mut LoggedHeld<J>,
-    work: &mut LockedWork,
+    work: &mut LockedWork<J>,
 ) -> CommitResult {
     work_from(shards, 0, journal, held, work)
 }
@@ -134,7 +121,7 @@ fn work_from<J: Naming, R: Wait>(
     from: usize,
     journal: &mut LoggedJournal<J>,
     held: &mut LoggedHeld<J>,
-    work: &mut LockedWork,
+    work: &mut LockedWork<J>,
 ) -> CommitResult {
     let Some(index) = next_wanted(shards.wanted, from) else {
         return work.done(journal, held);

@@ -4,7 +4,7 @@ ghost use Rattle.std.specs.Prelude.{◌≡◌, ◌+◌, ◌↔◌, ◌≤◌, []
 ghost use Rattle.mv_history.specs.Settled.{settled_count};
 ghost use Rattle.mv_history.specs.World.{after_abandon, after_begin, fresh_attempt, low_after_prune};
 ghost use Rattle.mv_shards.specs.Helds.{ArePruned};
-ghost use Rattle.mv_parts.specs.Commits.{AreCovered, IsCommitRefusal, IsForeign, MayCommit};
+ghost use Rattle.mv_parts.specs.Commits.{AreCovered, IsCommitRefusal, IsForeign, IsOwnCall, MayCommit, reading};
 ghost use Rattle.mv_parts.specs.Journals.{IsBeginRefusal, IsLive, begin_fault, first_journal};
 ghost use Rattle.avm_pool.specs.Logged.{AreCurrent, IsJournalOver, IsLoggedCommit, IsLoggedRefusal};
 ghost use Rattle.mv_parts.specs.Agreeing.{AllAgree};
@@ -100,20 +100,22 @@ impl<J: Naming> LoggedJournal<J> {
         are_current(&held.notes, &whole, &self.last, self.journal.low())
     }
 
-    /// A call that has ended joins the committed ones, as [`Journal::commit_agreeing`] says, and the log. Where a shard that is held does
-    /// not agree, which nothing in a program makes happen, it is refused as where memory ran out.
+    /// An attempt's own call joins the committed ones, as [`Journal::commit_own`] says, and the log. Where a shard that is held
+    /// does not agree, which nothing in a program makes happen, it is refused as where memory ran out.
     pub fn commit(
         &mut self,
         held: &mut LoggedHeld<J>,
         attempt: Attempt,
         finished: Finished,
     ) -> Result<u64, RefusedCommit>
-        requires { AreCovered held.old.slots attempt.reads finished.writes }
+        requires covers { AreCovered held.old.slots finished.reads finished.writes }
+        requires own { IsOwnCall J.calls J.header (reading attempt finished) finished }
         ensures committed { IfOk result (λ timestamp. (timestamp ≡ attempt.timestamp)
-            × MayCommit self.old.journal held.old.slots attempt finished
-            × IsLoggedCommit self.old self.new held.old held.new attempt finished) }
-        ensures refused { IfErr result
-            (λ refused. IsLoggedRefusal self.old held.old attempt finished refused.error) }
+            × MayCommit self.old.journal held.old.slots (reading attempt finished) finished
+            × IsLoggedCommit self.old self.new
+            held.old held.new (reading attempt finished) finished) }
+        ensures refused { IfErr result (λ refused. IsLoggedRefusal
+            self.old held.old (reading attempt finished) finished refused.error) }
         ensures none_foreign { IfErr result (λ refused. IsForeign refused.error → ⊥) }
         ensures back { IfErr result (λ refused. (refused.attempt ≡ attempt)
             × (refused.finished ≡ finished)) }
@@ -136,13 +138,15 @@ impl<J: Naming> LoggedJournal<J> {
         attempt: Attempt,
         finished: Finished,
     ) -> Result<u64, RefusedCommit>
-        requires covers { AreCovered held.old.slots attempt.reads finished.writes }
+        requires covers { AreCovered held.old.slots finished.reads finished.writes }
+        requires own { IsOwnCall J.calls J.header (reading attempt finished) finished }
         requires agree { AllAgree self.old.journal held.old.slots }
         ensures committed { IfOk result (λ timestamp. (timestamp ≡ attempt.timestamp)
-            × MayCommit self.old.journal held.old.slots attempt finished
-            × IsLoggedCommit self.old self.new held.old held.new attempt finished) }
-        ensures refused { IfErr result (λ refused. IsCommitRefusal
-            self.old.journal held.old.slots attempt finished refused.error) }
+            × MayCommit self.old.journal held.old.slots (reading attempt finished) finished
+            × IsLoggedCommit self.old self.new
+            held.old held.new (reading attempt finished) finished) }
+        ensures refused { IfErr result (λ refused. IsCommitRefusal self.old.journal
+            held.old.slots (reading attempt finished) finished refused.error) }
         ensures none_foreign { IfErr result (λ refused. IsForeign refused.error → ⊥) }
         ensures back { IfErr result (λ refused. (refused.attempt ≡ attempt)
             × (refused.finished ≡ finished)) }
@@ -153,10 +157,7 @@ impl<J: Naming> LoggedJournal<J> {
         let entry = self
             .log
             .offer(attempt.timestamp(), attempt.number(), &finished);
-        match self
-            .journal
-            .commit_agreeing(&mut held.held, attempt, finished)
-        {
+        match self.journal.commit_own(&mut held.held, attempt, finished) {
             Ok(timestamp) => {
                 self.journal.holds();
                 self.log.add(entry);

@@ -1,16 +1,16 @@
 //! Shards that know what they agree with.
 
-ghost use Rattle.std.specs.Prelude.{◌≡◌, ◌⊎◌, ◌↔◌, IfOk, IsErrOf, OnErr};
+ghost use Rattle.std.specs.Prelude.{◌≡◌, ◌<◌, ◌↔◌, IfOk, IsErrOf, OnErr};
 ghost use Rattle.teal_value.specs.declared.failure.Failure.TheVariants.{Fault};
 ghost use Rattle.mv_shards.specs.declared.read_fault.ReadFault.TheVariants.{Pruned};
-ghost use Rattle.mv_shards.specs.Shards.{IsFirstRead, IsPruned, IsReadAgain};
+ghost use Rattle.mv_shards.specs.Shards.{IsReadAt};
 ghost use Rattle.avm_pool.specs.Logged.{AgreesAfter};
 
 use crate::log_prefix::LogPrefix;
 use crate::naming::Naming;
 use avm_items::{Item, ItemValue};
 use mv_parts::every_call_keeps_agreement;
-use mv_shards::{Attempt, ReadError, Shard};
+use mv_shards::{ReadError, Shard};
 use std::marker::Model;
 
 /// A shard, and the beginning of its run's log with which it agrees: up to the last commit that it took part in.
@@ -47,17 +47,15 @@ impl<J: Naming> LoggedShard<J> {
         (self.shard, self.seen)
     }
 
-    /// Reads an item, as [`Shard::read`] does.
-    pub fn read(&mut self, attempt: &mut Attempt, item: Item) -> Result<ItemValue, ReadError>
-        ensures ok { IfOk result
-            (λ value. IsFirstRead self.old.shard self.new.shard attempt.old attempt.new item value
-            ⊎ IsReadAgain self.old.shard self.new.shard attempt.old attempt.new item value) }
+    /// Reads an item at a timestamp, as [`Shard::read_at`] does.
+    pub fn read_at(&mut self, timestamp: u64, item: &Item) -> Result<ItemValue, ReadError>
+        requires { 0 < timestamp }
+        ensures ok { IfOk result (IsReadAt timestamp self.old.shard self.new.shard item.now) }
         ensures seen { self.new.seen ≡ self.old.seen }
         ensures unchanged { OnErr result (self.new ≡ self.old) }
-        ensures attempt { OnErr result (attempt.new ≡ attempt.old) }
-        ensures pruned { IsErrOf result (Fault Pruned) ↔ IsPruned self.old.shard attempt.old item }
+        ensures pruned { IsErrOf result (Fault Pruned) ↔ timestamp < self.old.shard.low }
     {
         every_call_keeps_agreement();
-        self.shard.read(attempt, item)
+        self.shard.read_at(timestamp, item)
     }
 }

@@ -1,6 +1,9 @@
 //! One attempt of a call, outside the journal's lock.
 
-ghost use Rattle.std.specs.Prelude.{◌≡◌, ℕ};
+ghost use Rattle.std.specs.Prelude.{◌≡◌, ℕ, IfOk};
+ghost use Rattle.std.specs.Option.{option_copied};
+ghost use Rattle.mv_parts.specs.CallNumbers.{call_of};
+ghost use Rattle.mv_parts.specs.Commits.{IsOwnCall, reading};
 ghost use Rattle.avm_pool.specs.Running.{IsSameAttempt};
 
 use crate::block_prefix::{BlockPrefix, Kept};
@@ -40,6 +43,8 @@ pub(crate) struct Shared<'a, J: Naming, G> {
     /// The front of the block so far; none where nobody makes it ahead, or memory was refused to whoever did.
     pub prefix: &'a Mutex<Option<BlockPrefix>>,
     pub gate: &'a G,
+    pub ghost calls_are: { calls.now ≡ J.calls },
+    pub ghost header_is: { header.now ≡ J.header },
 }
 
 /// An attempt that runs, and how many its call has had with it; 0 where one thread runs what the workers left.
@@ -53,7 +58,9 @@ pub(crate) struct RunningAttempt<'a, 'b, J: Naming, G, R> {
 
 impl<'a, J: Naming, G: Gate> Shared<'a, J, G> {
     /// The call of a number, from 1.
-    pub fn call(&self, number: u32) -> Option<&'a Call> {
+    pub fn call(&self, number: u32) -> Option<&'a Call>
+        ensures { option_copied result ≡ call_of self.now.calls.now number }
+    {
         if number == 0 {
             return None;
         }
@@ -81,7 +88,8 @@ impl<'a, 'b, J: Naming, G: Gate, R: Wait> RunningAttempt<'a, 'b, J, G, R> {
     /// Runs the call of the attempt to its end. It fails with `Again` where an item could not be read at the attempt's
     /// timestamp, and with `Skipped` where memory was refused.
     pub fn run<O: Op>(&mut self, executor: &mut Executor<O>) -> Result<Finished, AttemptEnd>
-        ensures { IsSameAttempt self.old.attempt self.new.attempt }
+        ensures own { IfOk result
+            (λ f. IsOwnCall J.calls J.header (reading self.new.attempt f) f) }
     {
         let Some(call) = self.shared.call(self.attempt.number()) else {
             return Err(AttemptEnd::Skipped);
@@ -100,7 +108,8 @@ impl<'a, 'b, J: Naming, G: Gate, R: Wait> RunningAttempt<'a, 'b, J, G, R> {
         blank: Blank,
     ) -> Result<Finished, Failure<AttemptEnd>>
         requires blank { (blank.name ≡ L.name) × (blank.parts ≡ L.parts) × (blank.parts ≡ 2) }
-        ensures { IsSameAttempt self.old.attempt self.new.attempt }
+        ensures call { IfOk result (λ f. (f.call ≡ call.now) × (f.header ≡ J.header)) }
+        ensures same { IsSameAttempt self.old.attempt self.new.attempt }
     {
         let mut executions = Executions::<L>::new(blank);
         let context = RunContext {
@@ -133,7 +142,7 @@ impl<'a, 'b, J: Naming, G: Gate, R: Wait> Reader<AttemptEnd> for RunningAttempt<
         let Some(shard) = shard else {
             return Err(Failure::Fault(AttemptEnd::Again));
         };
-        let read = shard.read(&mut self.attempt, item.copied());
+        let read = shard.read_at(self.attempt.timestamp(), item);
         let gate = self.shared.gate;
         gate.pause(self.attempt.number(), self.tries, GateEvent::Inside(index));
         drop(guard);

@@ -11,11 +11,12 @@ use crate::locked_work::{CommitResult, LockedWork, Wanted, work_with};
 use crate::logged_held::LoggedHeld;
 use crate::logged_journal::LoggedJournal;
 use crate::naming::Naming;
+use crate::own_call::OwnCall;
 use crate::running::{Executor, RunningAttempt, Shared};
 use crate::thread_room::take_room;
 use crate::waiting::{lock_soon, stand_back};
 use avm_ops::{Op, Ops};
-use avm_run::{Finished, FullOps};
+use avm_run::FullOps;
 use mv_parts::BeginFault;
 use mv_shards::{Attempt, SHARD_COUNT, shard_of};
 use std::alloc::AllocError;
@@ -170,23 +171,19 @@ impl<'a, 'b, 'c, J: Naming, G: Gate, R: Wait> WorkerContext<'a, 'b, 'c, J, G, R>
         };
         running.tell(GateEvent::Begun);
         match running.run(executor) {
-            Ok(finished) => self.commit(held, running, finished),
+            Ok(finished) => { self.commit(held, OwnCall::new(running.attempt, finished), tries) }
             Err(end) => self.abandon(running.attempt, end),
         }
     }
 
     /// Commits an attempt whose call has ended, or abandons it.
-    fn commit(
-        &self,
-        held: &mut LoggedHeld<J>,
-        running: RunningAttempt<J, G, R>,
-        finished: Finished,
-    ) -> AttemptEnd {
-        running.tell(GateEvent::BeforeCommit);
-        let (number, tries) = (running.attempt.number(), running.tries);
-        match self.worked(held, running.attempt, finished) {
+    fn commit(&self, held: &mut LoggedHeld<J>, call: OwnCall<J>, tries: u32) -> AttemptEnd {
+        let number = call.number();
+        let gate = self.shared.gate;
+        gate.pause(number, tries, GateEvent::BeforeCommit);
+        match self.worked(held, call) {
             CommitResult::Done => {
-                self.shared.gate.pause(number, tries, GateEvent::Committed);
+                gate.pause(number, tries, GateEvent::Committed);
                 AttemptEnd::Committed
             }
             CommitResult::Again(attempt) => self.abandon(attempt, AttemptEnd::Again),
@@ -195,15 +192,9 @@ impl<'a, 'b, 'c, J: Naming, G: Gate, R: Wait> WorkerContext<'a, 'b, 'c, J, G, R>
     }
 
     /// What comes of a commit.
-    fn worked(
-        &self,
-        held: &mut LoggedHeld<J>,
-        attempt: Attempt,
-        finished: Finished,
-    ) -> CommitResult {
-        let wanted = shards_of(&attempt, &finished);
-        let mut work = LockedWork::commit(self.shared.alloc, attempt, finished);
-        self.under_locks(held, &wanted, &mut work)
+    fn worked(&self, held: &mut LoggedHeld<J>, call: OwnCall<J>) -> CommitResult {
+        let wanted = shards_of(&call);
+        self.under_locks(held, &wanted, &mut LockedWork::Commit(call))
     }
 
     /// Takes the journal's lock, and then those of the shards that are wanted.
@@ -211,7 +202,7 @@ impl<'a, 'b, 'c, J: Naming, G: Gate, R: Wait> WorkerContext<'a, 'b, 'c, J, G, R>
         &self,
         held: &mut LoggedHeld<J>,
         wanted: &[bool],
-        work: &mut LockedWork,
+        work: &mut LockedWork<J>,
     ) -> CommitResult {
         let mut guard = lock_soon(self.rt, self.journal);
         let locks = Wanted {
@@ -268,12 +259,12 @@ impl<'a, 'b, 'c, J: Naming, G: Gate, R: Wait> WorkerContext<'a, 'b, 'c, J, G, R>
 }
 
 /// Which shards have an item that was read or is written, by index.
-fn shards_of(attempt: &Attempt, finished: &Finished) -> [bool; SHARD_COUNT] {
+fn shards_of<J: Naming>(call: &OwnCall<J>) -> [bool; SHARD_COUNT] {
     let mut wanted = [false; SHARD_COUNT];
-    for (item, _value) in attempt.reads().as_slice() {
+    for (item, _value) in call.reads().as_slice() {
         wanted[usize::from(shard_of(item))] = true;
     }
-    for (item, _value) in finished.writes().as_slice() {
+    for (item, _value) in call.writes().as_slice() {
         wanted[usize::from(shard_of(item))] = true;
     }
     wanted

@@ -8,6 +8,7 @@ ghost use Rattle.avm_items.specs.Locality.{LookAgrees, Extends};
 ghost use Rattle.avm_call.specs.AskedFor.{AreAskedFor};
 ghost use Rattle.avm_run.specs.Results.{IsResult, ResultOverMore, ResultOnLedgers};
 
+use crate::running::{Spare, keep_room};
 use avm_call::{Call, Outcome};
 use avm_items::ItemMap;
 use avm_ledger::Header;
@@ -103,8 +104,8 @@ impl Finished {
         &self.writes
     }
 
-    /// The same, with writes in a list without room for more, as [`ItemMap::without_room`] has it.
-    pub fn without_room(self, alloc: Global) -> Finished
+    /// The same, with lists that have no room for more. The room that they had is left for the next call.
+    pub(crate) fn fitted(self, alloc: Global, spare: &mut Option<Spare>) -> Finished
         ensures { result ≡ self }
     {
         let Finished {
@@ -114,27 +115,30 @@ impl Finished {
             writes,
             outcome,
         } = self;
+        let (reads, reads_room) = reads.fitted(alloc);
+        let (writes, writes_room) = writes.fitted(alloc);
+        keep_room(spare, reads_room, writes_room);
         Finished {
             call,
             header,
             reads,
-            writes: writes.without_room(alloc),
+            writes,
             outcome,
         }
     }
 
-    /// The items that it writes, without a copy.
-    pub fn into_writes(self) -> ItemMap
-        ensures { result ≡ self.writes }
+    /// The items that it was given and those that it writes, without a copy.
+    pub fn into_lists(self) -> (ItemMap, ItemMap)
+        ensures { (result.0 ≡ self.reads) × (result.1 ≡ self.writes) }
     {
         let Finished {
             call: _,
             header: _,
-            reads: _,
+            reads,
             writes,
             outcome: _,
         } = self;
-        writes
+        (reads, writes)
     }
 
     /// How the call ended.

@@ -12,9 +12,9 @@ use crate::context::RunContext;
 use crate::finished::Finished;
 use crate::full_ops::Executions;
 use crate::phase::{Phase, RunOutcome, run_on};
-use crate::running::Spare;
+use crate::running::{Spare, no_items};
 use avm_call::Call;
-use avm_items::{Item, ItemMap, ItemValue};
+use avm_items::{Item, ItemValue};
 use avm_ops::Op;
 use std::sync::ledger::Ledger;
 use teal_value::Failure;
@@ -30,7 +30,8 @@ pub trait Reader<S> {
 }
 
 /// Runs a call to its end over the items that a reader gives. Its program runs in the spare box, as that of a call on a ledger
-/// does. A run that is to stop between two items is a [`CallRun`](crate::CallRun).
+/// does, and what it reads and writes comes in lists without room for more: theirs is left for the next call. A run that is to
+/// stop between two items is a [`CallRun`](crate::CallRun).
 ///
 /// The instructions that are executed are counted, as by [`call_on`](crate::call_on).
 pub fn run_reading<L: Ledger, S: Drop, R: Reader<S>, O: Op>(
@@ -51,7 +52,8 @@ pub fn run_reading<L: Ledger, S: Drop, R: Reader<S>, O: Op>(
     let _fields = call.fields();
     let first = first_item(call);
     let value = reader.read(&first)?;
-    let mut phase = Phase::Tests(ItemMap::new(context.alloc)).supplied(first, value)?;
+    let items = no_items(context.alloc, spare);
+    let mut phase = Phase::Tests(items).supplied(first, value)?;
     loop {
         match run_on(context, call, phase, spare, executions)? {
             RunOutcome::Need(asking, item) => {
@@ -59,7 +61,8 @@ pub fn run_reading<L: Ledger, S: Drop, R: Reader<S>, O: Op>(
                 phase = asking.supplied(item, value)?;
             }
             RunOutcome::Done(closed) => {
-                return Ok(finished(call.clone()?, *context.header, closed));
+                let finished = finished(call.clone()?, *context.header, closed);
+                return Ok(finished.fitted(context.alloc, spare));
             }
         }
     }

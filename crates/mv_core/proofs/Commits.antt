@@ -35,7 +35,8 @@ use Rattle.mv_parts.proofs.Histories.{finished_calls_are_entries}
 use Rattle.mv_parts.proofs.SerialCalls.{items_have_an_equality}
 use Rattle.mv_shards.specs.Helds.{ShardSlots}
 use Rattle.mv_shards.specs.Writing.{AreWritten, NoneForeign, committed_versions, versions_for}
-use Rattle.mv_parts.specs.Commits.{IsOwnCall, late_after, late_or, lateness_in, lateness_of, moved_item, no_version}
+use Rattle.mv_parts.specs.Commits.{IsOwnCall, late_after, late_or, lateness_of}
+use Rattle.mv_shards.specs.TestedWrites.{lateness_in, moved_item, no_version}
 use Rattle.mv_parts.specs.Commits as parts
 use Rattle.mv_parts.proofs.Readers.{commit_mark, mark_after}
 use Rattle.mv_parts.specs.Agreeing.{AllAgree}

@@ -1,15 +1,14 @@
 -- What the tests of a commit find is what the entries say.
 use Rattle.std.proofs.Common.{◌≡◌, ◌≢◌, ℕ, suc, ◌<◌, ◌≤◌, ◌==◌, ◌&&◌, ◌||◌, Bool, true, false, nat_lt, if◌then◌else◌, List, [], ◌∷◌, Option, None, Some, get_or, refl, sym, ap, ◌∙◌, subst, arith}
-use Rattle.std.specs.Prelude.{IfSome, IsSome, is_some}
+use Rattle.std.specs.Prelude.{IfSome, IsSome, is_some, option_map}
 use Rattle.teal_value.specs.declared.failure.Failure.TheVariants.{Fault}
 use Rattle.std.specs.Map.{lookup}
 use Rattle.std.specs.List.{AllByRecursion}
 use Rattle.avm_ledger.specs.Ledgers.{Ledger}
 use Rattle.avm_items.specs.declared.item.Item.{Item}
 use Rattle.avm_items.specs.declared.item_value.ItemValue.{ItemValue}
-use Rattle.avm_items.specs.Items.{ItemMap, Look}
+use Rattle.avm_items.specs.Items.{ItemMap}
 use Rattle.avm_items.specs.LedgerItems.{at}
-use Rattle.avm_items.specs.SameValues.{is_same_value}
 use Rattle.avm_call.specs.declared.outcome.Outcome.{Outcome}
 use Rattle.mv_chain.specs.declared.chain.Late.{Late}
 use Rattle.mv_chain.specs.declared.chain.Version.{Version}
@@ -25,11 +24,15 @@ use Rattle.mv_history.proofs.Versions.{next_below}
 use Rattle.mv_shards.specs.Helds.{AreAtIndexes, AreHeld, IsHeld, ShardSlots, shard_for}
 use Rattle.mv_shards.specs.Indexes.{shard_of}
 use Rattle.mv_shards.specs.Shards.{Shard, versions_held}
-use Rattle.mv_shards.specs.Writing.{AreLow, IsLowAt, NoneForeign, has_timestamp, has_write_at, is_foreign, versions_for, versions_or_none}
+use Rattle.mv_shards.proofs.Foreign.{absent_all}
+use Rattle.mv_shards.proofs.PlacedTests.{moved_alike}
+use Rattle.mv_shards.specs.Writing.{AreLow, CanTake, IsLowAt, NoneForeign, has_timestamp, has_write_at, is_foreign, versions_for, versions_or_none}
 use Rattle.mv_parts.specs.Agreeing.{AllAgree, AreMarkedIn, ShardAgrees}
 use Rattle.mv_parts.specs.CallHistory.{CallAttempt, CallEntry, same_item}
 use Rattle.mv_parts.specs.declared.commit_fault.CommitFault.{CommitFault}
-use Rattle.mv_parts.specs.Commits.{IsForeign, late_after, late_or, late_write, lateness_by, lateness_in, lateness_of, later, moved_item, no_version, state_for, version_followed}
+use Rattle.mv_parts.specs.declared.commit_fault.CommitFault.TheVariants as fault
+use Rattle.mv_parts.specs.Commits.{AreCovered, IsForeign, IsWriteRefusal, MayWrite, late_after, late_or, late_write, lateness_by, lateness_of, later, state_for, version_followed}
+use Rattle.mv_shards.specs.TestedWrites.{IsTestedWrite, first_late, late_else, lateness_in, moved_item, no_version, values_to}
 use Rattle.mv_parts.specs.CommitTests.{IsOpenAt, lateness_below}
 use Rattle.mv_parts.specs.Journals.{IsConsistentJournal, IsLive, IsOfNumber, Journal, greatest_reader, has_read, version_read}
 use Rattle.mv_parts.proofs.HeldVersions.{has_contained}
@@ -62,11 +65,20 @@ pub late_below : (base : Ledger) (es : List CallEntry) (held : ShardSlots) (t : 
 late_below base es held t writes unused =
     ap (λ late. late_write late writes) (λ i x. later (late_after t (sym (followed_below base es t x unused) i).0 (greatest_reader base es x (sym (followed_below base es t x unused) i).0)) (lateness_in held t x))
 
--- ---- by shards that agree
+-- ---- the least write that is late
 
-moved_alike : (look other : Look) (reads : ItemMap) → AllByRecursion (λ r. look r.0 ≡ other r.0) reads → moved_item look reads ≡ moved_item other reads
-moved_alike look other [] alike = refl
-moved_alike look other (r ∷ rs) alike = λ i. if is_same_value (alike.0 i) r.1 then moved_alike look other rs alike.1 i else Some r.0
+abbrev pub fault_of : Item × Late → CommitFault
+fault_of found = fault.Late found.0 found.1.version found.1.mark
+
+pub late_found : (late : Item → Option Late) (writes : ItemMap) → late_write late writes ≡ option_map fault_of (first_late late writes)
+late_found late [] = refl
+late_found late (w ∷ ws) = by (late w.0) (late_found late ws)
+  where
+    by : (o : Option Late) → late_write late ws ≡ option_map fault_of (first_late late ws) → late_or w.0 o (late_write late ws) ≡ option_map fault_of (late_else w.0 o (first_late late ws))
+    by None rest = rest
+    by (Some l) rest = refl
+
+-- ---- by shards that agree
 
 late_alike : (late other : Item → Option Late) (writes : ItemMap) → AllByRecursion (λ w. late w.0 ≡ other w.0) writes → late_write late writes ≡ late_write other writes
 late_alike late other [] alike = refl
@@ -216,3 +228,32 @@ module _ (j : Journal) (held : ShardSlots) (agree : AllAgree j held) (at_index :
           low : (b : Bool) → Compared t s.low b → (b || has_write_at i t writes s) ≡ false
           low b (less above) = let same : s.low ≡ j.world.low = k.low in absurd (omega (arith, above, same, open_here.above))
           low b (not_less below) = unwritten s (at_index i s is) k writes
+
+  -- the shards take what a commit has read and writes
+  pub takes_agreeing : IsRising 0 es → (reads writes : ItemMap) → AreCovered held reads writes → CanTake t held reads writes
+  takes_agreeing rising reads writes covers = record {
+    reads_held = covers.reads_held;
+    writes_held = covers.writes_held;
+    low = low_held;
+    absent = absent_all t writes held (none_foreign rising writes) covers.writes_held;
+  }
+
+  -- what was written to them might be
+  pub may_write : IsRising 0 es → (reads writes : ItemMap) (after : ShardSlots) → AreCovered held reads writes → IsTestedWrite t reads writes held after → MayWrite j held t reads writes
+  may_write rising reads writes after covers written = record {
+    unmoved = sym (moved_same reads covers.reads_held) ∙ written.unmoved;
+    none_foreign = none_foreign rising writes;
+    in_time = sym (late_same writes covers.writes_held) ∙ late_found (lateness_in held t) writes ∙ ap (option_map fault_of) written.in_time;
+  }
+
+  -- what was moved or late there refuses the writes
+  pub refused_moved : (reads writes : ItemMap) (x : Item) → AreCovered held reads writes → moved_item (values_to held t) reads ≡ Some x → IsWriteRefusal j held t reads writes (fault.Moved x)
+  refused_moved reads writes x covers moved = sym (moved_same reads covers.reads_held) ∙ moved
+
+  pub refused_late : IsRising 0 es → (reads writes : ItemMap) (x : Item) (late : Late) → AreCovered held reads writes → moved_item (values_to held t) reads ≡ None → first_late (lateness_in held t) writes ≡ Some (x, late)
+      → IsWriteRefusal j held t reads writes (fault_of (x, late))
+  refused_late rising reads writes x late covers unmoved found = (
+    sym (moved_same reads covers.reads_held) ∙ unmoved,
+    none_foreign rising writes,
+    sym (late_same writes covers.writes_held) ∙ late_found (lateness_in held t) writes ∙ ap (option_map fault_of) found,
+  )

@@ -10,7 +10,8 @@ use Rattle.mv_chain.specs.declared.chain.Late.{Late as LateVersion}
 use Rattle.mv_history.specs.History.{version_below}
 use Rattle.mv_shards.specs.Helds.{ShardSlots}
 use Rattle.mv_parts.specs.CallHistory.{CallEntry, same_item}
-use Rattle.mv_parts.specs.Commits.{late_after, lateness_in, later}
+use Rattle.mv_parts.specs.Commits.{late_after, later}
+use Rattle.mv_shards.specs.TestedWrites.{lateness_in}
 use Rattle.mv_parts.specs.Journals.{Journal, greatest_reader}
 
 -- Timestamps are positive. No entry has this one, and the low mark is not above it.

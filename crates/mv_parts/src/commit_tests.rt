@@ -6,7 +6,8 @@ ghost use Rattle.mv_chain.specs.Versions.{newest_at};
 ghost use Rattle.mv_parts.specs.CallNumbers.{call_of};
 ghost use Rattle.mv_shards.specs.Helds.{AreHeld};
 ghost use Rattle.mv_shards.specs.Writing.{AreLow, versions_for};
-ghost use Rattle.mv_parts.specs.Commits.{IsOwnCall, late_or, late_write, lateness_in, moved_item, no_version};
+ghost use Rattle.mv_parts.specs.Commits.{IsOwnCall, late_or, late_write};
+ghost use Rattle.mv_shards.specs.TestedWrites.{lateness_in, moved_item, no_version};
 
 use crate::commit_fault::CommitFault;
 use avm_call::Call;

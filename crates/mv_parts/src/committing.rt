@@ -1,14 +1,15 @@
 //! What a commit writes.
 
-ghost use Rattle.std.specs.Prelude.{◌≡◌, ◌-◌, ◌<◌, OnErr, OnOk, vec_capacity, vec_len};
+ghost use Rattle.std.specs.Prelude.{◌≡◌, ◌-◌, ◌<◌, IfErr, OnErr, OnOk, vec_capacity, vec_len};
 ghost use Rattle.mv_history.specs.History.{IsRising, entries_with};
 ghost use Rattle.mv_parts.specs.CallLaws.{entry_of as entry_at};
+ghost use Rattle.mv_shards.specs.TestedWrites.{IsTestedWrite, IsUnwritten};
 ghost use Rattle.mv_shards.specs.Writing.{AreWritten, CanTake};
 ghost use Rattle.mv_history.specs.Settled.{entries_not_above};
 
 use crate::entry::Entry;
 use avm_run::Finished;
-use mv_shards::{Attempt, Held};
+use mv_shards::{Attempt, Held, WriteError};
 use std::alloc::{AllocError, Global};
 
 /// Makes room for an entry, and writes to the shards that are held.
@@ -29,19 +30,40 @@ pub(crate) fn write_all(
     held.write(attempt.reads(), finished.writes(), attempt.timestamp())
 }
 
-/// The entry of an attempt's own call. Entries stay to the end of the block, so its lists have no room for more.
-pub(crate) fn entry_of(alloc: Global, attempt: Attempt, finished: Finished) -> Entry
-    requires own { finished.reads ≡ attempt.reads }
-    ensures { result ≡ entry_at attempt.timestamp attempt.number finished }
+/// Makes room for an entry, and writes to the shards that are held what passes their tests.
+pub(crate) fn write_tested(
+    entries: &mut Vec<Entry>,
+    held: &mut Held,
+    finished: &Finished,
+    timestamp: u64,
+) -> Result<(), WriteError>
+    requires takes { CanTake timestamp held.old finished.now.reads finished.now.writes }
+    requires positive { 0 < timestamp }
+    ensures entries { entries.new.items ≡ entries.old.items }
+    ensures room { OnOk result (0 < vec_capacity entries.new - vec_len entries.new) }
+    ensures written { OnOk result (IsTestedWrite timestamp
+        finished.now.reads finished.now.writes held.old held.new) }
+    ensures refused { IfErr result
+        (IsUnwritten timestamp finished.now.reads finished.now.writes held.old) }
+    ensures unchanged { OnErr result (held.new ≡ held.old) }
 {
-    let (timestamp, number) = (attempt.timestamp(), attempt.number());
+    entries.reserve(1)?;
+    held.write_tested(finished.reads(), finished.writes(), timestamp)
+}
+
+/// The entry of a finished call, at an attempt's timestamp. Entries stay to the end of the block, so its lists have no room for
+/// more.
+pub(crate) fn entry_of(alloc: Global, attempt: &Attempt, finished: Finished) -> Entry
+    ensures { result ≡ entry_at attempt.now.timestamp attempt.now.number finished }
+{
     let outcome = finished.outcome();
+    let (reads, writes) = finished.into_lists();
     Entry {
-        timestamp,
-        number,
+        timestamp: attempt.timestamp(),
+        number: attempt.number(),
         outcome,
-        reads: attempt.into_reads().without_room(alloc).into_vec(),
-        writes: finished.into_writes().without_room(alloc).into_vec(),
+        reads: reads.without_room(alloc).into_vec(),
+        writes: writes.without_room(alloc).into_vec(),
     }
 }
 

@@ -8,7 +8,8 @@ ghost use Rattle.mv_history.specs.History.{state_below, version_below as version
 ghost use Rattle.mv_shards.specs.Helds.{AreHeld, IsHeld};
 ghost use Rattle.mv_shards.specs.Writing.{AreLow};
 ghost use Rattle.mv_parts.specs.CallHistory.{same_item};
-ghost use Rattle.mv_parts.specs.Commits.{late_write, later as later_of, moved_item};
+ghost use Rattle.mv_parts.specs.Commits.{late_write, later as later_of};
+ghost use Rattle.mv_shards.specs.TestedWrites.{moved_item};
 ghost use Rattle.mv_parts.specs.CommitTests.{lateness_below, lateness_by_readers, written_below as written_of};
 ghost use Rattle.mv_parts.specs.Journals.{greatest_reader as greatest_of, has_read as is_reader};
 

@@ -9,8 +9,9 @@ ghost use Rattle.mv_parts.specs.CallNumbers.{call_of};
 ghost use Rattle.mv_parts.specs.SerialCalls.{AreOfCalls, AreSerialCalls};
 ghost use Rattle.mv_shards.specs.Helds.{ArePruned};
 ghost use Rattle.teal_value.specs.declared.failure.Failure.TheVariants.{Fault, Memory};
-ghost use Rattle.mv_parts.specs.Commits.{AreCovered, IsCommitRefusal, IsCommitted, IsForeign, IsOwnCall, IsTestRefusal, IsWriteRefusal, MayCommit, MayWrite};
+ghost use Rattle.mv_parts.specs.Commits.{AreCovered, IsCommitRefusal, IsCommitted, IsForeign, IsOwnCall, IsTestRefusal, IsWriteError, IsWriteRefusal, MayCommit, MayWrite, reading};
 ghost use Rattle.mv_parts.specs.CommitTests.{IsOpenAt};
+ghost use Rattle.mv_shards.specs.TestedWrites.{IsUnwritten};
 ghost use Rattle.mv_parts.specs.Agreeing.{AllAgree};
 ghost use Rattle.mv_parts.specs.Journals.{AreLiveCalls, IsBeginRefusal, IsConsistentJournal, IsLive, begin_fault};
 ghost use Rattle.avm_block.specs.CallsFaults.{calls_fault};
@@ -18,9 +19,9 @@ ghost use Rattle.avm_block.specs.CallsFaults.{calls_fault};
 use crate::base::SharedBase;
 use crate::begin_fault::{BeginError, BeginFault};
 use crate::call_state::CallState;
-use crate::commit_fault::{CommitFault, RefusedCommit};
-use crate::commit_tests::{is_own_call, late, moved};
-use crate::committing::{entry_of, index_of, insert_entry, write_all};
+use crate::commit_fault::{CommitError, CommitFault, RefusedCommit};
+use crate::commit_tests::{is_own_call, late, late_fault, moved};
+use crate::committing::{entry_of, index_of, insert_entry, write_all, write_tested};
 use crate::entry::Entry;
 use crate::entry_tests::{late_by_entries, moved_by_entries};
 use crate::live::LiveCalls;
@@ -29,7 +30,7 @@ use avm_call::Call;
 use avm_items::ItemMap;
 use avm_ledger::{Header, Ledger};
 use avm_run::Finished;
-use mv_shards::{Attempt, Held};
+use mv_shards::{Attempt, Held, WriteError, WriteFault};
 use std::alloc::Global;
 use std::marker::Model;
 use std::sync::Arc;
@@ -233,14 +234,102 @@ impl Journal {
             × (refused.finished ≡ finished)) }
         ensures unchanged { OnErr result ((self.new ≡ self.old) × (held.new ≡ held.old)) }
     {
-        if let Some(fault) = self.agreeing_fault(held, &attempt, &finished) {
+        if let Some(fault) = self.own_fault(&attempt, &finished) {
             return Err(RefusedCommit {
                 error: Failure::Fault(fault),
                 attempt,
                 finished,
             });
         }
-        self.write(held, attempt, finished)
+        self.commit_own(held, attempt, finished)
+    }
+
+    /// The same, where the call is known to be the attempt's own if what the attempt has read is what the call was given. So
+    /// the call's list of reads serves, and the attempt's is not asked.
+    pub fn commit_own(
+        &mut self,
+        held: &mut Held,
+        attempt: Attempt,
+        finished: Finished,
+    ) -> Result<u64, RefusedCommit>
+        requires covers { AreCovered held.old finished.reads finished.writes }
+        requires agree { AllAgree self.old held.old }
+        requires own { IsOwnCall self.old.calls
+            self.old.header (reading attempt finished) finished }
+        ensures committed { IfOk result (λ timestamp. (timestamp ≡ attempt.timestamp)
+            × MayCommit self.old held.old (reading attempt finished) finished
+            × IsCommitted self.old self.new held.old held.new (reading attempt finished) finished) }
+        ensures refused { IfErr result (λ refused. IsCommitRefusal
+            self.old held.old (reading attempt finished) finished refused.error) }
+        ensures none_foreign { IfErr result (λ refused. IsForeign refused.error → ⊥) }
+        ensures back { IfErr result (λ refused. (refused.attempt ≡ attempt)
+            × (refused.finished ≡ finished)) }
+        ensures unchanged { OnErr result ((self.new ≡ self.old) × (held.new ≡ held.old)) }
+    {
+        if !self.is_live(&attempt) {
+            return Err(RefusedCommit {
+                error: Failure::Fault(CommitFault::Unknown),
+                attempt,
+                finished,
+            });
+        }
+        let timestamp = attempt.timestamp();
+        self.holds();
+        held.holds();
+        // What a finished call keeps, and the order of the live calls, as their readers say.
+        finished.holds();
+        let _first = self.live.first();
+        match write_tested(&mut self.entries, held, &finished, timestamp) {
+            Ok(()) => {
+                self.live.remove(timestamp);
+                self.states[attempt.number() as usize - 1] = CallState::Committed;
+                insert_entry(&mut self.entries, entry_of(self.alloc, &attempt, finished));
+                Ok(timestamp)
+            }
+            Err(error) => Err(RefusedCommit {
+                error: self.write_error(
+                    held,
+                    finished.reads(),
+                    finished.writes(),
+                    timestamp,
+                    error,
+                ),
+                attempt,
+                finished,
+            }),
+        }
+    }
+
+    /// Why it is not written to shards that agree. Where memory ran out, the tests may not have been made.
+    fn write_error(
+        &self,
+        held: &Held,
+        reads: &ItemMap,
+        writes: &ItemMap,
+        timestamp: u64,
+        error: WriteError,
+    ) -> CommitError
+        requires covers { AreCovered held.now reads.now writes.now }
+        requires agree { AllAgree self.now held.now }
+        requires open { IsOpenAt self.now timestamp }
+        requires error { IsUnwritten timestamp reads.now writes.now held.now error }
+        ensures error { IsWriteError self.now held.now timestamp reads.now writes.now result }
+        ensures not_foreign { IsForeign result → ⊥ }
+    {
+        self.holds();
+        held.holds();
+        match error {
+            Failure::Fault(WriteFault::Moved(item)) => Failure::Fault(CommitFault::Moved { item }),
+            Failure::Fault(WriteFault::Late(item, late)) => {
+                Failure::Fault(late_fault(&item, late))
+            }
+            Failure::Memory => {
+                match self.agreeing_write_fault(held, reads, writes, timestamp) {
+                    Some(fault) => Failure::Fault(fault),
+                    None => Failure::Memory,
+                }
+            }
+        }
     }
 
     /// Why an attempt does not commit whatever it read and its call wrote: it is not live, or the call is not its own.
@@ -277,31 +366,6 @@ impl Journal {
         match self.own_fault(attempt, finished) {
             Some(fault) => Some(fault),
             None => self.write_fault(
-                held,
-                attempt.reads(),
-                finished.writes(),
-                attempt.timestamp(),
-            ),
-        }
-    }
-
-    /// Why an attempt does not commit, other than that memory ran out, by shards that agree with the journal.
-    fn agreeing_fault(
-        &self,
-        held: &Held,
-        attempt: &Attempt,
-        finished: &Finished,
-    ) -> Option<CommitFault>
-        requires covers { AreCovered held.now attempt.now.reads finished.now.writes }
-        requires agree { AllAgree self.now held.now }
-        ensures some { IfSome result (IsTestRefusal self.now held.now attempt.now finished.now) }
-        ensures not_foreign { IfSome result (λ fault. IsForeign (Fault fault) → ⊥) }
-        ensures none { IfNone result (MayCommit self.now held.now attempt.now finished.now) }
-    {
-        self.holds();
-        match self.own_fault(attempt, finished) {
-            Some(fault) => Some(fault),
-            None => self.agreeing_write_fault(
                 held,
                 attempt.reads(),
                 finished.writes(),
@@ -381,7 +445,7 @@ impl Journal {
             Ok(()) => {
                 self.live.remove(timestamp);
                 self.states[attempt.number() as usize - 1] = CallState::Committed;
-                insert_entry(&mut self.entries, entry_of(self.alloc, attempt, finished));
+                insert_entry(&mut self.entries, entry_of(self.alloc, &attempt, finished));
                 Ok(timestamp)
             }
             Err(_) => Err(RefusedCommit {

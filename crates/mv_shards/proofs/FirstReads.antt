@@ -8,15 +8,15 @@ use Rattle.avm_ledger.specs.Ledgers.{Ledger}
 use Rattle.avm_states.proofs.Maps.{same_map, sorted-inserted}
 use Rattle.avm_items.specs.declared.item.Item.{Item}
 use Rattle.avm_items.specs.declared.item_value.ItemValue.{ItemValue}
-use Rattle.avm_items.specs.Items.{item_cmp, value_in}
+use Rattle.avm_items.specs.Items.{item_cmp, value_in, with_item}
 use Rattle.avm_items.specs.LedgerItems.{at}
 use Rattle.avm_items.proofs.Puts.{item_same, item_total}
 use Rattle.mv_chain.specs.declared.chain.Version.{Version}
 use Rattle.mv_chain.specs.Versions.{newest_at, oldest_timestamp, versions_read_at}
 use Rattle.mv_shards.specs.Attempts.{CallAttempt}
 use Rattle.mv_shards.specs.Chains.{versions_in, versions_or, with_versions}
-use Rattle.mv_shards.specs.KeptChains.{AreChains, ChainMap, IsReadable, IsReadableAt, chain_in, is_untouched, list_or, number_in, touched, versions_of}
-use Rattle.mv_shards.specs.Shards.{IsFirstRead, Shard}
+use Rattle.mv_shards.specs.KeptChains.{AreChains, ChainMap, IsReadable, IsReadableAt, chain_in, is_untouched, list_or, number_in, one_marked, touched, versions_of}
+use Rattle.mv_shards.specs.Shards.{IsFirstRead, IsReadAt, Shard}
 use Rattle.mv_shards.specs.KeptShards.{IsMarkedRead}
 use Rattle.mv_shards.proofs.Touched.{found_inserted, found_touched, marked_touched, sorted_touched, touched_or}
 use Rattle.mv_shards.proofs.Numbers.{numbered_there}
@@ -61,6 +61,18 @@ first_read_seen index low base map new before after x v above in_time first k n 
       marks = ap (λ cs. record { index = index; low = low; base = base; chains = cs })
           (touched_with (at base) low map new x (versions_read_at t (versions_of (at base) map x)) k n (marked_touched t (versions_of (at base) map x) above (k.chains x)) read.marked ∙ ap (λ vs. with_versions (touched map) x (versions_read_at t vs)) (sym found));
     }
+
+-- so is a read at a timestamp, for each attempt there that has not read the item
+pub read_seen : (index low t : ℕ) (base : Ledger) (map new : ChainMap ItemValue) (x : Item) (v : ItemValue) → 0 < t → low ≤ t → AreChains (at base) low map → AreChains (at base) low new
+    → ((d : Version ItemValue) → v ≡ (newest_at t (versions_of (at base) map x) d).value) → ((y : Item) → versions_of (at base) new y ≡ one_marked t x (versions_of (at base) map) y)
+    → IsReadAt t (seen_as index low base map) (seen_as index low base new) x v
+read_seen index low t base map new x v above in_time k n value marked a at_t first =
+    first_read_seen index low base map new a (record a { reads = with_item a.reads x v }) x v (subst (λ m. 0 < m) (sym at_t) above) (subst (λ m. low ≤ m) (sym at_t) in_time) first k n
+    (record {
+      value = λ d. value d ∙ ap (λ m. (newest_at m (versions_of (at base) map x) d).value) (sym at_t);
+      marked = λ y. marked y ∙ ap (λ m. one_marked m x (versions_of (at base) map) y) (sym at_t);
+      joins = refl;
+    })
 
 -- where what is seen of the chains stays the same, what is seen of the shard stays the same
 pub refused_seen : (index low : ℕ) (base : Ledger) (map new : ChainMap ItemValue) → touched new ≡ touched map → seen_as index low base new ≡ seen_as index low base map

@@ -61,17 +61,6 @@ impl Attempt {
         &self.reads
     }
 
-    /// The same, with what it has read in a list without room for more, as [`ItemMap::without_room`] has it.
-    pub fn without_room(self, alloc: Global) -> Attempt
-        ensures { result ≡ self }
-    {
-        Attempt {
-            number: self.number,
-            timestamp: self.timestamp,
-            reads: self.reads.without_room(alloc),
-        }
-    }
-
     /// What it has read, without a copy.
     pub fn into_reads(self) -> ItemMap
         ensures { result ≡ self.reads }

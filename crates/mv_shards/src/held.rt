@@ -9,6 +9,7 @@ ghost use Rattle.mv_shards.specs.Helds.{AreAtIndexes, AreFree, AreHeld, IsHeld, 
 ghost use Rattle.mv_shards.specs.KeptHelds.{AreInSlots, AreFreeFrom, IsEnd, IsShardStateOrNone, seen_all, seen_or_none};
 ghost use Rattle.avm_items.specs.SameValues.{is_same_value};
 ghost use Rattle.mv_shards.specs.Writing.{AreLow, AreWritten, CanTake, IsFirstForeign, IsLowAt, NoneForeign, versions_for};
+ghost use Rattle.mv_shards.specs.TestedWrites.{IsTestedWrite, IsUnwritten};
 ghost use Rattle.mv_shards.specs.SlotWriting.{IsAbove, IsLeastWith, has_timestamp_in};
 ghost use Rattle.mv_chain.specs.Versions.{lateness, newest_at};
 
@@ -18,7 +19,8 @@ use crate::index::{SHARD_COUNT, shard_of};
 use crate::read_fault::ReadError;
 use crate::shard::Shard;
 use crate::shard_state::{ShardState, has_value, has_version, late, prune, read, version_count};
-use crate::writing::write_parts;
+use crate::write_fault::WriteError;
+use crate::writing::{write_parts, write_tested_parts};
 use avm_items::{Item, ItemMap, ItemValue};
 use mv_chain::Late;
 use std::alloc::{AllocError, Global};
@@ -223,6 +225,24 @@ impl Held {
         ensures unchanged { OnErr result (self.new ≡ self.old) }
     {
         write_parts(&mut self.scratch, &mut self.parts, reads, writes, timestamp)
+    }
+
+    /// Writes a commit, as [`Held::write`] does, unless it fails a test: that no item has another value here than it was read
+    /// with, and that no write is late. Memory may run out before the tests.
+    pub fn write_tested(
+        &mut self,
+        reads: &ItemMap,
+        writes: &ItemMap,
+        timestamp: u64,
+    ) -> Result<(), WriteError>
+        requires held { CanTake timestamp self.old reads.now writes.now }
+        requires positive { 0 < timestamp }
+        ensures written { OnOk result
+            (IsTestedWrite timestamp reads.now writes.now self.old self.new) }
+        ensures refused { IfErr result (IsUnwritten timestamp reads.now writes.now self.old) }
+        ensures unchanged { OnErr result (self.new ≡ self.old) }
+    {
+        write_tested_parts(&mut self.scratch, &mut self.parts, reads, writes, timestamp)
     }
 }
 

@@ -14,10 +14,12 @@ mod held;
 mod index;
 mod notes;
 mod number_maps;
+mod placed_tests;
 mod read_fault;
 mod shard;
 mod shard_state;
 mod slot;
+mod write_fault;
 mod writing;
 
 pub use attempt::Attempt;
@@ -25,3 +27,4 @@ pub use held::Held;
 pub use index::{SHARD_COUNT, shard_of};
 pub use read_fault::{ReadError, ReadFault};
 pub use shard::Shard;
+pub use write_fault::{WriteError, WriteFault};

@@ -9,7 +9,7 @@ ghost use Rattle.mv_chain.specs.Versions.{lateness, newest_at, oldest_timestamp}
 ghost use Rattle.mv_shards.specs.declared.read_fault.ReadFault.TheVariants.{Pruned};
 ghost use Rattle.mv_shards.specs.KeptChains.{AreChains, IsGrown, IsMarked, IsReadableAt, IsRoomier, number_in, versions_of};
 ghost use Rattle.mv_shards.specs.Writing.{has_timestamp};
-ghost use Rattle.mv_shards.specs.Shards.{IsFirstRead, IsPruned, IsPrunedShard, IsReadAgain, versions_held};
+ghost use Rattle.mv_shards.specs.Shards.{IsFirstRead, IsPruned, IsPrunedShard, IsReadAgain, IsReadAt, versions_held};
 ghost use Rattle.mv_shards.specs.KeptShards.{IsMarkedRead, IsNewestValue, IsShardState, shard_shown};
 
 use crate::attempt::Attempt;
@@ -87,6 +87,28 @@ fn first_read(
     let value = value_at(chains, number, attempt.timestamp)?;
     attempt.reads.insert(item, value.clone()?)?;
     Ok(marked(chains, number, attempt.timestamp, value))
+}
+
+/// Reads an item at a timestamp, and marks the version that is found.
+pub(crate) fn read_at(
+    part: &mut ShardState,
+    timestamp: u64,
+    item: &Item,
+) -> Result<ItemValue, ReadError>
+    requires part { IsShardState part.old }
+    requires positive { 0 < timestamp }
+    ensures kept { IsShardState part.new }
+    ensures ok { IfOk result
+        (IsReadAt timestamp (shard_shown part.old) (shard_shown part.new) item.now) }
+    ensures part { OnErr result (shard_shown part.new ≡ shard_shown part.old) }
+    ensures pruned { IsErrOf result (Fault Pruned) ↔ timestamp < part.old.low }
+{
+    if timestamp < part.low {
+        return Err(Failure::Fault(ReadFault::Pruned));
+    }
+    let number = part.chains.find_or_make(part.alloc, &part.base, item)?;
+    let value = value_at(&part.chains, number, timestamp)?;
+    Ok(marked(&mut part.chains, number, timestamp, value))
 }
 
 /// Reads an item at the attempt's timestamp, and marks the version that is found. An item that the attempt has read gives

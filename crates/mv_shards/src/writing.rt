@@ -1,17 +1,21 @@
 //! What a commit marks and writes in the shards that are held, where room was made for it.
 
-ghost use Rattle.std.specs.Prelude.{◌≡◌, ◌<◌, ◌≢◌, OnErr, OnOk};
+ghost use Rattle.std.specs.Prelude.{◌≡◌, ◌<◌, ◌≢◌, IfErr, OnErr, OnOk};
 ghost use Rattle.std.specs.List.{AllByRecursion};
 ghost use Rattle.mv_shards.specs.SlotWriting.{AreGrown, AreInstalledAt, AreMarkedAt, ArePlaced, AreReadableRefs, AreReadyPlaced, AreChainRefs, AreWrittenSlots, IsInstalledItem, IsMarkedItem, IsReadableRef, IsChainRef, TakesVersionThere, chains_at, chains_for, first_at};
 ghost use Rattle.mv_shards.specs.KeptChains.{AreChains, versions_of};
 ghost use Rattle.mv_shards.specs.KeptHelds.{IsHeldIn};
 ghost use Rattle.mv_shards.specs.Indexes.{shard_of as shard_index};
+ghost use Rattle.mv_shards.specs.PlacedTests.{IsTestedPlaced, IsUnplaced};
 
 use crate::chain_ref::ChainRef;
 use crate::commit_scratch::{CommitScratch, StateSlots, make_room};
+use crate::placed_tests::{late, moved};
+use crate::write_fault::{WriteError, WriteFault};
 use avm_items::{ItemMap, ItemValue};
 use std::alloc::AllocError;
 use std::mem;
+use teal_value::Failure;
 
 /// Notes that the newest version not above a timestamp was read at it, in the chain that stands there.
 fn mark_at(parts: &mut StateSlots, spot: ChainRef, timestamp: u64)
@@ -91,6 +95,38 @@ pub(crate) fn write_parts(
     ensures grown { OnErr result (AreGrown parts.old parts.new) }
 {
     make_room(scratch, parts, reads, writes)?;
+    mark_all(parts, &scratch.reads, timestamp);
+    install_all(parts, &mut scratch.writes, timestamp);
+    Ok(())
+}
+
+/// The same, where a test of these reads and writes that fails refuses it. The chains are found once, for the tests too.
+pub(crate) fn write_tested_parts(
+    scratch: &mut CommitScratch,
+    parts: &mut StateSlots,
+    reads: &ItemMap,
+    writes: &ItemMap,
+    timestamp: u64,
+) -> Result<(), WriteError>
+    requires reads { AllByRecursion (λ e. IsHeldIn parts.old e.0) reads.now }
+    requires writes { AllByRecursion (λ e. IsHeldIn parts.old e.0) writes.now }
+    requires chains { (i : _) → AreChains (first_at parts.old i) timestamp (chains_at parts.old i) }
+    requires absent { AllByRecursion (λ e.
+        AllByRecursion (λ v. v.timestamp ≢ timestamp) (versions_of (first_at parts.old
+        (shard_index e.0)) (chains_for parts.old e.0) e.0)) writes.now }
+    requires positive { 0 < timestamp }
+    ensures written { OnOk result (IsTestedPlaced timestamp reads.now writes.now parts.old
+        parts.new) }
+    ensures refused { IfErr result (IsUnplaced timestamp reads.now writes.now parts.old) }
+    ensures grown { OnErr result (AreGrown parts.old parts.new) }
+{
+    make_room(scratch, parts, reads, writes)?;
+    if let Some(item) = moved(parts, &scratch.reads, reads, timestamp) {
+        return Err(Failure::Fault(WriteFault::Moved(item)));
+    }
+    if let Some((item, late)) = late(parts, &scratch.writes, writes, timestamp) {
+        return Err(Failure::Fault(WriteFault::Late(item, late)));
+    }
     mark_all(parts, &scratch.reads, timestamp);
     install_all(parts, &mut scratch.writes, timestamp);
     Ok(())

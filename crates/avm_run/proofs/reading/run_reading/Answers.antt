@@ -4,6 +4,7 @@ use Rattle.avm_items.specs.Items.{ItemMap, value_in}
 use Rattle.avm_items.specs.Asks.{answer_from}
 use Rattle.avm_call.specs.AskedFor.{AreAskedFor}
 use Rattle.avm_call.specs.Calls.{call_result}
+use Rattle.avm_run.specs.Results.{CallRecord}
 use Rattle.avm_run.specs.ExecutedSteps.{ExecutesOnce}
 use Rattle.avm_run.specs.Progress.{reads_of}
 use Rattle.avm_run.proofs.Executing.{if_err, refused_ended}
@@ -14,7 +15,7 @@ use Rattle.avm_run.proofs.reading.run_reading.Goals as goal
 pub loop-asking-init : goal.loop-asking-init
 loop-asking-init g c =
     let first = c.first_item-first in
-    let given = first_supplied c.args.call.now c.args.context.now.header.now c.new.result c.in_ok-phase.phase first.result c.in_ok-value.value c.args.executions.now c.new.ensures c.fields-fields.ensures.checked (first.ensures c.args.context.now.header.now) c.supplied.ensures.programs c.in_ok-phase.ensures.supplied in
+    let given = first_supplied c.args.call.now c.args.context.now.header.now c.no_items-items.result c.in_ok-phase.phase first.result c.in_ok-value.value c.args.executions.now c.no_items-items.ensures c.fields-fields.ensures.checked (first.ensures c.args.context.now.header.now) c.supplied.ensures.programs c.in_ok-phase.ensures.supplied in
     record { under_way = given.under_way; kept = c.read.ensures }
 
 pub loop-asking-smaller : goal.loop-asking-smaller
@@ -27,14 +28,14 @@ loop-asking-preserved g c =
     let given = next_supplied c.args.call.now c.args.context.now.header.now c.loop-asking.phase c.in-Need.asking c.in_ok-phase-in-Need.phase c.in-Need.item c.in_ok-value-in-Need.value _ _ _ c.loop-asking.invariant.under_way (rw c.in-Need.is at c.in_ok-asking.ensures.runs) (rw c.in-Need.is at c.in_ok-asking.ensures.executes) c.supplied-in-Need.ensures.programs c.in_ok-phase-in-Need.ensures.supplied in
     record { under_way = given.under_way; kept = c.read-in-Need.ensures ∙ c.loop-asking.invariant.kept }
 
-pub finished-requires-clause-result : goal.finished-requires-clause-result
-finished-requires-clause-result g c =
+pub finished-finished-requires-clause-result : goal.finished-finished-requires-clause-result
+finished-finished-requires-clause-result g c =
     let closed = c.in-Done.closed in
     subst (λ (call : CallData). answer_from (value_in closed.reads) (call_result call c.args.context.now.header.now) ≡ Ok (closed.outcome, closed.writes)) (sym c.in_ok-clone-in-Done.ensures)
     (ends_over_reads c.args.call.now c.args.context.now.header.now (reads_of c.loop-asking.phase) closed (rw c.in-Done.is at c.in_ok-asking.ensures.runs).run)
 
-pub finished-requires-clause-asked : goal.finished-requires-clause-asked
-finished-requires-clause-asked g c =
+pub finished-finished-requires-clause-asked : goal.finished-finished-requires-clause-asked
+finished-finished-requires-clause-asked g c =
     let closed = c.in-Done.closed in
     subst (λ (call : CallData). AreAskedFor closed.reads call c.args.context.now.header.now) (sym c.in_ok-clone-in-Done.ensures)
     (asked_by_end c.args.call.now c.args.context.now.header.now (reads_of c.loop-asking.phase) closed c.loop-asking.invariant.under_way.alive.few (rw c.in-Done.is at c.in_ok-asking.ensures.runs).run)
@@ -65,5 +66,7 @@ returns-in-Done-clause-executes g c =
     let items = reads_of c.loop-asking.phase in
     let ends = (rw c.in-Done.is at c.in_ok-asking.ensures.runs).run in
     let once = executed_once call header c.loop-asking.phase _ before _ after c.loop-asking.invariant.under_way (rw c.in-Done.is at c.in_ok-asking.ensures.executes) in
-    subst (λ (reads : ItemMap). ExecutesOnce call header reads c.finished.result.outcome before after) (sym (c.finished.ensures.same.2 ∙ ends.same_reads))
-    (subst (λ o. ExecutesOnce call header items o before after) (sym c.finished.ensures.outcome) once)
+    let made = c.finished-finished in
+    subst (λ (f : CallRecord). ExecutesOnce call header f.reads f.outcome before after) (sym c.fitted.ensures)
+    (subst (λ (reads : ItemMap). ExecutesOnce call header reads made.result.outcome before after) (sym (made.ensures.same.2 ∙ ends.same_reads))
+    (subst (λ o. ExecutesOnce call header items o before after) (sym made.ensures.outcome) once))

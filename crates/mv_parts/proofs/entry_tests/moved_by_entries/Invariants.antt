@@ -2,7 +2,7 @@ use Rattle.std.specs.Prelude.{◌≡◌, drop}
 use Rattle.avm_items.specs.LedgerItems.{at}
 use Rattle.mv_history.specs.History.{state_below}
 use Rattle.mv_parts.specs.CallHistory.{same_item}
-use Rattle.mv_parts.specs.Commits.{moved_item}
+use Rattle.mv_shards.specs.TestedWrites.{moved_item}
 use Rattle.mv_parts.proofs.entry_tests.moved_by_entries.Given as goal
 
 -- none of the items before has moved

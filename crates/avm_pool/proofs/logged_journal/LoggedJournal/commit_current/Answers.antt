@@ -2,7 +2,7 @@ use Rattle.std.proofs.Common.{◌≡◌, ◌<◌, ◌++◌, ◌∷◌, ◌∙◌
 use Rattle.mv_shards.specs.Helds.{ShardSlots}
 use Rattle.mv_parts.specs.CallHistory.{CallEntry}
 use Rattle.mv_parts.specs.CallLaws.{entry_of}
-use Rattle.mv_parts.specs.Commits.{AreCovered}
+use Rattle.mv_parts.specs.Commits.{AreCovered, reading}
 use Rattle.mv_parts.specs.Journals.{Journal}
 use Rattle.avm_pool.specs.Logged.{IsLoggedJournal, LoggedHeld, LoggedJournal, note_of}
 use Rattle.mv_parts.specs.Agreeing.{AllAgree}
@@ -10,30 +10,30 @@ use Rattle.avm_pool.proofs.LoggedCommits.{committed_journal, committed_noted, ha
 use Rattle.avm_pool.proofs.Noted.{everywhere}
 use Rattle.avm_pool.proofs.logged_journal.LoggedJournal.commit_current.Goals as goal
 
-pub commit_agreeing-requires-clause-agree : goal.commit_agreeing-requires-clause-agree
-commit_agreeing-requires-clause-agree g c =
+pub commit_own-requires-clause-agree : goal.commit_own-requires-clause-agree
+commit_own-requires-clause-agree g c =
     subst (λ (x : Journal). AllAgree x c.held.inside.held) (sym (ap (λ (x : LoggedJournal). x.journal) c.self.view_is))
     (subst (λ (x : ShardSlots). AllAgree c.args.self.now.journal x) (sym (ap (λ (x : LoggedHeld). x.slots) c.held.view_is)) c.requires.agree)
 
 pub add-requires : goal.add-requires
 add-requires g c =
     let J = g.J.Naming in
-    let a = c.args.attempt in
+    let a = reading c.args.attempt c.args.finished in
     let f = c.args.finished in
     let slots = c.held.inside.held in
     let made = c.in-Ok.ensures.committed in
     let kept = c.self.invariant in
     let covered : AreCovered slots a.reads f.writes = subst (λ (x : ShardSlots). AreCovered x a.reads f.writes) (sym (ap (λ (x : LoggedHeld). x.slots) c.held.view_is)) c.requires.covers in
-    had_room J.base J.header J.calls c.self.inside.journal c.commit_agreeing.new.self slots c.commit_agreeing.new.held c.held.inside.notes c.self.inside.log.entries a f made.1.own.reads covered made.2 kept.over kept.ordered c.held.invariant
+    had_room J.base J.header J.calls c.self.inside.journal c.commit_own.new.self slots c.commit_own.new.held c.held.inside.notes c.self.inside.log.entries a f refl covered made.2 kept.over kept.ordered c.held.invariant
     c.self.inside.log.room c.holds-in-Ok.ensures.few kept.has_room
 
 pub invariant_of-held : goal.invariant_of-held
 invariant_of-held g c =
     let J = g.J.Naming in
-    let a = c.args.attempt in
+    let a = reading c.args.attempt c.args.finished in
     let f = c.args.finished in
     let old = c.self.inside.journal in
-    let new = c.commit_agreeing.new.self in
+    let new = c.commit_own.new.self in
     let slots = c.held.inside.held in
     let notes = c.held.inside.notes in
     let log = c.self.inside.log.entries in
@@ -46,17 +46,17 @@ invariant_of-held g c =
     let entry = c.offer-entry.ensures ∙ ap (λ (t : ℕ). entry_of t c.number.result f) c.timestamp.ensures.value ∙ ap (λ (n : ℕ). entry_of a.timestamp n f) c.number.ensures in
     let whole : c.prefix-whole.result ≡ log ++ entry_of a.timestamp a.number f ∷ [] = c.prefix-whole.ensures ∙ c.add.ensures.added ∙ ap (λ (e : CallEntry). log ++ e ∷ []) entry in
     let each = subst (λ (l : List CallEntry). (i : ℕ) → i < length notes → get_or c.note_all.new.notes i None ≡ note_of l (get_or notes i None)) whole c.note_all.ensures.each in
-    committed_noted J.base J.header J.calls old new slots c.commit_agreeing.new.held notes log a f made.1.own.reads covered made.2 kept.over kept.ordered c.held.invariant c.note_all.new.notes agree
-    (c.every_call_keeps_agreement.ensures.commit old new slots c.commit_agreeing.new.held a f c.holds.ensures.consistent made.1 made.2) c.note_all.ensures.count
+    committed_noted J.base J.header J.calls old new slots c.commit_own.new.held notes log a f refl covered made.2 kept.over kept.ordered c.held.invariant c.note_all.new.notes agree
+    (c.every_call_keeps_agreement.ensures.commit old new slots c.commit_own.new.held a f c.holds.ensures.consistent made.1 made.2) c.note_all.ensures.count
     (everywhere notes c.note_all.new.notes (note_of (log ++ entry_of a.timestamp a.number f ∷ [])) refl c.note_all.ensures.count each)
 
 pub invariant_of-self : goal.invariant_of-self
 invariant_of-self g c =
     let J = g.J.Naming in
-    let a = c.args.attempt in
+    let a = reading c.args.attempt c.args.finished in
     let f = c.args.finished in
     let old = c.self.inside.journal in
-    let new = c.commit_agreeing.new.self in
+    let new = c.commit_own.new.self in
     let slots = c.held.inside.held in
     let notes = c.held.inside.notes in
     let after = c.note_all.new.notes in
@@ -73,5 +73,5 @@ invariant_of-self g c =
     let each = subst (λ (l : List CallEntry). (i : ℕ) → i < length notes → get_or after i None ≡ note_of l (get_or notes i None)) whole c.note_all.ensures.each in
     let lasts = subst (λ (n : ℕ). (i : ℕ) → i < length last → slice_index c.renumber.new.last i ≡ (if is_some (get_or after i None) then n else slice_index last i)) number c.renumber.ensures.each in
     subst (λ (l : List CallEntry). IsLoggedJournal J.base J.header J.calls new l room c.renumber.new.last) (sym added)
-    (committed_journal J.base J.header J.calls old new slots c.commit_agreeing.new.held notes log a f made.1.own.reads covered made.2 kept.over kept.ordered c.held.invariant after last c.renumber.new.last c.self.inside.log.room room
+    (committed_journal J.base J.header J.calls old new slots c.commit_own.new.held notes log a f refl covered made.2 kept.over kept.ordered c.held.invariant after last c.renumber.new.last c.self.inside.log.room room
     (everywhere notes after (note_of (log ++ entry_of a.timestamp a.number f ∷ [])) refl c.note_all.ensures.count each) kept c.add.ensures.room c.renumber.ensures.count lasts)

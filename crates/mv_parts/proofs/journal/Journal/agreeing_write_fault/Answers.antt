@@ -1,5 +1,5 @@
 use Rattle.std.proofs.Common.{◌∙◌, sym}
-use Rattle.mv_parts.specs.Commits.{lateness_in}
+use Rattle.mv_shards.specs.TestedWrites.{lateness_in}
 use Rattle.mv_parts.proofs.Commits.{late_refusal, none_refusal}
 use Rattle.mv_parts.proofs.CommitTests.{late_only, late_same, moved_same, none_foreign}
 use Rattle.mv_parts.proofs.journal.Journal.agreeing_write_fault.Goals as goal

@@ -1,16 +1,8 @@
-use Rattle.std.proofs.Common.{◌≡◌, ℕ, sym, subst}
 use Rattle.std.proofs.lemmas.Result.{on_err_weaker}
-use Rattle.avm_items.specs.Items.{ItemMap}
-use Rattle.mv_shards.specs.Helds.{ShardSlots}
-use Rattle.mv_shards.specs.Writing.{CanTake}
 use Rattle.mv_shards.proofs.Ends.{end_framed}
 use Rattle.mv_shards.proofs.OneChain.{either_way, ok_then}
-use Rattle.mv_shards.proofs.SeenWrites.{all_absent, all_chains, all_held_in, grown_seen, kept_grown, kept_written, written_seen}
+use Rattle.mv_shards.proofs.SeenWrites.{all_absent, all_chains, all_held_in, can_take, grown_seen, kept_grown, kept_written, written_seen}
 use Rattle.mv_shards.proofs.held.Held.write.Goals as goal
-
--- what is asked of the shards, asked of what is seen of their parts
-can_take : {t : ℕ} {seen shard_slots : ShardSlots} {reads writes : ItemMap} → seen ≡ shard_slots → CanTake t shard_slots reads writes → CanTake t seen reads writes
-can_take {t} {reads = reads} {writes = writes} same can = subst (λ s. CanTake t s reads writes) (sym same) can
 
 pub write_parts-requires-clause-reads : goal.write_parts-requires-clause-reads
 write_parts-requires-clause-reads c = all_held_in c.self.inside.parts c.args.reads.now (can_take c.self.view_is c.requires.held).reads_held
