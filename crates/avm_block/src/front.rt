@@ -9,6 +9,7 @@ ghost use Rattle.avm_block.specs.BlockSpelling.{block_entry_bytes, front_bytes, 
 use crate::entry::Entry;
 use crate::header_codec::{put_format, put_header};
 use crate::outcome_codec::put_outcome;
+use avm_call::Call;
 use avm_call_codec::CallCodec;
 use avm_ledger::Header;
 use avm_ledger::spelling::{put_long_count, put_u64};
@@ -18,6 +19,13 @@ use std::marker::Model;
 
 /// What the bytes of every block begin with.
 pub(crate) const MAGIC: [u8; 4] = *b"AVMB";
+
+/// How many bytes a block has at most beside its entries: magic number, format, header and count, the digests of the ledgers before
+/// and after, and its own.
+const FRAME: usize = 160;
+
+/// How many bytes an entry has at most beside its call's note, arguments, accounts, foreign applications and programs.
+const FIXED: usize = 156;
 
 /// The bytes of a block up to the digest of the ledger after it, with a SHA-256 hasher (FIPS 180-4) that holds them.
 #[derive(Drop)]
@@ -47,19 +55,21 @@ impl Front {
     ) -> Result<Front, AllocError>
         ensures { IfOk result (λ front. front ≡ front_bytes base.now header.now entries.now) }
     {
-        Front::begin(alloc, base, header, entries.len())?.with(entries)
+        Front::begin(alloc, base, header, entries.len(), room_for(entries))?.with(entries)
     }
 
-    /// What stands before the entries of a block that has so many, over a ledger with the digest `base`.
+    /// What stands before the entries of a block that has so many, over a ledger with the digest `base`. The entries have room
+    /// for so many bytes from the beginning ([`entry_room`]); they grow beyond it.
     pub fn begin(
         alloc: Global,
         base: &[u8; 32],
         header: &Header,
         count: usize,
+        room: usize,
     ) -> Result<Front, AllocError>
         ensures { IfOk result (λ front. front ≡ front_start base.now header.now count) }
     {
-        let mut bytes = Vec::new(alloc);
+        let mut bytes = Vec::with_capacity(alloc, room.saturating_add(FRAME))?;
         put_start(&mut bytes, base, header, count)?;
         let mut hasher = Sha256::new();
         hasher.update(bytes.as_slice());
@@ -114,6 +124,37 @@ fn put_start(
     put_header(bytes, header)?;
     put_long_count(bytes, count)?;
     Ok(())
+}
+
+/// The room that entries take.
+fn room_for(entries: &[Entry]) -> usize {
+    let mut room = 0usize;
+    for entry in entries {
+        room = room.saturating_add(entry_room(&entry.call));
+    }
+    room
+}
+
+/// How many bytes an entry of a call takes in a block at most. It is for whoever takes room at once, and nothing else rests on it.
+pub fn entry_room(call: &Call) -> usize {
+    let fields = call.fields();
+    let mut room = FIXED;
+    for argument in fields.arguments.as_slice() {
+        room = room
+            .saturating_add(2)
+            .saturating_add(argument.as_slice().len());
+    }
+    room = room.saturating_add(fields.accounts.as_slice().len().saturating_mul(32));
+    room = room.saturating_add(
+        fields
+            .foreign_applications
+            .as_slice()
+            .len()
+            .saturating_mul(8),
+    );
+    room = room.saturating_add(fields.approval.as_slice().len());
+    room = room.saturating_add(fields.clear.as_slice().len());
+    room.saturating_add(fields.note.as_slice().len())
 }
 
 fn put_entries(bytes: &mut Vec<u8>, entries: &[Entry]) -> Result<(), AllocError>

@@ -25,5 +25,5 @@ pub use block_fault::{BlockError, BlockFault};
 pub use decoding::decode;
 pub use encoding::encode;
 pub use entry::Entry;
-pub use front::Front;
+pub use front::{Front, entry_room};
 pub use places::outcome_has_place;

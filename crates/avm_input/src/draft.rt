@@ -36,7 +36,7 @@ pub fn block_draft(alloc: Global, input: Vec<u8>) -> Result<BlockDraft, Failure<
     let bytes = needed_bytes(alloc, &mut lines)?;
     let header = header_of(bytes.as_slice())?;
     let lines = lines.into_lines(alloc)?;
-    let calls = calls_on(alloc, 1, lines.as_slice())?;
+    let calls = calls_on(alloc, 1, lines.as_slice(), lines.len())?;
     Ok(BlockDraft {
         base,
         header,

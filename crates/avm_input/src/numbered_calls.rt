@@ -13,16 +13,18 @@ use avm_call::Call;
 use std::alloc::Global;
 use teal_value::Failure;
 
-/// The calls of lines, numbered from this on, or the first refusal in the order of the lines.
+/// The calls of lines, numbered from this on, or the first refusal in the order of the lines. The list has room for so many calls
+/// from the beginning.
 pub fn calls_on(
     alloc: Global,
     number: usize,
     lines: &[NumberedLine<'_>],
+    room: usize,
 ) -> Result<Vec<Call>, Failure<Refusal>>
     requires { number + length lines.now < 2 ^ 64 }
     ensures { Gives (λ calls. calls.items) result (calls_on_lines number (lines_shown lines.now)) }
 {
-    let mut calls = Vec::with_capacity(alloc, lines.len())?;
+    let mut calls = Vec::with_capacity(alloc, room)?;
     for index in 0..lines.len() {
         calls.push(call_on(alloc, number + index, lines[index])?)?;
     }

@@ -1,5 +1,6 @@
 //! The lines of calls. They are read by as many threads as there are workers, up to four; where no thread can be made, parts
-//! are read one after another. Whoever reads a line, the first refusal in the order of the lines is the answer.
+//! are read one after another. Whoever reads a line, the first refusal in the order of the lines is the answer. The first part's
+//! list has room for the calls of all, so that they are put together without a copy of it.
 
 ghost use Rattle.std.specs.Prelude.{◌≡◌, ◌+◌, ◌<◌, ◌^◌, length};
 ghost use Rattle.teal_value.specs.Answer.{Gives};
@@ -33,9 +34,9 @@ pub(crate) fn calls_of<R: Threads + Sync>(
     ensures { Gives (λ calls. calls.items) result (calls_on_lines 1 (lines_shown lines.now)) }
 {
     if workers < 2 || lines.len() < FEW {
-        calls_in_room(alloc, 1, lines)
+        calls_in_room(alloc, 1, lines, lines.len())
     } else if workers < 4 {
-        by_two(rt, alloc, 1, lines)
+        by_two(rt, alloc, 1, lines, lines.len())
     } else {
         by_four(rt, alloc, 1, lines)
     }
@@ -59,22 +60,23 @@ fn by_four<R: Threads + Sync>(
             requires { number + length front.now < 2 ^ 64 }
             ensures { Gives (λ calls. calls.items) result
                 (calls_on_lines number (lines_shown front.entry.now)) }
-        { by_two(rt, alloc, number, front) },
+        { by_two(rt, alloc, number, front, lines.len()) },
         || -> Calls
             requires { behind + length back.now < 2 ^ 64 }
             ensures { Gives (λ calls. calls.items) result
                 (calls_on_lines behind (lines_shown back.entry.now)) }
-        { by_two(rt, alloc, behind, back) },
+        { by_two(rt, alloc, behind, back, back.len()) },
     );
     together(first, second)
 }
 
-/// The calls of lines, numbered from this on, by two threads.
+/// The calls of lines, numbered from this on, by two threads, in a list with room for so many.
 fn by_two<R: Threads + Sync>(
     rt: &R,
     alloc: Global,
     number: usize,
     lines: &[NumberedLine<'_>],
+    room: usize,
 ) -> Calls
     requires { number + length lines.now < 2 ^ 64 }
     ensures { Gives (λ calls. calls.items) result (calls_on_lines number (lines_shown lines.now)) }
@@ -87,12 +89,12 @@ fn by_two<R: Threads + Sync>(
             requires { number + length front.now < 2 ^ 64 }
             ensures { Gives (λ calls. calls.items) result
                 (calls_on_lines number (lines_shown front.entry.now)) }
-        { calls_in_room(alloc, number, front) },
+        { calls_in_room(alloc, number, front, room) },
         || -> Calls
             requires { behind + length back.now < 2 ^ 64 }
             ensures { Gives (λ calls. calls.items) result
                 (calls_on_lines behind (lines_shown back.entry.now)) }
-        { calls_in_room(alloc, behind, back) },
+        { calls_in_room(alloc, behind, back, back.len()) },
     );
     together(first, second)
 }
@@ -107,11 +109,11 @@ fn together(first: Calls, second: Calls) -> Calls
     Ok(calls)
 }
 
-/// The calls of lines, numbered from this on, by one thread, in room that it takes at once.
-fn calls_in_room(alloc: Global, number: usize, lines: &[NumberedLine<'_>]) -> Calls
+/// The calls of lines, numbered from this on, by one thread, in a list with room for so many. What calls take is taken at once.
+fn calls_in_room(alloc: Global, number: usize, lines: &[NumberedLine<'_>], room: usize) -> Calls
     requires { number + length lines.now < 2 ^ 64 }
     ensures { Gives (λ calls. calls.items) result (calls_on_lines number (lines_shown lines.now)) }
 {
     take_room(alloc, lines.len(), CALL_ROOM);
-    calls_on(alloc, number, lines)
+    calls_on(alloc, number, lines, room)
 }

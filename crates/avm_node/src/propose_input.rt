@@ -54,10 +54,10 @@ pub fn propose_input<R: Threads + Sync>(
     let bytes = needed_bytes(alloc, &mut lines)?;
     let lines = lines.into_lines(alloc)?;
     let (base, behind) = if workers < 2 {
-        (
-            base_of(alloc, bytes.as_slice()),
-            header_and_calls(rt, alloc, workers, lines.as_slice()),
-        )
+        let base = base_of(alloc, bytes.as_slice());
+        // What the bytes took has room for the calls.
+        drop(bytes);
+        (base, header_and_calls(rt, alloc, workers, lines.as_slice()))
     } else {
         side_by_side(rt, alloc, workers, bytes.as_slice(), lines.as_slice())
     };

@@ -3,12 +3,14 @@
 //! is asked at the end, and it is made anew where it does not: nothing is known of a value behind a lock but its type.
 
 ghost use Rattle.std.specs.Prelude.{◌≡◌, IfOk, IsTrue, length};
+ghost use Rattle.mv_parts.specs.MadeEntries.{AreBlockEntries};
 ghost use Rattle.avm_block.specs.BlockSpelling.{front_bytes};
 ghost use Rattle.avm_pool.specs.BlockPrefix.{Begins};
 
-use avm_block::{Entry, Front};
-use avm_call::Outcome;
+use avm_block::{Entry, Front, entry_room};
+use avm_call::{Call, Outcome};
 use avm_ledger::Header;
+use mv_parts::Journal;
 use std::alloc::{AllocError, Global};
 use std::marker::Model;
 
@@ -39,19 +41,19 @@ impl Model for BlockPrefix {
 }
 
 impl BlockPrefix {
-    /// What stands before the entries of a block that is to have so many.
+    /// What stands before the entries of a block that is to have one for each of these calls. There is room for all of them.
     pub fn begin(
         alloc: Global,
         base: &[u8; 32],
         header: &Header,
-        count: usize,
+        calls: &[Call],
     ) -> Result<BlockPrefix, AllocError> {
-        let front = Front::begin(alloc, base, header, count)?;
+        let front = Front::begin(alloc, base, header, calls.len(), room_for(calls))?;
         Ok(BlockPrefix {
             base: *base,
             header: *header,
-            count,
-            entries: Vec::with_capacity(alloc, count)?,
+            count: calls.len(),
+            entries: Vec::with_capacity(alloc, calls.len())?,
             front,
         })
     }
@@ -83,55 +85,67 @@ impl BlockPrefix {
         })
     }
 
-    /// Whether a block of these entries begins so.
-    fn begins(&self, base: &[u8; 32], header: &Header, entries: &[Entry]) -> bool
-        ensures { IsTrue result → Begins self.now base.now header.now entries.now }
+    /// Whether a block of a journal's entries, over a ledger with the digest `base`, begins so.
+    fn begins(&self, base: &[u8; 32], header: &Header, journal: &Journal) -> bool
+        ensures { IsTrue result → Begins self.now base.now header.now journal.now }
     {
-        if self.count != entries.len() || entries.len() < self.entries.len() {
+        if self.count != journal.entries().len() {
             return false;
         }
-        let (first, _more) = entries.split_at(self.entries.len());
-        self.base == *base && self.header == *header && are_same(self.entries.as_slice(), first)
+        self.base == *base && self.header == *header && journal.begins_with(self.entries.as_slice())
+    }
+
+    /// The entries of a journal's block that begins so, and its front.
+    fn finished(self, journal: &Journal) -> Result<(Vec<Entry>, Front), AllocError>
+        requires { Begins self self.base self.header journal.now }
+        ensures entries { IfOk result (λ begun. AreBlockEntries journal.now.calls
+            journal.now.world.entries begun.0.items) }
+        ensures front { IfOk result
+            (λ begun. begun.1 ≡ front_bytes self.base self.header begun.0.items) }
+    {
+        let BlockPrefix {
+            base: _,
+            header: _,
+            count: _,
+            entries,
+            front,
+        } = self;
+        let count = entries.len();
+        let entries = journal.further_entries(entries)?;
+        let (_first, more) = entries.as_slice().split_at(count);
+        let front = front.with(more)?;
+        Ok((entries, front))
     }
 }
 
-/// The front of a block of these entries, over a ledger with the digest `base`.
-pub(crate) fn front_of(
+/// The entries of a journal's block, and its front over a ledger with the digest `base`.
+pub(crate) fn begun_of(
     alloc: Global,
+    journal: &Journal,
     prefix: Option<BlockPrefix>,
     base: &[u8; 32],
     header: &Header,
-    entries: &[Entry],
-) -> Result<Front, AllocError>
-    ensures { IfOk result (λ front. front ≡ front_bytes base.now header.now entries.now) }
+) -> Result<(Vec<Entry>, Front), AllocError>
+    ensures entries { IfOk result (λ begun. AreBlockEntries journal.now.calls
+        journal.now.world.entries begun.0.items) }
+    ensures front { IfOk result
+        (λ begun. begun.1 ≡ front_bytes base.now header.now begun.0.items) }
 {
     match prefix {
-        Some(prefix) if prefix.begins(base, header, entries) => {
-            let (_first, more) = entries.split_at(prefix.len());
-            prefix.front.with(more)
+        Some(prefix) if prefix.begins(base, header, journal) => prefix.finished(journal),
+        _ => {
+            let entries = journal.block_entries(alloc)?;
+            let front = Front::of(alloc, base, header, entries.as_slice())?;
+            Ok((entries, front))
         }
-        _ => Front::of(alloc, base, header, entries),
     }
 }
 
-/// Whether these are the same entries, which are as many.
-fn are_same(entries: &[Entry], others: &[Entry]) -> bool
-    requires { length entries.now ≡ length others.now }
-    ensures { IsTrue result → entries.now ≡ others.now }
-{
-    for index in 0..entries.len() {
-        if !is_same(&entries[index], &others[index]) {
-            return false;
-        }
+/// How many bytes the entries of calls take at most.
+fn room_for(calls: &[Call]) -> usize {
+    let mut room = 0usize;
+    for call in calls {
+        room = room.saturating_add(entry_room(call));
     }
-    true
-}
-
-fn is_same(entry: &Entry, other: &Entry) -> bool
-    ensures { IsTrue result → entry.now ≡ other.now }
-{
-    if entry.timestamp != other.timestamp || entry.outcome != other.outcome {
-        return false;
-    }
-    entry.call.fields().is_same(other.call.fields())
+    room
 }

@@ -1,7 +1,6 @@
 //! From a journal to its proposal. The ledger after the calls takes about as long to make as the entries of the block, their
-//! bytes and SHA-256 of these; so one thread makes the one and another the others, and a third frees the shards. Where no thread
-//! can be made, one comes after the other. Where the process ends with the proposal, shards and journal are left to the operating
-//! system.
+//! bytes and SHA-256 of these; so one thread makes the one and another the others. Where no thread can be made, one comes after
+//! the other. Where the process ends with the proposal, the journal is left to the operating system.
 
 ghost use Rattle.std.specs.Prelude.{IfOk};
 ghost use Rattle.std.specs.Arc.{arc_value};
@@ -10,11 +9,9 @@ ghost use Rattle.avm_pool.specs.Finishing.{AreBegun, AreParts};
 ghost use Rattle.avm_pool.specs.Logged.{IsJournalOver};
 ghost use Rattle.avm_pool.specs.Proposals.{IsProposal};
 
-use crate::block_prefix::{BlockPrefix, front_of};
+use crate::block_prefix::{BlockPrefix, begun_of};
 use crate::draft::SharedDraft;
 use crate::left_numbers::left_of;
-use crate::locked_work::ShardLock;
-use crate::naming::Naming;
 use crate::proposal::Proposal;
 use avm_block::{Entry, Front};
 use avm_ledger::Header;
@@ -22,15 +19,6 @@ use mv_parts::{Journal, Sealed, SharedBase};
 use std::alloc::{AllocError, Global};
 use std::mem;
 use std::thread::{Threads, join};
-
-/// What a run of workers leaves beside its journal.
-#[derive(Drop)]
-pub(crate) struct Remains<J: Naming> {
-    /// None where the process ends with the proposal.
-    pub shards: Option<Vec<ShardLock<J>>>,
-    /// The front of the block so far.
-    pub prefix: Option<BlockPrefix>,
-}
 
 /// What the bytes of a block are made of.
 #[derive(Drop)]
@@ -41,12 +29,13 @@ pub(crate) struct Parts {
     after: [u8; 32],
 }
 
-/// The proposal of a journal of this draft. Where the process ends with it, what is left is not freed.
-pub(crate) fn proposal_of<J: Naming + Send + Sync, R: Threads + Sync>(
+/// The proposal of a journal of this draft, where so much of the block was made before. Where the process ends with it, the journal
+/// is not freed.
+pub(crate) fn proposal_of<R: Threads + Sync>(
     rt: &R,
     draft: &SharedDraft,
     journal: Journal,
-    remains: Remains<J>,
+    prefix: Option<BlockPrefix>,
     exits: bool,
 ) -> Result<Proposal, AllocError>
     requires { IsJournalOver
@@ -54,24 +43,24 @@ pub(crate) fn proposal_of<J: Naming + Send + Sync, R: Threads + Sync>(
     ensures { IfOk result (IsProposal
         draft.now.base.now draft.now.header (arc_value draft.now.calls).items) }
 {
-    let made = made_of(rt, draft, &journal, remains);
+    let made = made_of(rt, draft, &journal, prefix);
     to_free(journal, exits);
     made
 }
 
 /// The proposal of a journal that stays.
-fn made_of<J: Naming + Send + Sync, R: Threads + Sync>(
+fn made_of<R: Threads + Sync>(
     rt: &R,
     draft: &SharedDraft,
     journal: &Journal,
-    remains: Remains<J>,
+    prefix: Option<BlockPrefix>,
 ) -> Result<Proposal, AllocError>
     requires { IsJournalOver
         draft.now.base.now draft.now.header (arc_value draft.now.calls).items journal.now }
     ensures { IfOk result (IsProposal
         draft.now.base.now draft.now.header (arc_value draft.now.calls).items) }
 {
-    let parts = parts_beside(rt, draft, journal, remains)?;
+    let parts = parts_of(rt, draft.alloc, journal, prefix, draft.base, &draft.header)?;
     proposal_with(draft.alloc, journal, parts)
 }
 
@@ -100,29 +89,6 @@ fn proposal_with(alloc: Global, journal: &Journal, parts: Parts) -> Result<Propo
     })
 }
 
-/// The parts of a journal's block, which one thread makes while another frees what remains.
-fn parts_beside<J: Naming + Send + Sync, R: Threads + Sync>(
-    rt: &R,
-    draft: &SharedDraft,
-    journal: &Journal,
-    remains: Remains<J>,
-) -> Result<Parts, AllocError>
-    ensures { IfOk result (AreParts journal.now draft.now.base.now draft.now.header) }
-{
-    let Remains { shards, prefix } = remains;
-    let alloc = draft.alloc;
-    let (base, header) = (draft.base, &draft.header);
-    let (_freed, parts) = join(
-        rt,
-        move || free_shards(shards),
-        move || -> Result<Parts, AllocError>
-            ensures { IfOk result
-                (AreParts journal.entry.now base.entry.now header.entry.now) }
-        { parts_of(rt, alloc, journal, prefix, base, header) },
-    );
-    parts
-}
-
 /// The parts of a journal's block, over this ledger and under this header.
 fn parts_of<R: Threads + Sync>(
     rt: &R,
@@ -143,7 +109,7 @@ fn parts_of<R: Threads + Sync>(
         move || -> Result<(Vec<Entry>, Front), AllocError>
             ensures { IfOk result (λ begun. AreBegun journal.entry.now
                 base.entry.now header.entry.now (begun.0.items, begun.1)) }
-        { begun_of(alloc, journal, prefix, base, header) },
+        { begun_of(alloc, journal, prefix, base.digest(), header) },
     );
     let (entries, front) = begun?;
     let after = after?;
@@ -154,24 +120,8 @@ fn parts_of<R: Threads + Sync>(
     })
 }
 
-/// The entries of a journal's block, and its bytes up to the digest of the ledger after them.
-fn begun_of(
-    alloc: Global,
-    journal: &Journal,
-    prefix: Option<BlockPrefix>,
-    base: &SharedBase,
-    header: &Header,
-) -> Result<(Vec<Entry>, Front), AllocError>
-    ensures { IfOk result
-        (λ begun. AreBegun journal.now base.now header.now (begun.0.items, begun.1)) }
-{
-    let entries = journal.block_entries(alloc)?;
-    let front = front_of(alloc, prefix, base.digest(), header, entries.as_slice())?;
-    Ok((entries, front))
-}
-
 /// What is to be freed: nothing, where the process ends, which takes all memory back.
-pub(crate) fn to_free<T: Drop>(value: T, exits: bool) -> Option<T> {
+fn to_free<T: Drop>(value: T, exits: bool) -> Option<T> {
     if exits {
         mem::forget(value);
         None
@@ -179,5 +129,3 @@ pub(crate) fn to_free<T: Drop>(value: T, exits: bool) -> Option<T> {
         Some(value)
     }
 }
-
-fn free_shards<J: Naming>(_shards: Option<Vec<ShardLock<J>>>) {}

@@ -26,12 +26,7 @@ impl<'a> SharedDraft<'a> {
         if workers < 2 {
             return Ok(None);
         }
-        let prefix = BlockPrefix::begin(
-            self.alloc,
-            self.base.digest(),
-            &self.header,
-            self.calls.len(),
-        )?;
+        let prefix = BlockPrefix::begin(self.alloc, self.base.digest(), &self.header, &self.calls)?;
         Ok(Some(prefix))
     }
 

@@ -10,7 +10,7 @@ ghost use Rattle.avm_pool.specs.Refusals.{IsRefusal, IsWant, MayPropose};
 use crate::after_workers::run_remaining;
 use crate::commit_log::OpenedLog;
 use crate::draft::{Crew, Draft, SharedDraft, ThreadSets};
-use crate::finishing::{Remains, proposal_of, to_free};
+use crate::finishing::proposal_of;
 use crate::gate::Gate;
 use crate::logged_journal::LoggedJournal;
 use crate::naming::Naming;
@@ -61,8 +61,8 @@ pub fn propose<G: Gate, R: Threads + Wait + Sync, O: Op>(
 
 /// As [`propose`], on a ledger that is shared and has its digest: it is not copied, and not encoded again.
 ///
-/// `EXITS` says whether the process ends with the proposal. If so, what the workers kept is left to the operating system, which
-/// takes all memory back at once; else other threads give it back while the block is made.
+/// `EXITS` says whether the process ends with the proposal. If so, the journal is left to the operating system, which takes all
+/// memory back at once.
 pub fn propose_on<G: Gate, R: Threads + Wait + Sync, O: Op, const EXITS: bool>(
     rt: &R,
     alloc: Global,
@@ -172,12 +172,10 @@ fn run_draft<J: Naming + Send + Sync, G: Gate, R: Threads + Wait + Sync, O: Op>(
         gate,
     };
     run_calls(rt, &journal, &shared, crew)?;
-    let remains = Remains {
-        shards: to_free(shards, exits),
-        prefix: prefix.into_inner(),
-    };
+    // What the shards took has room for what is made of the journal.
+    drop(shards);
     let journal = journal.into_inner().into_journal();
-    let proposal = proposal_of(rt, draft, journal, remains, exits)?;
+    let proposal = proposal_of(rt, draft, journal, prefix.into_inner(), exits)?;
     Ok(proposal)
 }
 

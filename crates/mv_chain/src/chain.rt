@@ -304,6 +304,19 @@ impl<V> Chain<V> {
             drop_front(&mut self.older, count - 1);
         }
     }
+
+    /// Gives back the room for one more version, where the newest is the only one. More room is kept: who was written often
+    /// will be again.
+    pub fn give_back_room(&mut self)
+    where
+        V: Drop,
+        ensures list { self.new.list ≡ self.old.list }
+        ensures chain { IsChain self.new.list }
+    {
+        if self.older.is_empty() && self.older.capacity() == 1 {
+            self.older.shrink_to_fit();
+        }
+    }
 }
 
 /// The mark of a version, if it has this timestamp, and else 0.

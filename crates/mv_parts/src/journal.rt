@@ -95,7 +95,7 @@ impl Journal {
         let timestamp = self.clock + 1;
         match self.live.insert(timestamp, number) {
             Ok(()) => {
-                self.states[number as usize - 1] = CallState::Live(timestamp);
+                self.states[number as usize - 1] = CallState::Live;
                 self.clock = timestamp;
                 Ok(Attempt::new(self.alloc, number, timestamp))
             }
@@ -113,7 +113,7 @@ impl Journal {
         match self.states.get(number as usize - 1) {
             None => Some(BeginFault::NoCall),
             Some(CallState::Committed) => Some(BeginFault::Done),
-            Some(CallState::Live(_)) => Some(BeginFault::Taken),
+            Some(CallState::Live) => Some(BeginFault::Taken),
             Some(CallState::Idle) => {
                 if self.clock == u64::MAX {
                     Some(BeginFault::ClockEnd)

@@ -273,12 +273,14 @@ fn prune_several(list: &mut Vec<(Item, Chain<ItemValue>)>, several: &mut Vec<usi
     several.truncate(kept);
 }
 
-/// Drops the versions that no read from a timestamp on can find. Whether more than one is left.
+/// Drops the versions that no read from a timestamp on can find. Whether more than one is left. Most items are written once, and
+/// their room is given back.
 fn prune_chain(chain: &mut Chain<ItemValue>, timestamp: u64) -> bool
     ensures list { chain.new.list ≡ versions_from timestamp chain.old.list }
     ensures several { IsTrue result ↔ 1 < length chain.new.list }
 {
     chain.prune(timestamp);
+    chain.give_back_room();
     chain.count() > 1
 }
 
