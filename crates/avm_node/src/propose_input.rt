@@ -22,7 +22,8 @@ use std::alloc::Global;
 use std::thread::{Threads, join};
 use teal_value::Failure;
 
-/// From how many bytes on a ledger has its digest made by a thread of its own: to make one for fewer costs more than it saves.
+/// From how many bytes on a ledger is read, and has its digest made, by threads of their own: to make one for fewer costs more than
+/// it saves.
 const MUCH: usize = 16_384;
 
 /// What calls are to be made of, on which ledger and by which header.
@@ -40,20 +41,22 @@ type BaseRead = Result<SharedBase, Failure<Refusal>>;
 type HeaderAndCalls = Result<(Header, Vec<Call>), Failure<Refusal>>;
 
 /// What the lines are, or the first refusal in their order. The calls are read for so many workers, and where there are
-/// several, while another thread reads the ledger.
+/// several, while another thread reads a ledger of many bytes.
 pub fn propose_input<R: Threads + Sync>(
     rt: &R,
     alloc: Global,
     workers: usize,
-    input: Vec<u8>,
+    mut input: Vec<u8>,
 ) -> Result<ProposeInput, Failure<Refusal>>
     ensures exact { Gives input_shown result (propose_input (digit_lines input.items)) }
     ensures profile { IfOk result (λ read. read.header.profile ≡ Three) }
 {
+    // What is taken next stands right behind it, and so does what takes its room when it is gone.
+    input.shrink_to_fit();
     let mut lines = DigitLines::new(input.as_slice());
     let bytes = needed_bytes(alloc, &mut lines)?;
     let lines = lines.into_lines(alloc)?;
-    let (base, behind) = if workers < 2 {
+    let (base, behind) = if workers < 2 || bytes.len() < MUCH {
         let base = base_of(alloc, bytes.as_slice());
         // What the bytes took has room for the calls.
         drop(bytes);
@@ -96,13 +99,10 @@ fn side_by_side<R: Threads + Sync>(
     )
 }
 
-/// The ledger that the bytes are, with its digest, which another thread makes where they are many.
+/// The ledger that the bytes are, with its digest, which another thread makes.
 fn base_by_two<R: Threads + Sync>(rt: &R, alloc: Global, bytes: &[u8]) -> BaseRead
     ensures { Gives (λ base. base) result (on_ledger (ledger_at bytes.now)) }
 {
-    if bytes.len() < MUCH {
-        return base_of(alloc, bytes);
-    }
     let (digest, ledger) = join(
         rt,
         || -> [u8; 32]
