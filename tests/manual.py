@@ -23,8 +23,9 @@ def code(path: str) -> str:
 
 def commands(file: str) -> Dict[str, Options]:
     """The commands that the code reads."""
-    rows = re.findall(r'with_command\(\s*alloc,.*?, "(\w+)", &\[([^]]*)\], (true|false)\)', code(file))
-    return {name: (re.findall(r"\w+", options), required == "true") for name, options, required in rows}
+    table = re.search(r"COMMANDS: [^=]* = \[(.*?)\n\];", code(file), flags=re.S)[1]
+    required = re.search(r'program_line\(alloc, "\w+", &COMMANDS, (true|false)\)', code(file))[1] == "true"
+    return {name: (re.findall(r"\w+", options), required) for name, options in re.findall(r'\("(\w+)", &\[([^]]*)\]\)', table)}
 
 
 def usage(file: str) -> str:

@@ -5,7 +5,7 @@ use Rattle.clap.specs.declared.builder.command.Command.{Command}
 use Rattle.clap.specs.declared.builder.command.Command.TheViews.{out-Command}
 use Rattle.clap.specs.declared.error.Error.{Error}
 use Rattle.clap.specs.declared.error.kind.ErrorKind.TheVariants as kind
-use Rattle.clap.specs.Words.{AddsArg, AddsSubcommand, App, HasKind, Kinds, Row, Shape, Text, app_of, fault_of, is_simple, is_simple_and_free, kind_of, subcommand_of, with_subcommand}
+use Rattle.clap.specs.Words.{AddsArg, AddsSubcommand, App, HasKind, Kinds, Row, Text, app_of, fault_of, is_simple, is_simple_and_free, kind_of, subcommand_of, with_subcommand}
 use Rattle.clap.proofs.OnLiterals.{clap_on_literals}
 use Rattle.avm_input.specs.CommandLine.{command_among, command_found, command_line, unless_faulty}
 use Rattle.avm_input.specs.JsonCommandLine.{json_command_line}
@@ -18,10 +18,6 @@ no_other false other e = e
 pub with_shape : (old sub new : Command) (before app : App) → AddsSubcommand old sub new → (out-Command sub).has_globals ≡ false
     → app_of old ≡ before → app_of sub ≡ app → app_of new ≡ with_subcommand before app.top
 with_shape old sub new before app adds local old_is sub_is = adds.shape local ∙ (λ i. with_subcommand (old_is i) (sub_is i).top)
-
--- a subcommand more than commands that are known
-pub with_more : (line before now : App) (sub : Shape) → line ≡ with_subcommand before sub → before ≡ now → line ≡ with_subcommand now sub
-with_more line before now sub line_is before_is = line_is ∙ ap (λ a. with_subcommand a sub) before_is
 
 -- an option more that is not global
 pub with_local : (old new : Command) (arg : Arg) → AddsArg old arg new → arg.global ≡ false → (out-Command new).has_globals ≡ (out-Command old).has_globals

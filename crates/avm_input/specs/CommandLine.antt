@@ -14,7 +14,7 @@ use Rattle.avm_input.specs.declared.command_line.NodeCommand.TheVariants.{Asm, C
 abbrev pub number_rule : Bool → Text → Rule
 number_rule required name = record (new_rule name) { long = Some name; action = Some Set; parser = Some (parser.Unsigned 0 18446744073709551615); required = required }
 
--- the program without its commands; no word is its name
+-- a program without commands; no word is its name
 abbrev pub bare_line : Text → App
 bare_line program = let bare = new_app program in record bare { top = record bare.top { no_binary_name = true } }
 
@@ -22,16 +22,15 @@ bare_line program = let bare = new_app program in record bare { top = record bar
 abbrev pub numbered : Bool → Text → List Text → App
 numbered required name options = fold (λ command option. with_rule command (number_rule required option)) (new_app name) options
 
--- the commands and their options
+-- a program with these commands, each of a name and the names of its options
+abbrev pub program_line : Bool → Text → List (Text × List Text) → App
+program_line required program commands = fold (λ line (command : Text × List Text). with_subcommand line (numbered required command.0 command.1).top) (bare_line program) commands
+
+-- the commands and their options, which have to be given
 abbrev pub command_line : App
-command_line =
-    let with_asm = with_subcommand (bare_line (codes "avm")) (numbered true (codes "asm") []).top in
-    let with_dis = with_subcommand with_asm (numbered true (codes "dis") []).top in
-    let with_check = with_subcommand with_dis (numbered true (codes "check") []).top in
-    let with_replay = with_subcommand with_check (numbered true (codes "replay") []).top in
-    let with_debug = with_subcommand with_replay (numbered true (codes "debug") (codes "entry" ∷ codes "steps" ∷ [])).top in
-    let with_state = with_subcommand with_debug (numbered true (codes "state") (codes "at" ∷ [])).top in
-    with_subcommand with_state (numbered true (codes "propose") (codes "workers" ∷ [])).top
+command_line = program_line true (codes "avm") (
+    (codes "asm", []) ∷ (codes "dis", []) ∷ (codes "check", []) ∷ (codes "replay", [])
+    ∷ (codes "debug", codes "entry" ∷ codes "steps" ∷ []) ∷ (codes "state", codes "at" ∷ []) ∷ (codes "propose", codes "workers" ∷ []) ∷ [])
 
 abbrev pub is_digit : ℕ → Bool
 is_digit c = nat_lt (digit_value c) 10

@@ -1,19 +1,16 @@
 -- Which words are a command of `avm_json`.
 use Rattle.std.specs.Prelude.{false, ◌∷◌, [], List, Option, Some, None, codes, if◌then◌else◌}
 use Rattle.std.specs.Str.{bytes_eq}
-use Rattle.clap.specs.Words.{App, Row, Text, with_subcommand}
+use Rattle.clap.specs.Words.{App, Row, Text}
 use Rattle.avm_input.specs.declared.json_command_line.JsonCommand.{JsonCommand}
 use Rattle.avm_input.specs.declared.json_command_line.JsonCommand.TheVariants.{Lines, Page, Run, Show, Trace}
-use Rattle.avm_input.specs.CommandLine.{bare_line, command_among, number_in, numbered}
+use Rattle.avm_input.specs.CommandLine.{command_among, number_in, program_line}
 
 -- the commands and their options, which need not be given
 abbrev pub json_command_line : App
-json_command_line =
-    let with_lines = with_subcommand (bare_line (codes "avm_json")) (numbered false (codes "lines") []).top in
-    let with_show = with_subcommand with_lines (numbered false (codes "show") []).top in
-    let with_run = with_subcommand with_show (numbered false (codes "run") []).top in
-    let with_trace = with_subcommand with_run (numbered false (codes "trace") (codes "entry" ∷ [])).top in
-    with_subcommand with_trace (numbered false (codes "page") (codes "entry" ∷ [])).top
+json_command_line = program_line false (codes "avm_json") (
+    (codes "lines", []) ∷ (codes "show", []) ∷ (codes "run", [])
+    ∷ (codes "trace", codes "entry" ∷ []) ∷ (codes "page", codes "entry" ∷ []) ∷ [])
 
 -- the command of a name, with its options
 abbrev pub json_command_named : Text → List Row → Option JsonCommand

@@ -1,9 +1,9 @@
 //! The words of the command line of `avm`, and what both programs read words by.
 
 ghost use Rattle.std.specs.Prelude.{◌≡◌, ◌≢◌, ◌∷◌, [], Some, None, IfOk, codes, false, map};
-ghost use Rattle.clap.specs.Words.{app_of, found_of, kind_of, rows_of, rule_of, subcommand_rows_of, with_subcommand};
+ghost use Rattle.clap.specs.Words.{app_of, found_of, kind_of, rows_of, rule_of, subcommand_rows_of};
 ghost use Rattle.clap.specs.declared.builder.command.Command.TheViews.{out-Command};
-ghost use Rattle.avm_input.specs.CommandLine.{AreOneToEight, bare_line, command_found, command_in, command_line, command_named, debug_command, number_in, number_rule, numbered, propose_command, state_command, worker_count, workers_of};
+ghost use Rattle.avm_input.specs.CommandLine.{AreOneToEight, bare_line, command_found, command_in, command_line, command_named, debug_command, number_in, number_rule, numbered, program_line, propose_command, state_command, worker_count, workers_of};
 ghost use Rattle.avm_input.specs.declared.command_line.NodeCommand.TheVariants.{Asm, Check, Debug, Dis, Propose, Replay, State};
 
 use clap::error::ErrorKind;
@@ -134,40 +134,51 @@ fn worker_count(number: u64) -> Option<u8>
     }
 }
 
-/// The commands and their options.
+/// The commands, each with its options, which have to be given.
+const COMMANDS: [CommandRow<'static>; 7] = [
+    ("asm", &[]),
+    ("dis", &[]),
+    ("check", &[]),
+    ("replay", &[]),
+    ("debug", &["entry", "steps"]),
+    ("state", &["at"]),
+    ("propose", &["workers"]),
+];
+
+/// A command's name, and the names of its options, which are numbers.
+pub(crate) type CommandRow<'a> = (&'a str, &'a [&'a str]);
+
 fn command_line<'a>(alloc: Global) -> Result<Command<'a>, AllocError>
     ensures { IfOk result (λ command. app_of command ≡ command_line) }
 {
-    let asm = with_command(alloc, bare_line(alloc, "avm"), "asm", &[], true)?;
-    let dis = with_command(alloc, asm, "dis", &[], true)?;
-    let check = with_command(alloc, dis, "check", &[], true)?;
-    let replay = with_command(alloc, check, "replay", &[], true)?;
-    let debug = with_command(alloc, replay, "debug", &["entry", "steps"], true)?;
-    let state = with_command(alloc, debug, "state", &["at"], true)?;
-    with_command(alloc, state, "propose", &["workers"], true)
+    program_line(alloc, "avm", &COMMANDS, true)
 }
 
-/// The program of this name without its commands.
-pub(crate) fn bare_line<'a>(alloc: Global, program: &'a str) -> Command<'a>
+/// A program with these commands, whose options have to be given or need not.
+pub(crate) fn program_line<'a>(
+    alloc: Global,
+    program: &'a str,
+    commands: &[CommandRow<'a>],
+    required: bool,
+) -> Result<Command<'a>, AllocError>
+    ensures { IfOk result (λ line. app_of line ≡ program_line required program.now
+        (map (λ row. (row.0.now, map (λ option. option.now) row.1.now)) commands.now)) }
+{
+    let mut line = bare_line(alloc, program);
+    for row in commands {
+        let (name, options) = *row;
+        let command = numbered(alloc, name, options, required)?;
+        line = line.subcommand(command)?;
+    }
+    Ok(line)
+}
+
+/// A program of this name without commands.
+fn bare_line<'a>(alloc: Global, program: &'a str) -> Command<'a>
     ensures app { app_of result ≡ bare_line program.now }
     ensures local { (out-Command result).has_globals ≡ false }
 {
     Command::new(alloc, program).no_binary_name(true)
-}
-
-/// The commands with one more, whose options are numbers with these names, which have to be given or need not.
-pub(crate) fn with_command<'a>(
-    alloc: Global,
-    commands: Command<'a>,
-    name: &'a str,
-    options: &[&'a str],
-    required: bool,
-) -> Result<Command<'a>, AllocError>
-    ensures { IfOk result (λ line. app_of line ≡ with_subcommand (app_of commands.entry)
-        (numbered required name.now (map (λ option. option.now) options.now)).top) }
-{
-    let command = numbered(alloc, name, options, required)?;
-    commands.subcommand(command)
 }
 
 /// The command of this name, whose options are numbers with these names.

@@ -6,7 +6,7 @@ ghost use Rattle.avm_input.specs.CommandLine.{command_found};
 ghost use Rattle.avm_input.specs.JsonCommandLine.{json_command_in, json_command_line, json_command_named};
 ghost use Rattle.avm_input.specs.declared.json_command_line.JsonCommand.TheVariants.{Lines, Page, Run, Show, Trace};
 
-use crate::command_line::{bare_line, no_command, number_in, with_command};
+use crate::command_line::{CommandRow, no_command, number_in, program_line};
 use clap::{ArgMatches, Command};
 use std::alloc::{AllocError, Global};
 
@@ -61,15 +61,19 @@ fn json_command_named(name: &str, options: &ArgMatches<'_>) -> Option<JsonComman
     }
 }
 
-/// The commands and their options.
+/// The commands, each with its options, which need not be given.
+const COMMANDS: [CommandRow<'static>; 5] = [
+    ("lines", &[]),
+    ("show", &[]),
+    ("run", &[]),
+    ("trace", &["entry"]),
+    ("page", &["entry"]),
+];
+
 fn json_command_line<'a>(alloc: Global) -> Result<Command<'a>, AllocError>
     ensures { IfOk result (λ command. app_of command ≡ json_command_line) }
 {
-    let lines = with_command(alloc, bare_line(alloc, "avm_json"), "lines", &[], false)?;
-    let show = with_command(alloc, lines, "show", &[], false)?;
-    let run = with_command(alloc, show, "run", &[], false)?;
-    let trace = with_command(alloc, run, "trace", &["entry"], false)?;
-    with_command(alloc, trace, "page", &["entry"], false)
+    program_line(alloc, "avm_json", &COMMANDS, false)
 }
 
 /// The words of the commands, computed by their definition: an entry's number is below 2^64, and is given once at most.
