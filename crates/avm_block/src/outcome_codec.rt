@@ -36,15 +36,15 @@ fn push_outcome(bytes: &mut Vec<u8>, outcome: Outcome) -> Result<(), AllocError>
         Outcome::Approved => bytes.extend_from_slice(&[0]),
         Outcome::Rejected => bytes.extend_from_slice(&[1]),
         Outcome::Faulted(fault, place) => {
-            bytes.extend_from_slice(&[2, fault.number()])?;
-            bytes.extend_from_slice(&place.to_be_bytes())
+            let [high, low] = place.to_be_bytes();
+            bytes.extend_from_slice(&[2, fault.number(), high, low])
         }
         Outcome::Refused(why) => bytes.extend_from_slice(&[3, why.number()]),
         Outcome::ClearedAnyway(Cause::Gone) => bytes.extend_from_slice(&[4, 0]),
         Outcome::ClearedAnyway(Cause::Rejected) => bytes.extend_from_slice(&[4, 1]),
         Outcome::ClearedAnyway(Cause::Faulted(fault, place)) => {
-            bytes.extend_from_slice(&[4, 2, fault.number()])?;
-            bytes.extend_from_slice(&place.to_be_bytes())
+            let [high, low] = place.to_be_bytes();
+            bytes.extend_from_slice(&[4, 2, fault.number(), high, low])
         }
     }
 }

@@ -1,6 +1,6 @@
 //! Ledgers.
 
-ghost use Rattle.std.specs.Prelude.{◌≡◌, ℕ, length, IfErr, IfOk};
+ghost use Rattle.std.specs.Prelude.{◌≡◌, [], ℕ, length, IfErr, IfOk};
 ghost use Rattle.std.specs.Map.Iter.{ShowsInOrder, deref_pair};
 ghost use Rattle.std.specs.Option.{option_copied, option_map};
 ghost use Rattle.teal_value.specs.Answer.{Gives};
@@ -139,17 +139,8 @@ impl Ledger {
         if id == u64::MAX {
             return Err(Failure::Fault(IdsEnd::IdsEnd));
         }
-        let row = Application {
-            creator,
-            approval: StoredProgram::new(approval.clone()?),
-            clear: StoredProgram::new(clear.clone()?),
-            global_schema,
-            local_schema,
-        };
-        let row = SharedApplication::new(alloc, row)?;
-        let state = State::new(alloc);
-        self.applications
-            .insert(id, StoredApplication { row, state })?;
+        let app = new_application(alloc, creator, approval, clear, global_schema, local_schema)?;
+        self.applications.insert(id, app)?;
         self.next_id = id + 1;
         Ok(id)
     }
@@ -242,4 +233,37 @@ impl Ledger {
             local_states,
         })
     }
+}
+
+// An application of this account, with these programs and schemas and an empty global state.
+fn new_application(
+    alloc: Global,
+    creator: Address,
+    approval: &Program,
+    clear: &Program,
+    global_schema: Schema,
+    local_schema: Schema,
+) -> Result<StoredApplication, AllocError>
+    ensures { IfOk result (λ app. app ≡ record {
+      row = record {
+        creator = creator;
+        approval = approval.now.bytes;
+        clear = clear.now.bytes;
+        global_schema = global_schema;
+        local_schema = local_schema;
+      };
+      state = [];
+    }) }
+{
+    let row = Application {
+        creator,
+        approval: StoredProgram::new(approval.clone()?),
+        clear: StoredProgram::new(clear.clone()?),
+        global_schema,
+        local_schema,
+    };
+    Ok(StoredApplication {
+        row: SharedApplication::new(alloc, row)?,
+        state: State::new(alloc),
+    })
 }

@@ -1,8 +1,9 @@
 //! Ledgers read from bytes.
 
-ghost use Rattle.std.specs.Prelude.{◌≡◌, ◌+◌, None};
+ghost use Rattle.std.specs.Prelude.{◌≡◌, ◌+◌, List, None, ℕ};
 ghost use Rattle.std.specs.Option.{option_copied};
 ghost use Rattle.teal_value.specs.Answer.{Gives};
+ghost use Rattle.teal_value.specs.declared.address.Address.{Address};
 ghost use Rattle.avm_ledger.specs.LedgerReader.{account_at, applications_at, id_between, is_no_lower, ledger_at, limited_schema_at, local_id_at, local_room, local_states_at, next_id_at, program_at, rises_from_pair, schemas_and_state_at, stored_application_at, stored_in};
 
 use crate::application::{Application, StoredApplication};
@@ -12,7 +13,7 @@ use crate::shared_application::SharedApplication;
 use crate::sorted_map::map_of;
 use crate::state_reading::{shared_state_of, state_of};
 use crate::stored_program::StoredProgram;
-use avm_states::{MAX_GLOBAL_ENTRIES, MAX_LOCAL_ENTRIES, Schema, SharedState};
+use avm_states::{MAX_GLOBAL_ENTRIES, MAX_LOCAL_ENTRIES, Schema, SharedState, State};
 use std::alloc::Global;
 use std::cmp::Ordering;
 use std::collections::BTreeMap;
@@ -126,9 +127,7 @@ fn stored_of(
 ) -> Result<(StoredApplication, Fields<'_>), LedgerError>
     ensures { Gives (λ x. x) result (schemas_and_state_at creator approval clear fields.entry) }
 {
-    let (global_schema, rest) = schema_of(MAX_GLOBAL_ENTRIES, fields)?;
-    let (local_schema, rest) = schema_of(MAX_LOCAL_ENTRIES, rest)?;
-    let (state, rest) = state_of(alloc, entries_within(global_schema), global_schema, rest)?;
+    let ((global_schema, local_schema, state), rest) = schemas_and_state_of(alloc, fields)?;
     let row = Application {
         creator,
         approval,
@@ -138,6 +137,32 @@ fn stored_of(
     };
     let row = SharedApplication::new(alloc, row)?;
     Ok((StoredApplication { row, state }, rest))
+}
+
+/// The schemas of an application and its global state, whoever created it and whatever its programs are.
+#[inline(always)]
+fn schemas_and_state_of(
+    alloc: Global,
+    fields: Fields<'_>,
+) -> Result<((Schema, Schema, State), Fields<'_>), LedgerError>
+    ensures { (creator : Address) (approval : List ℕ) (clear : List ℕ) → Gives (λ x. (
+      record {
+        row = record {
+          creator = creator;
+          approval = approval;
+          clear = clear;
+          global_schema = x.0.0;
+          local_schema = x.0.1;
+        };
+        state = x.0.2;
+      },
+      x.1,
+    )) result (schemas_and_state_at creator approval clear fields.entry) }
+{
+    let (global_schema, rest) = schema_of(MAX_GLOBAL_ENTRIES, fields)?;
+    let (local_schema, rest) = schema_of(MAX_LOCAL_ENTRIES, rest)?;
+    let (state, rest) = state_of(alloc, entries_within(global_schema), global_schema, rest)?;
+    Ok(((global_schema, local_schema, state), rest))
 }
 
 /// A program, checked; or that of the last application, shared, where it has the same bytes.

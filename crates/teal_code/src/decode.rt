@@ -92,61 +92,43 @@ fn immediates_of(
 ) -> Result<(Immediates, &[u8]), CodeError>
     ensures { Gives (λ x. (x.0, x.1.now)) result (immediates_at shape bytes.now) }
 {
-    match shape {
-        Shape::Nothing => Ok((Immediates::Nothing, bytes)),
-        Shape::Index => {
-            let (index, rest) = byte_of(bytes)?;
-            Ok((Immediates::Index(index), rest))
+    match (shape, bytes) {
+        (Shape::Nothing, _) => Ok((Immediates::Nothing, bytes)),
+        (Shape::Index, [index, rest @ ..]) => Ok((Immediates::Index(*index), rest)),
+        (Shape::TxnField | Shape::GlobalField | Shape::StackField, [field, rest @ ..]) => {
+            Ok((Immediates::Field(*field), rest))
         }
-        Shape::TxnField | Shape::GlobalField | Shape::StackField => {
-            let (field, rest) = byte_of(bytes)?;
-            Ok((Immediates::Field(field), rest))
+        (Shape::GroupField, [group, field, rest @ ..]) => {
+            Ok((Immediates::GroupField(*group, *field), rest))
         }
-        Shape::GroupField => {
-            let (group, rest) = byte_of(bytes)?;
-            let (field, rest) = byte_of(rest)?;
-            Ok((Immediates::GroupField(group, field), rest))
+        (Shape::ArrayField | Shape::StackArrayField, [field, index, rest @ ..]) => {
+            Ok((Immediates::ArrayField(*field, *index), rest))
         }
-        Shape::ArrayField | Shape::StackArrayField => {
-            let (field, rest) = byte_of(bytes)?;
-            let (index, rest) = byte_of(rest)?;
-            Ok((Immediates::ArrayField(field, index), rest))
+        (Shape::GroupArrayField, [group, field, index, rest @ ..]) => {
+            Ok((Immediates::GroupArrayField(*group, *field, *index), rest))
         }
-        Shape::GroupArrayField => {
-            let (group, rest) = byte_of(bytes)?;
-            let (field, rest) = byte_of(rest)?;
-            let (index, rest) = byte_of(rest)?;
-            Ok((Immediates::GroupArrayField(group, field, index), rest))
+        (Shape::Bounds, [start, end, rest @ ..]) => Ok((Immediates::Bounds(*start, *end), rest)),
+        (Shape::Offset, [high, low, rest @ ..]) => {
+            let offset = 256 * u16::from(*high) + u16::from(*low);
+            Ok((Immediates::Offset(offset), rest))
         }
-        Shape::Bounds => {
-            let (start, rest) = byte_of(bytes)?;
-            let (end, rest) = byte_of(rest)?;
-            Ok((Immediates::Bounds(start, end), rest))
-        }
-        Shape::Offset => {
-            let (high, rest) = byte_of(bytes)?;
-            let (low, rest) = byte_of(rest)?;
-            Ok((
-                Immediates::Offset(256 * u16::from(high) + u16::from(low)),
-                rest,
-            ))
-        }
-        Shape::UintBlock => {
+        (Shape::UintBlock, _) => {
             let (numbers, rest) = uint_block_of(alloc, bytes)?;
             Ok((Immediates::UintBlock(numbers), rest))
         }
-        Shape::ByteBlock => {
+        (Shape::ByteBlock, _) => {
             let (strings, rest) = byte_block_of(alloc, bytes)?;
             Ok((Immediates::ByteBlock(strings), rest))
         }
-        Shape::Uint => {
+        (Shape::Uint, _) => {
             let (number, rest) = varuint_of(bytes)?;
             Ok((Immediates::Uint(number), rest))
         }
-        Shape::Bytes => {
+        (Shape::Bytes, _) => {
             let (string, rest) = string_of(alloc, bytes)?;
             Ok((Immediates::Bytes(string), rest))
         }
+        _ => Err(Failure::Fault(CodeFault::Truncated)),
     }
 }
 

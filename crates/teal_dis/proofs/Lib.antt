@@ -3,3 +3,4 @@ pub mod LineNumbers
 pub mod Listings
 pub mod Targets
 pub mod Rows
+pub mod Gathered

@@ -1,6 +1,6 @@
 //! The operands of an instruction, each as a word.
 
-ghost use Rattle.std.specs.Prelude.{◌≡◌, ◌∷◌, [], map, codes, decimal, string_bytes, IfOk};
+ghost use Rattle.std.specs.Prelude.{◌≡◌, ◌≤◌, ◌∷◌, [], map, codes, decimal, string_bytes, IfOk, Ok};
 ghost use Rattle.teal_dis.specs.Listing.{constant, txn_field, field, operands};
 ghost use Rattle.teal_dis.specs.Shown.{texts};
 
@@ -20,23 +20,35 @@ pub(crate) fn operands(
 {
     match immediates {
         Immediates::Nothing => Ok(Vec::new(alloc)),
-        Immediates::Index(i) => Ok(vec![in alloc; byte(alloc, *i)?]?),
-        Immediates::Field(f) => Ok(vec![in alloc; field(alloc, shape, *f)?]?),
-        Immediates::GroupField(t, f) => Ok(vec![in alloc; byte(alloc, *t)?, txn(alloc, *f)?]?),
-        Immediates::ArrayField(f, i) => Ok(vec![in alloc; txn(alloc, *f)?, byte(alloc, *i)?]?),
+        Immediates::Index(i) => gathered(alloc, [byte(alloc, *i)]),
+        Immediates::Field(f) => gathered(alloc, [field(alloc, shape, *f)]),
+        Immediates::GroupField(t, f) => gathered(alloc, [byte(alloc, *t), txn(alloc, *f)]),
+        Immediates::ArrayField(f, i) => gathered(alloc, [txn(alloc, *f), byte(alloc, *i)]),
         Immediates::GroupArrayField(t, f, i) => {
-            Ok(vec![in alloc; byte(alloc, *t)?, txn(alloc, *f)?, byte(alloc, *i)?]?)
+            gathered(alloc, [byte(alloc, *t), txn(alloc, *f), byte(alloc, *i)])
         }
-        Immediates::Bounds(start, end) => Ok(vec![in alloc;
-            byte(alloc, *start)?,
-            byte(alloc, *end)?,
-        ]?),
-        Immediates::Offset(_) => Ok(vec![in alloc; String::from_str(alloc, target)?]?),
+        Immediates::Bounds(start, end) => gathered(alloc, [byte(alloc, *start), byte(alloc, *end)]),
+        Immediates::Offset(_) => gathered(alloc, [String::from_str(alloc, target)]),
         Immediates::UintBlock(numbers) => all_numbers(alloc, numbers.as_slice()),
         Immediates::ByteBlock(strings) => all_constants(alloc, strings.as_slice()),
-        Immediates::Uint(n) => Ok(vec![in alloc; number(alloc, *n)?]?),
-        Immediates::Bytes(bytes) => Ok(vec![in alloc; constant(alloc, bytes)?]?),
+        Immediates::Uint(n) => gathered(alloc, [number(alloc, *n)]),
+        Immediates::Bytes(bytes) => gathered(alloc, [constant(alloc, bytes)]),
     }
+}
+
+// The words, unless one of them was refused its memory.
+fn gathered<const N: usize>(
+    alloc: Global,
+    words: [Result<String, AllocError>; N],
+) -> Result<Vec<String>, AllocError>
+    requires { N ≤ 3 }
+    ensures { IfOk result (λ strings. words.entry ≡ map Ok strings.items) }
+{
+    let mut strings = Vec::new(alloc);
+    for word in words {
+        strings.push(word?)?;
+    }
+    Ok(strings)
 }
 
 fn number(alloc: Global, n: u64) -> Result<String, AllocError>

@@ -1,6 +1,6 @@
 //! Base32 with the alphabet A to Z and 2 to 7 (RFC 4648, section 6).
 
-ghost use Rattle.std.specs.Prelude.{◌≡◌, ◌<◌, ◌≤◌, ◌↔◌, ℕ, List, [], ◌∷◌, Ok, IfOk, All, length, map};
+ghost use Rattle.std.specs.Prelude.{◌≡◌, ◌<◌, ◌≤◌, ◌↔◌, ℕ, List, [], ◌∷◌, Ok, IfOk, All, length, map, take};
 ghost use Rattle.std.specs.String.{string_bytes};
 ghost use Rattle.teal_value.specs.Answer.{Gives};
 ghost use Rattle.teal_value.specs.Base32.{base32, symbol, groups, group_of, bytes_of_digits, symbol_count, is_symbol, is_tail, base32_decoded, IsBytes, IsBase32};
@@ -91,14 +91,25 @@ fn groups_of(alloc: Global, bytes: &[u8]) -> Result<Vec<u8>, AllocError>
         out.extend_from_slice(&groups_of_five(*a, *b, *c, *d, *e))?;
         rest = tail;
     }
-    match rest {
-        [a] => out.extend_from_slice(&groups_of_five(*a, 0, 0, 0, 0)[..2])?,
-        [a, b] => out.extend_from_slice(&groups_of_five(*a, *b, 0, 0, 0)[..4])?,
-        [a, b, c] => out.extend_from_slice(&groups_of_five(*a, *b, *c, 0, 0)[..5])?,
-        [a, b, c, d] => out.extend_from_slice(&groups_of_five(*a, *b, *c, *d, 0)[..7])?,
-        _ => (),
-    }
+    let (last, count) = last_groups(rest);
+    out.extend_from_slice(&last[..count])?;
     Ok(out)
+}
+
+/// The groups that fewer than five bytes make, and how many these are: what stands behind them is no group.
+#[tactic(auto, unfolding(crate::specs::Base32::groups))]
+fn last_groups(bytes: &[u8]) -> ([u8; 8], usize)
+    requires { length bytes.now < 5 }
+    ensures value { take result.1 result.0 ≡ groups bytes.now }
+    ensures within { result.1 ≤ 8 }
+{
+    match bytes {
+        [a] => (groups_of_five(*a, 0, 0, 0, 0), 2),
+        [a, b] => (groups_of_five(*a, *b, 0, 0, 0), 4),
+        [a, b, c] => (groups_of_five(*a, *b, *c, 0, 0), 5),
+        [a, b, c, d] => (groups_of_five(*a, *b, *c, *d, 0), 7),
+        _ => ([0; 8], 0),
+    }
 }
 
 /// The groups that five bytes make.
@@ -165,18 +176,26 @@ fn bytes_of(alloc: Global, groups: &[u8]) -> Result<Vec<u8>, AllocError>
         out.extend_from_slice(&bytes_of_eight(*p, *q, *r, *s, *t, *u, *v, *w))?;
         rest = tail;
     }
-    match rest {
-        [p, q] => out.extend_from_slice(&bytes_of_eight(*p, *q, 0, 0, 0, 0, 0, 0)[..1])?,
-        [p, q, r, s] => out.extend_from_slice(&bytes_of_eight(*p, *q, *r, *s, 0, 0, 0, 0)[..2])?,
-        [p, q, r, s, t] => {
-            out.extend_from_slice(&bytes_of_eight(*p, *q, *r, *s, *t, 0, 0, 0)[..3])?;
-        }
-        [p, q, r, s, t, u, v] => {
-            out.extend_from_slice(&bytes_of_eight(*p, *q, *r, *s, *t, *u, *v, 0)[..4])?;
-        }
-        _ => (),
-    }
+    let (last, count) = last_bytes(rest);
+    out.extend_from_slice(&last[..count])?;
     Ok(out)
+}
+
+/// The bytes that fewer than eight groups fill, and how many these are: what stands behind them is not filled.
+#[tactic(auto, unfolding(crate::specs::Base32::bytes_of_digits))]
+fn last_bytes(groups: &[u8]) -> ([u8; 5], usize)
+    requires few { length groups.now < 8 }
+    requires small { All (λ g. g < 32) groups.now }
+    ensures value { take result.1 result.0 ≡ bytes_of_digits groups.now }
+    ensures within { result.1 ≤ 5 }
+{
+    match groups {
+        [p, q] => (bytes_of_eight(*p, *q, 0, 0, 0, 0, 0, 0), 1),
+        [p, q, r, s] => (bytes_of_eight(*p, *q, *r, *s, 0, 0, 0, 0), 2),
+        [p, q, r, s, t] => (bytes_of_eight(*p, *q, *r, *s, *t, 0, 0, 0), 3),
+        [p, q, r, s, t, u, v] => (bytes_of_eight(*p, *q, *r, *s, *t, *u, *v, 0), 4),
+        _ => ([0; 5], 0),
+    }
 }
 
 /// The bytes that eight groups fill.
