@@ -10,7 +10,7 @@
 
 ghost use Rattle.std.specs.Prelude.{◌≡◌};
 
-use crate::ledgers::{Bench, Words, digits_of, profile_of};
+use crate::ledgers::{Bench, Words, digits_of, profile_of, refusal};
 use avm_block::{Block, Entry, encode};
 use avm_call::{Call, Outcome};
 use avm_debug::{Debugger, PastError, Source, state_of};
@@ -27,7 +27,6 @@ use std::mem;
 use std::sync::ledger;
 use std::sync::ledger::Blank;
 use std::test::Fail;
-use teal_value::Failure;
 
 /// The calls that are taken, and the block that was made last.
 #[derive(Drop)]
@@ -103,8 +102,7 @@ fn plain<O: Op>(
             blocks.block = Some(block);
             Ok(text)
         }
-        Err(Failure::Fault(fault)) => Ok(format!(in alloc; "{fault:?}")?),
-        Err(Failure::Memory) => Err("memory is refused".into()),
+        Err(failure) => refusal(alloc, failure),
     }
 }
 

@@ -24,6 +24,7 @@ use sample_calls::calls::{HEADER, call_or_fault};
 use sample_calls::programs::Programs;
 use sample_calls::words::{joined, number, word};
 use std::alloc::Global;
+use std::fmt::Debug;
 use std::marker::Brand;
 use std::sync::ledger;
 use std::sync::ledger::Blank;
@@ -114,6 +115,14 @@ pub fn digits_of(alloc: Global, ledger: &Ledger) -> Result<String, Fail> {
     Ok(hex::encode(alloc, ledger.canonical(alloc)?.as_slice())?)
 }
 
+/// What was refused, where it was not memory.
+pub fn refusal<F: Debug + Drop>(alloc: Global, failure: Failure<F>) -> Result<String, Fail> {
+    match failure {
+        Failure::Fault(fault) => Ok(format!(in alloc; "{fault:?}")?),
+        Failure::Memory => Err("memory is refused".into()),
+    }
+}
+
 /// The profile of its number.
 pub fn profile_of(word: &str) -> Result<Profile, Fail> {
     match word {
@@ -141,8 +150,7 @@ fn ledger_read(alloc: Global, bench: &mut Bench, words: &[&str]) -> Result<Strin
             bench.ledger = read;
             Ok(String::from_str(alloc, "read")?)
         }
-        Err(Failure::Fault(fault)) => Ok(format!(in alloc; "{fault:?}")?),
-        Err(Failure::Memory) => Err("memory is refused".into()),
+        Err(failure) => refusal(alloc, failure),
     }
 }
 
@@ -151,8 +159,7 @@ fn call_data_again(alloc: Global, bench: &Bench, words: &[&str]) -> Result<Strin
     let bytes = joined(alloc, &bench.programs, words)?;
     match CallData::read(alloc, bytes.as_slice()) {
         Ok(call) => call_digits(alloc, &call),
-        Err(Failure::Fault(fault)) => Ok(format!(in alloc; "{fault:?}")?),
-        Err(Failure::Memory) => Err("memory is refused".into()),
+        Err(failure) => refusal(alloc, failure),
     }
 }
 
@@ -167,8 +174,7 @@ fn call_digits(alloc: Global, call: &CallData) -> Result<String, Fail> {
 fn block_again(alloc: Global, bench: &Bench, words: &[&str]) -> Result<String, Fail> {
     match decode(alloc, joined(alloc, &bench.programs, words)?.as_slice()) {
         Ok(block) => Ok(hex::encode(alloc, encode(alloc, &block)?.as_slice())?),
-        Err(Failure::Fault(fault)) => Ok(format!(in alloc; "{fault:?}")?),
-        Err(Failure::Memory) => Err("memory is refused".into()),
+        Err(failure) => refusal(alloc, failure),
     }
 }
 

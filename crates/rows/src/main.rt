@@ -29,7 +29,7 @@ use crate::blocks::Blocks;
 use crate::ledgers::{Bench, Words};
 use crate::store_rows::carry_out_all;
 use crate::streams::{Input, Output};
-use avm_node::answer;
+use avm_commands::answer;
 use avm_objects::filled_set;
 use avm_ops::{Op, Ops};
 use avm_run::FullOps;

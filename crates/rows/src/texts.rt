@@ -5,6 +5,7 @@
 //! - `lines TOKEN` tells how many lines the text of a byte literal has, and where the tokens of each lie.
 
 use std::alloc::Global;
+use std::fmt::Display;
 use std::test::Fail;
 use teal_text::{Line, Token, byte_literal, lines};
 use teal_value::{Address, Failure, address_of_text, address_text, base32_decode, base32_encode};
@@ -31,16 +32,14 @@ pub fn reply(alloc: Global, head: &str, rest: &str) -> Result<Option<String>, Fa
 fn base32_bytes(alloc: Global, text: &str) -> Result<String, Fail> {
     match base32_decode(alloc, text) {
         Ok(bytes) => digits_of(alloc, bytes.as_slice()),
-        Err(Failure::Fault(fault)) => Ok(format!(in alloc; "{fault}")?),
-        Err(Failure::Memory) => Err("memory is refused".into()),
+        Err(failure) => refusal(alloc, failure),
     }
 }
 
 fn address_bytes(alloc: Global, text: &str) -> Result<String, Fail> {
     match address_of_text(alloc, text) {
         Ok(address) => digits_of(alloc, &address.0),
-        Err(Failure::Fault(fault)) => Ok(format!(in alloc; "{fault}")?),
-        Err(Failure::Memory) => Err("memory is refused".into()),
+        Err(failure) => refusal(alloc, failure),
     }
 }
 
@@ -48,6 +47,14 @@ fn literal_bytes(alloc: Global, first: &str, second: Option<&str>) -> Result<Str
     match byte_literal(alloc, first, second)? {
         Some(bytes) => digits_of(alloc, bytes.as_slice()),
         None => Ok(String::from_str(alloc, "none")?),
+    }
+}
+
+/// Why a text says nothing.
+fn refusal<F: Display + Drop>(alloc: Global, failure: Failure<F>) -> Result<String, Fail> {
+    match failure {
+        Failure::Fault(fault) => Ok(format!(in alloc; "{fault}")?),
+        Failure::Memory => Err("memory is refused".into()),
     }
 }
 
@@ -69,8 +76,7 @@ fn lines_of_literal(alloc: Global, literal: &str) -> Result<String, Fail> {
 fn lines_of_text(alloc: Global, text: &str) -> Result<String, Fail> {
     match lines(alloc, text) {
         Ok(lines) => lines_said(alloc, &lines),
-        Err(Failure::Fault(fault)) => Ok(format!(in alloc; "{fault}")?),
-        Err(Failure::Memory) => Err("memory is refused".into()),
+        Err(failure) => refusal(alloc, failure),
     }
 }
 
