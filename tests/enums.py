@@ -12,7 +12,7 @@ import avm  # noqa: E402
 
 # An enum of the header, the prefix of its names, its class in python/avm.py, and the enum of the code with its file.
 ENUMS = (
-    ("avm_status", "AVM_", avm.Status, "Status", "avm_c/src/statuses.rt"),
+    ("avm_status", "AVM_", avm.Status, "Status", "avm_bytes/src/statuses.rt"),
     ("avm_fault", "AVM_FAULT_", avm.Fault, "Fault", "teal_value/src/fault.rt"),
     ("avm_call_fault", "AVM_CALL_", avm.CallFault, "CallFault", "avm_call/src/call_fault.rt"),
     ("avm_why", "AVM_WHY_", avm.Why, "Why", "avm_call/src/outcome.rt"),
@@ -49,7 +49,7 @@ def in_code(file, enum):
 def of_calls(file, enum):
     """The faults of a call's bytes by their numbers in avm_c, the broken rules, which stand behind them, and behind those the faults of
     all calls of a block."""
-    told = (TOP / "crates/avm_c/src/attempts.rt").read_text()
+    told = (TOP / "crates/avm_bytes/src/attempts.rt").read_text()
     numbers = {name: int(number) for name, number in re.findall(r"\bCallDataFault::(\w+)\) => (\d+),", told)}
     behind = int(re.search(r"=> (\d+) \+ u32::from\(fault\.number\(\)\)", told)[1])
     return {**numbers, **numbered_from(behind, file, enum), **numbered_from(OF_LISTS, "avm_block/src/block_calls.rt", "CallsFault")}

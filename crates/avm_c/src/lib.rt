@@ -1,61 +1,43 @@
 //! The machine for callers in C: a static library whose exports take bytes and answer bytes, a status and numbers. Nothing is
 //! kept between calls, and no thread is started. `include/avm.h` says for C what the contracts here say.
-//!
-//! `specs/Statuses.antt` has the numbers of statuses, `specs/Answers.antt` what a caller finds in the room that it lends,
-//! and the other definitions say which answer it is, in the words of the commands' own contracts.
+//! `avm_bytes` has the definitions that they cite, and makes the answers.
 #![tactic(auto)]
 
-mod answers;
-mod applied;
-mod attempts;
-mod blocks;
-mod calls;
-mod diagnoses;
-mod ends;
-mod findings;
-mod listed_calls;
-mod programs;
-mod proposals;
 mod questions;
-mod statuses;
-mod traces;
-mod troubles;
-mod views;
-mod words;
 
 ghost use Rattle.std.specs.Prelude.{◌≡◌, ◌≢◌};
 ghost use Rattle.teal_check.specs.WellFormed.{checked};
-ghost use Rattle.avm_c.specs.declared.statuses.Status.TheVariants as status;
-ghost use Rattle.avm_c.specs.Answers.{IsAnswered};
-ghost use Rattle.avm_c.specs.Applied.{IsToldApplied};
-ghost use Rattle.avm_c.specs.Attempts.{IsAttempted, IsTold, asked_of};
-ghost use Rattle.avm_c.specs.BlockAnswers.{ledger_and_block, state_answer_at};
-ghost use Rattle.avm_c.specs.Calls.{called, on_ledger};
-ghost use Rattle.avm_c.specs.Diagnoses.{IsDiagnosed, IsToldWrong, kind_of, wrong_with};
-ghost use Rattle.avm_c.specs.Findings.{IsFound};
-ghost use Rattle.avm_c.specs.Programs.{assembled_answer, check_status, listed_answer};
-ghost use Rattle.avm_c.specs.Proposals.{IsToldProposed, calls_on_ledger};
-ghost use Rattle.avm_c.specs.Statuses.{status_number};
-ghost use Rattle.avm_c.specs.TraceAnswers.{IsTraceAnswer};
-ghost use Rattle.avm_c.specs.ViewAnswers.{IsViewAnswer};
-ghost use Rattle.avm_c.specs.WordAnswers.{IsCommandAnswer, IsJsonAnswer, command_of, json_command_of};
+ghost use Rattle.avm_bytes.specs.declared.statuses.Status.TheVariants as status;
+ghost use Rattle.avm_bytes.specs.Answers.{IsAnswered};
+ghost use Rattle.avm_bytes.specs.Applied.{IsToldApplied};
+ghost use Rattle.avm_bytes.specs.Attempts.{IsAttempted, IsTold, asked_of};
+ghost use Rattle.avm_bytes.specs.BlockAnswers.{ledger_and_block, state_answer_at};
+ghost use Rattle.avm_bytes.specs.Calls.{called, on_ledger};
+ghost use Rattle.avm_bytes.specs.Diagnoses.{IsDiagnosed, IsToldWrong, kind_of, wrong_with};
+ghost use Rattle.avm_bytes.specs.Findings.{IsFound};
+ghost use Rattle.avm_bytes.specs.Programs.{assembled_answer, check_status, listed_answer};
+ghost use Rattle.avm_bytes.specs.Proposals.{IsToldProposed, calls_on_ledger};
+ghost use Rattle.avm_bytes.specs.Statuses.{status_number};
+ghost use Rattle.avm_bytes.specs.TraceAnswers.{IsTraceAnswer};
+ghost use Rattle.avm_bytes.specs.ViewAnswers.{IsViewAnswer};
+ghost use Rattle.avm_bytes.specs.WordAnswers.{IsCommandAnswer, IsJsonAnswer, command_of, json_command_of};
 
-use crate::answers::{place, place_nothing};
-use crate::applied::{Apply, write_difference};
-use crate::attempts::CallOver;
-use crate::blocks::{Replay, State};
-use crate::calls::CallOn;
-use crate::diagnoses::{Kind, kind_of, wrong_with};
-use crate::ends::End;
-use crate::findings::{Difference, write_finding};
-use crate::programs::{assembled_answer, listed_answer};
-use crate::proposals::Propose;
 use crate::questions::ask;
-use crate::statuses::Status;
-use crate::traces::TraceOf;
-use crate::troubles::{Trouble, tell_trouble, write_trouble};
-use crate::views::ViewAfter;
-use crate::words::{AvmWords, JsonWords};
+use avm_bytes::answers::{place, place_nothing};
+use avm_bytes::applied::{Apply, write_difference};
+use avm_bytes::attempts::CallOver;
+use avm_bytes::blocks::{Replay, State};
+use avm_bytes::calls::CallOn;
+use avm_bytes::diagnoses::{Kind, kind_of, wrong_with};
+use avm_bytes::ends::End;
+use avm_bytes::findings::{Difference, write_finding};
+use avm_bytes::programs::{assembled_answer, listed_answer};
+use avm_bytes::proposals::Propose;
+use avm_bytes::statuses::Status;
+use avm_bytes::traces::TraceOf;
+use avm_bytes::troubles::{Trouble, tell_trouble, write_trouble};
+use avm_bytes::views::ViewAfter;
+use avm_bytes::words::{AvmWords, JsonWords};
 use std::alloc::Global;
 use teal_check::check;
 use teal_value::Failure;

@@ -1,5 +1,5 @@
 use Rattle.std.proofs.Common.{inr}
-use Rattle.avm_c.specs.Applied.{applied_shown}
+use Rattle.avm_bytes.specs.Applied.{applied_shown}
 use Rattle.avm_c.proofs.avm_c_apply.Goals as goal
 
 pub returns-in-Ok : goal.returns-in-Ok

@@ -1,5 +1,5 @@
 use Rattle.std.proofs.Common.{refl, inr}
-use Rattle.avm_c.specs.Attempts.{attempted_shown}
+use Rattle.avm_bytes.specs.Attempts.{attempted_shown}
 use Rattle.avm_c.proofs.avm_c_attempt.Goals as goal
 
 pub returns-in-Ok : goal.returns-in-Ok

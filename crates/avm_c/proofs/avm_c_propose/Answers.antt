@@ -1,5 +1,5 @@
 use Rattle.std.proofs.Common.{inr}
-use Rattle.avm_c.specs.Proposals.{proposed_shown}
+use Rattle.avm_bytes.specs.Proposals.{proposed_shown}
 use Rattle.avm_c.proofs.avm_c_propose.Goals as goal
 
 pub returns-in-Ok : goal.returns-in-Ok

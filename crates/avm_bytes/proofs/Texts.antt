@@ -1,0 +1,56 @@
+-- Source text and words, by whether they are UTF-8.
+use Rattle.std.proofs.Common.{◌≡◌, ℕ, List, [], Result, Some, IfOk, refl, true, false}
+use Rattle.std.specs.Str.{IsUtf8, is_utf8}
+use Rattle.std.proofs.lemmas.Str.{IsUtf8-from_is_utf8, is_utf8-from_IsUtf8}
+use Rattle.teal_asm.specs.Program.{assembled}
+use Rattle.avm_bytes.specs.declared.answers.Answer.{Answer as WrittenAnswer}
+use Rattle.avm_bytes.specs.declared.statuses.Status.TheVariants as status
+use Rattle.avm_bytes.specs.Answers.{Answer, refusal}
+use Rattle.avm_bytes.specs.Diagnoses.{of_source, of_text}
+use Rattle.avm_bytes.specs.Programs.{assembled_answer, assembly_answer}
+use Rattle.avm_bytes.specs.Shown.{answer_shown}
+use Rattle.avm_bytes.specs.Troubles.{refused_for}
+use Rattle.avm_bytes.specs.WordAnswers.{words_in, words_of}
+
+pub is_utf8-false : (bytes : List ℕ) → (IsUtf8 bytes → ⊥) → is_utf8 bytes ≡ false
+is_utf8-false bytes fails =
+    elim (is_utf8 bytes) as (λ b. is_utf8 bytes ≡ b → b ≡ false) [
+      | true ↦ λ e. absurd (fails (IsUtf8-from_is_utf8 bytes e))
+      | false ↦ λ e. refl
+    ] refl
+
+-- source text that is not UTF-8 is refused
+pub assembled_answer-not_utf8 : (bytes : List ℕ) → (IsUtf8 bytes → ⊥) → assembled_answer bytes ≡ refusal status.NoText
+assembled_answer-not_utf8 bytes fails = rw (is_utf8-false bytes fails) refl
+
+-- source text in UTF-8 is answered with what it assembles to
+pub assembled_answer-utf8 : (bytes text : List ℕ) → IsUtf8 bytes → text ≡ bytes → assembled_answer bytes ≡ assembly_answer (assembled text)
+assembled_answer-utf8 bytes text u same = rw (is_utf8-from_IsUtf8 bytes u, ← same) refl
+
+-- source text that is not UTF-8 has no line
+pub of_text-not_utf8 : (bytes : List ℕ) → (IsUtf8 bytes → ⊥) → of_text bytes ≡ Some (refused_for status.NoText 0)
+of_text-not_utf8 bytes fails = rw (is_utf8-false bytes fails) refl
+
+-- of source text in UTF-8 is wrong what is wrong with it as source text
+pub of_text-utf8 : (bytes text : List ℕ) → IsUtf8 bytes → text ≡ bytes → of_text bytes ≡ of_source text
+of_text-utf8 bytes text u same = rw (is_utf8-from_IsUtf8 bytes u, ← same) refl
+
+-- ---- words
+
+words_of-utf8 : (bytes text : List ℕ) → IsUtf8 bytes → text ≡ bytes → words_of bytes ≡ words_in text
+words_of-utf8 bytes text u same = rw (is_utf8-from_IsUtf8 bytes u, ← same) refl
+
+words_of-not_utf8 : (bytes : List ℕ) → (IsUtf8 bytes → ⊥) → words_of bytes ≡ []
+words_of-not_utf8 bytes fails = rw (is_utf8-false bytes fails) refl
+
+-- what is answered to words, is answered to the UTF-8 bytes that hold them
+pub utf8_words_answered : {E : Type 0} (IsAnswer : List (List ℕ) → Answer → Type 0) (r : Result WrittenAnswer E) (bytes text : List ℕ) (words : List (List ℕ)) → IsUtf8 bytes → text ≡ bytes
+    → words ≡ words_in text → IfOk r (λ answer. IsAnswer words (answer_shown answer))
+    → IfOk r (λ answer. IsAnswer (words_of bytes) (answer_shown answer))
+utf8_words_answered IsAnswer r bytes text words u same are answered = rw (words_of-utf8 bytes text u same, ← are) answered
+
+-- what is answered to no words, is answered to bytes that are not UTF-8
+pub other_words_answered : {E : Type 0} (IsAnswer : List (List ℕ) → Answer → Type 0) (r : Result WrittenAnswer E) (bytes : List ℕ) → (IsUtf8 bytes → ⊥)
+    → IfOk r (λ answer. IsAnswer [] (answer_shown answer))
+    → IfOk r (λ answer. IsAnswer (words_of bytes) (answer_shown answer))
+other_words_answered IsAnswer r bytes fails answered = rw (words_of-not_utf8 bytes fails) answered

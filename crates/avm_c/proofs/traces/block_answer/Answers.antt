@@ -1,9 +1,0 @@
-use Rattle.json_views.specs.Traces.{FindsBlock}
-use Rattle.avm_c.proofs.TracesFound.{trace_refused, trace_shown}
-use Rattle.avm_c.proofs.traces.block_answer.Goals as goal
-
-pub returns-in-Ok : goal.returns-in-Ok
-returns-in-Ok g c = trace_shown (FindsBlock (c.args.base, c.args.block.now)) _ _ c.in-Ok.ensures.found (rw c.into_bytes.ensures.value at c.done.ensures)
-
-pub returns-in-Err-Fault : goal.returns-in-Err-Fault
-returns-in-Err-Fault g c = trace_refused (FindsBlock (c.args.base, c.args.block.now)) c.in-Err-Fault.why _ (rw c.in-Err-Fault.field-0-is at c.in-Err-Fault.ensures.refused) (rw c.trace_status.ensures at c.refusal.ensures)

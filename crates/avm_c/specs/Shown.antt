@@ -1,6 +1,0 @@
--- Answers, without where they lie in memory.
-use Rattle.avm_c.specs.declared.answers.Answer.{Answer as WrittenAnswer}
-use Rattle.avm_c.specs.Answers.{Answer}
-
-abbrev pub answer_shown : WrittenAnswer → Answer
-answer_shown answer = record { status = answer.status; bytes = answer.bytes.items }
