@@ -7,7 +7,7 @@ ghost use Rattle.avm_arith.specs.Families.{bits_opcode};
 
 use avm_cpu::{Cpu, Flow};
 use avm_items::Env;
-use avm_ops::{Executed, Op, Stop, Way};
+use avm_ops::{Control, Executed, Op, Stop};
 use std::alloc::{AllocError, Global};
 use teal_code::Instr;
 use teal_table::Opcode;
@@ -189,7 +189,7 @@ impl Op for Bits {
         self.execute(alloc, instr, cpu, env)
     }
 
-    fn carry_out(&self, alloc: Global, instr: &Instr, cpu: &mut Cpu, env: &mut Env) -> Way {
-        Way::of(alloc, self.execute(alloc, instr, cpu, env))
+    fn carry_out(&self, alloc: Global, instr: &Instr, cpu: &mut Cpu, env: &mut Env) -> Control {
+        Control::of(alloc, self.execute(alloc, instr, cpu, env))
     }
 }

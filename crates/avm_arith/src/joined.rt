@@ -7,7 +7,7 @@ ghost use Rattle.avm_arith.specs.Families.{joined_opcode};
 use crate::of_bytes::range_of;
 use avm_cpu::{Cpu, Flow, MAX_BYTES};
 use avm_items::Env;
-use avm_ops::{Executed, Op, Stop, Way};
+use avm_ops::{Control, Executed, Op, Stop};
 use std::alloc::{AllocError, Global};
 use teal_code::Instr;
 use teal_table::Opcode;
@@ -89,7 +89,7 @@ impl Op for Joined {
         self.execute(alloc, instr, cpu, env)
     }
 
-    fn carry_out(&self, alloc: Global, instr: &Instr, cpu: &mut Cpu, env: &mut Env) -> Way {
-        Way::of(alloc, self.execute(alloc, instr, cpu, env))
+    fn carry_out(&self, alloc: Global, instr: &Instr, cpu: &mut Cpu, env: &mut Env) -> Control {
+        Control::of(alloc, self.execute(alloc, instr, cpu, env))
     }
 }

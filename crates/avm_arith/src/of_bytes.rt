@@ -12,7 +12,7 @@ ghost use Rattle.avm_arith.specs.Given.{given_value};
 use avm_cpu::{Cpu, Flow};
 use avm_items::Env;
 use avm_ops::immediates::{end_of, start_of};
-use avm_ops::{Executed, Op, Way};
+use avm_ops::{Control, Executed, Op};
 use sha2::{Digest, Sha256, Sha512_256};
 use std::alloc::Global;
 use teal_code::{Immediates, Instr};
@@ -114,7 +114,7 @@ fn sha512_256(bytes: &[u8]) -> [u8; 32]
     Sha512_256::digest(bytes)
 }
 
-/// The number that at most 8 bytes spell.
+/// The number that at most 8 bytes encode.
 fn number_of(bytes: &[u8]) -> Result<Value, Failure<Fault>>
     ensures { Gives (λ v. v) result (number_of_bytes bytes.now) }
 {
@@ -125,7 +125,7 @@ fn number_of(bytes: &[u8]) -> Result<Value, Failure<Fault>>
     }
 }
 
-/// The number that the bytes spell, the highest byte first.
+/// The number that the bytes encode, the highest byte first.
 fn big_endian(bytes: &[u8]) -> u64
     requires { length bytes.now ≤ 8 }
     ensures { result ≡ big_endian bytes.now }
@@ -165,7 +165,7 @@ impl Op for OfBytes {
         self.execute(alloc, instr, cpu, env)
     }
 
-    fn carry_out(&self, alloc: Global, instr: &Instr, cpu: &mut Cpu, env: &mut Env) -> Way {
-        Way::of(alloc, self.execute(alloc, instr, cpu, env))
+    fn carry_out(&self, alloc: Global, instr: &Instr, cpu: &mut Cpu, env: &mut Env) -> Control {
+        Control::of(alloc, self.execute(alloc, instr, cpu, env))
     }
 }

@@ -7,7 +7,7 @@ ghost use Rattle.avm_arith.specs.Families.{unary_opcode, unary_value};
 
 use avm_cpu::{Cpu, Flow};
 use avm_items::Env;
-use avm_ops::{Executed, Op, Way, flag};
+use avm_ops::{Control, Executed, Op, flag};
 use std::alloc::{AllocError, Global};
 use teal_code::Instr;
 use teal_table::Opcode;
@@ -80,7 +80,7 @@ impl Op for Unary {
         self.execute(alloc, instr, cpu, env)
     }
 
-    fn carry_out(&self, alloc: Global, instr: &Instr, cpu: &mut Cpu, env: &mut Env) -> Way {
-        Way::of(alloc, self.execute(alloc, instr, cpu, env))
+    fn carry_out(&self, alloc: Global, instr: &Instr, cpu: &mut Cpu, env: &mut Env) -> Control {
+        Control::of(alloc, self.execute(alloc, instr, cpu, env))
     }
 }

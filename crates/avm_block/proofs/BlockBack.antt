@@ -11,18 +11,18 @@ use Rattle.teal_value.specs.SameValues.{are_same_bytes}
 use Rattle.avm_ledger.specs.declared.header.Header.{Header}
 use Rattle.avm_ledger.specs.declared.header.Profile.{Profile}
 use Rattle.avm_ledger.specs.declared.header.Profile.TheVariants as profile
-use Rattle.avm_ledger.specs.Spellings.{u32_bytes, u64_bytes, header_bytes}
+use Rattle.avm_ledger.specs.Encodings.{u32_bytes, u64_bytes, header_bytes}
 use Rattle.avm_ledger.specs.FieldReader.{bytes_at}
 use Rattle.avm_ledger.proofs.FieldsBack.{then, bytes_back, byte_back, u32_back, u64_back}
 use Rattle.avm_items.specs.declared.call_data.CallData.{CallData}
-use Rattle.avm_call_codec.specs.CallSpelling.{call_bytes}
+use Rattle.avm_call_codec.specs.CallEncoding.{call_bytes}
 use Rattle.avm_call_codec.specs.CallRoundTrip.{HasFields}
 use Rattle.avm_call_codec.proofs.CallBack.{call_back}
-use Rattle.avm_call.specs.OutcomeSpelling.{outcome_bytes}
+use Rattle.avm_call.specs.OutcomeEncoding.{outcome_bytes}
 use Rattle.avm_block.specs.declared.block_fault.BlockFault.TheVariants.{Truncated, Digest}
 use Rattle.avm_block.specs.declared.entry.Entry.{Entry}
 use Rattle.avm_block.specs.Blocks.{Block, most_calls}
-use Rattle.avm_block.specs.BlockSpelling.{magic, format_bytes, block_entry_bytes, body_bytes, block_bytes}
+use Rattle.avm_block.specs.BlockEncoding.{magic, format_bytes, block_entry_bytes, body_bytes, block_bytes}
 use Rattle.avm_block.specs.BlockReader.{magic_at, profile_at, header_at, timestamp_at, in_block, call_in, block_entry_at, block_entries_at, count_at, body_at, sealed, block_at}
 use Rattle.avm_block.specs.BlockRoundTrip.{IsEntry, AreEntries, IsHeader, IsBlock}
 use Rattle.avm_block.proofs.OutcomeBack.{outcome_back}
@@ -89,7 +89,7 @@ count_back n rest few =
 body_chain : (m f b h n es a rest : List ℕ) → (m ++ f ++ b ++ h ++ (n ++ es) ++ a) ++ rest ≡ m ++ (f ++ (b ++ (h ++ (n ++ (es ++ (a ++ rest))))))
 body_chain m f b h n es a rest = simp append_assoc
 
--- the body of a block is read back from its spelling, whatever follows
+-- the body of a block is read back from its encoding, whatever follows
 pub body_back : (accepted : Profile → CallData → Bool) (b : Block) (rest : List ℕ) → IsBlock accepted b → body_at accepted (body_bytes b ++ rest) ≡ Ok (b, rest)
 body_back accepted b rest is =
     let after = b.after ++ rest in
@@ -121,7 +121,7 @@ sealed_back bytes b is =
     let same : are_same_bytes digest (sha256 (take (length bytes - length digest) bytes)) ≡ true = ap (λ xs. are_same_bytes digest (sha256 xs)) is ∙ same_bytes digest in
     then _ _ _ _ (ap (λ xs. bytes_at Truncated 32 xs) (sym (append-nil digest)) ∙ bytes_back Truncated 32 digest [] (length-sha256 (body_bytes b))) (ap (λ t. cond t (Ok b) (Err Digest)) same)
 
--- a block is read back from its spelling
+-- a block is read back from its encoding
 pub block_back : (accepted : Profile → CallData → Bool) (b : Block) → IsBlock accepted b → block_at accepted (block_bytes b) ≡ Ok b
 block_back accepted b is =
     then _ _ _ _ (body_back accepted b (sha256 (body_bytes b)) is) (sealed_back (block_bytes b) b (front_is (body_bytes b) (sha256 (body_bytes b))))
@@ -133,7 +133,7 @@ digests_cut s t x y same e n = cut s x y (e ∙ ap (λ u. u ++ y) (sym same))
     cut [] x y e = e
     cut (n ∷ s) x y e = let rest : s ++ x ≡ s ++ y = cc in cut s x y rest
 
--- no spelling of a block begins another
+-- no encoding of a block begins another
 pub none_begins : (accepted : Profile → CallData → Bool) (b c : Block) (x y : List ℕ) → IsBlock accepted b → IsBlock accepted c → block_bytes b ++ x ≡ block_bytes c ++ y → (b ≡ c) × (x ≡ y)
 none_begins accepted b c x y is is' e =
     let parts : body_bytes b ++ (sha256 (body_bytes b) ++ x) ≡ body_bytes c ++ (sha256 (body_bytes c) ++ y) = sym (append_assoc (body_bytes b) (sha256 (body_bytes b)) x) ∙ e ∙ append_assoc (body_bytes c) (sha256 (body_bytes c)) y in

@@ -7,11 +7,11 @@ use Rattle.teal_value.specs.declared.failure.Failure.TheVariants as failure
 use Rattle.teal_value.specs.Answer.{Fails}
 use Rattle.avm_ledger.specs.FieldReader.{bytes_at}
 use Rattle.avm_ledger.proofs.FieldsBack.{then}
-use Rattle.avm_ledger.proofs.FieldsSpelled.{same_value, bytes_spelled}
+use Rattle.avm_ledger.proofs.FieldsEncoded.{same_value, bytes_encoded}
 use Rattle.avm_items.specs.declared.call_data.CallData.{CallData}
 use Rattle.avm_call_codec.specs.CallReader.{call_front, call_from}
 use Rattle.avm_call_codec.proofs.CallBack.{call_back}
-use Rattle.avm_call_codec.proofs.CallSpelled.{place_spells}
+use Rattle.avm_call_codec.proofs.CallEncoded.{place_encodes}
 use Rattle.avm_block.specs.declared.block_fault.BlockFault.{BlockFault}
 use Rattle.avm_block.specs.declared.block_fault.BlockFault.TheVariants.{Field}
 use Rattle.avm_block.specs.BlockReader.{in_block, call_in}
@@ -19,13 +19,13 @@ use Rattle.avm_block.specs.BlockReader.{in_block, call_in}
 -- a call that is read at place 0 is read from the front, and leaves the bytes behind its end
 pub front_at_start : (bytes rest : List ℕ) (call : CallData) (end : ℕ) → ((i : ℕ) → get_or bytes i 0 < 256) → call_from bytes 0 ≡ Ok (call, end) → rest ≡ drop end bytes → in_block (call_front bytes) ≡ Ok (call, rest)
 front_at_start bytes rest call end below e behind =
-    let read = place_spells bytes 0 call end (All-from_get_or (λ b. b < 256) bytes 0 (λ i lt. below i)) e in
+    let read = place_encodes bytes 0 call end (All-from_get_or (λ b. b < 256) bytes 0 (λ i lt. below i)) e in
     ap (λ s. in_block (call_front s)) (sym read.0) ∙ ap in_block (call_back call (drop end bytes) read.1) ∙ ap (λ s. Ok (call, s)) (sym behind)
 
 -- as many bytes as there are
 pub all_of_them : (truncated : BlockFault) (n : ℕ) (bytes xs rest : List ℕ) → bytes_at truncated n bytes ≡ Ok (xs, rest) → n ≡ length bytes → xs ≡ bytes
 all_of_them truncated n bytes xs rest e is =
-    let parts = bytes_spelled truncated n bytes (xs, rest) e in
+    let parts = bytes_encoded truncated n bytes (xs, rest) e in
     let none : length rest ≡ 0 = omega (arith, ap length parts.0, length-append xs rest, parts.1) in
     sym (parts.0 ∙ ap (λ r. xs ++ r) (nil_from_length rest none) ∙ append-nil xs)
 

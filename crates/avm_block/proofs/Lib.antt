@@ -4,7 +4,7 @@ pub mod EntriesReading
 pub mod BlockMade
 pub mod OutcomeBack
 pub mod BlockBack
-pub mod OutcomeSpelled
-pub mod BlockSpelled
+pub mod OutcomeEncoded
+pub mod BlockEncoded
 pub mod BlockRead
 pub mod FirstBeyond

@@ -8,7 +8,7 @@ use Rattle.teal_value.specs.FaultNumbers.{fault_number, faults}
 use Rattle.teal_value.proofs.FaultsNumbered.{fault_of_number, small_fault}
 use Rattle.teal_value.specs.declared.fault.Fault.{Fault}
 use Rattle.teal_code.specs.Limits.{most_program_bytes}
-use Rattle.avm_ledger.specs.Spellings.{u8_bytes, u16_bytes}
+use Rattle.avm_ledger.specs.Encodings.{u8_bytes, u16_bytes}
 use Rattle.avm_ledger.specs.FieldReader.{number_at}
 use Rattle.avm_ledger.proofs.FieldsBack.{then, byte_back, u16_back}
 use Rattle.avm_call.specs.declared.outcome.Why.{Why}
@@ -17,7 +17,7 @@ use Rattle.avm_call.specs.declared.outcome.Cause.{Cause}
 use Rattle.avm_call.specs.declared.outcome.Cause.TheVariants as cause
 use Rattle.avm_call.specs.declared.outcome.Outcome.{Outcome}
 use Rattle.avm_call.specs.declared.outcome.Outcome.TheVariants as outcome
-use Rattle.avm_call.specs.OutcomeSpelling.{why_number, whys, outcome_bytes}
+use Rattle.avm_call.specs.OutcomeEncoding.{why_number, whys, outcome_bytes}
 use Rattle.avm_block.specs.declared.block_fault.BlockFault.TheVariants.{Truncated, Field}
 use Rattle.avm_block.specs.OutcomeReader.{one_at, place_at, fault_and_place_at, cause_of_kind, outcome_at}
 use Rattle.avm_call.specs.Places.{HasCausePlace, HasPlace}
@@ -65,13 +65,13 @@ cause_back cause.Rejected rest h = then _ _ _ _ (byte_back Truncated 1 rest (ome
 cause_back (cause.Faulted f place) rest h =
     then _ _ _ _ (byte_back Truncated 2 (fault_number f ∷ (u16_bytes place ++ rest)) (omega arith)) (then _ _ _ _ (fault_back f place rest h) refl)
 
--- the spelling of a clearing is 4, and then the bytes of its cause
+-- the encoding of a clearing is 4, and then the bytes of its cause
 pub outcome_of_cause : (c : Cause) (rest : List ℕ) → outcome_bytes (outcome.ClearedAnyway c) ++ rest ≡ 4 ∷ (cause_bytes c ++ rest)
 outcome_of_cause cause.Gone rest = refl
 outcome_of_cause cause.Rejected rest = refl
 outcome_of_cause (cause.Faulted f place) rest = refl
 
--- an outcome is read back from its spelling, whatever follows
+-- an outcome is read back from its encoding, whatever follows
 pub outcome_back : (end : Outcome) (rest : List ℕ) → HasPlace end → outcome_at (outcome_bytes end ++ rest) ≡ Ok (end, rest)
 outcome_back outcome.Approved rest h = then _ _ _ _ (byte_back Truncated 0 rest (omega arith)) refl
 outcome_back outcome.Rejected rest h = then _ _ _ _ (byte_back Truncated 1 rest (omega arith)) refl

@@ -17,7 +17,7 @@ use Rattle.avm_block.specs.declared.block_fault.BlockFault.{BlockFault}
 use Rattle.avm_block.specs.declared.block_fault.BlockFault.TheVariants.{Magic, Format, Truncated, Rest, Order, Field, Digest}
 use Rattle.avm_block.specs.declared.entry.Entry.{Entry}
 use Rattle.avm_block.specs.Blocks.{Block, most_calls}
-use Rattle.avm_block.specs.BlockSpelling.{magic}
+use Rattle.avm_block.specs.BlockEncoding.{magic}
 use Rattle.avm_block.specs.OutcomeReader.{outcome_at}
 
 -- the letters, one field

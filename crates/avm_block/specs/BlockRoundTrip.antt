@@ -7,7 +7,7 @@ use Rattle.avm_call_codec.specs.CallRoundTrip.{HasFields}
 use Rattle.avm_call.specs.Places.{HasPlace}
 use Rattle.avm_block.specs.declared.entry.Entry.{Entry}
 use Rattle.avm_block.specs.Blocks.{Block, most_calls}
-use Rattle.avm_block.specs.BlockSpelling.{block_bytes}
+use Rattle.avm_block.specs.BlockEncoding.{block_bytes}
 use Rattle.avm_block.specs.BlockReader.{block_at}
 
 pub record IsEntry (accepted : CallData → Bool) (before : ℕ) (e : Entry) : Type 0 where
@@ -40,12 +40,12 @@ pub record IsBlock (accepted : Profile → CallData → Bool) (b : Block) : Type
 abbrev pub ReadsBack : Type 0
 ReadsBack = (accepted : Profile → CallData → Bool) (b : Block) → IsBlock accepted b → block_at accepted (block_bytes b) ≡ Ok b
 
--- No spelling of a block begins another.
+-- No encoding of a block begins another.
 abbrev pub NoneBeginsAnother : Type 0
 NoneBeginsAnother =
     (accepted : Profile → CallData → Bool) (b c : Block) (x y : List ℕ) → IsBlock accepted b → IsBlock accepted c → block_bytes b ++ x ≡ block_bytes c ++ y → (b ≡ c) × (x ≡ y)
 
--- A block that is read is spelled by those very bytes, and its fields are within their limits.
-abbrev pub SpellsBack : Type 0
-SpellsBack =
+-- A block that is read is encoded by those very bytes, and its fields are within their limits.
+abbrev pub EncodesBack : Type 0
+EncodesBack =
     (accepted : Profile → CallData → Bool) (bytes : List ℕ) (b : Block) → All (λ n. n < 256) bytes → block_at accepted bytes ≡ Ok b → (block_bytes b ≡ bytes) × IsBlock accepted b

@@ -1,5 +1,5 @@
 pub mod Blocks
-pub mod BlockSpelling
+pub mod BlockEncoding
 pub mod OutcomeReader
 pub mod BlockReader
 pub mod AcceptedCalls

@@ -11,7 +11,7 @@ use Rattle.avm_call.specs.declared.outcome.Cause.{Cause}
 use Rattle.avm_call.specs.declared.outcome.Cause.TheVariants as cause
 use Rattle.avm_call.specs.declared.outcome.Outcome.{Outcome}
 use Rattle.avm_call.specs.declared.outcome.Outcome.TheVariants as outcome
-use Rattle.avm_call.specs.OutcomeSpelling.{why_number, whys}
+use Rattle.avm_call.specs.OutcomeEncoding.{why_number, whys}
 use Rattle.avm_block.specs.declared.block_fault.BlockFault.{BlockFault}
 use Rattle.avm_block.specs.declared.block_fault.BlockFault.TheVariants.{Truncated, Field}
 

@@ -3,7 +3,7 @@ use Rattle.std.specs.Prelude.{ℕ, Bool, true, List, ◌∷◌, ◌++◌}
 use Rattle.avm_ledger.specs.declared.header.Profile.{Profile}
 use Rattle.avm_ledger.specs.WorkedLedgers.{zeros}
 use Rattle.avm_items.specs.declared.call_data.CallData.{CallData}
-use Rattle.avm_block.specs.BlockSpelling.{magic}
+use Rattle.avm_block.specs.BlockEncoding.{magic}
 
 -- every call is allowed
 abbrev pub any_call : Profile → CallData → Bool

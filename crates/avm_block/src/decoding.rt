@@ -9,7 +9,7 @@ ghost use Rattle.avm_block.specs.AcceptedCalls.{is_accepted};
 ghost use Rattle.avm_block.specs.Blocks.{Block as BlockRecord};
 ghost use Rattle.avm_block.specs.BlockReader.{block_at, block_fault_of, body_at, call_in, count_at, block_entries_at, block_entry_at, in_block, magic_at, timestamp_at};
 ghost use Rattle.avm_block.specs.BlockRoundTrip.{IsBlock};
-ghost use Rattle.avm_block.specs.BlockSpelling.{block_bytes, magic};
+ghost use Rattle.avm_block.specs.BlockEncoding.{block_bytes, magic};
 
 use crate::accepted_calls::accepts;
 use crate::block::{Block, MAX_ENTRIES, Parts};
@@ -35,9 +35,9 @@ const LEAST_ENTRY_BYTES: usize = 151;
 pub fn decode(alloc: Global, bytes: &[u8]) -> Result<Block, BlockError>
     // The block that the grammar reads, or the fault that it names.
     ensures exact { Gives (λ block. block) result (block_at is_accepted bytes.now) }
-    // What is read is spelled by those very bytes.
-    ensures spelled { IfOk result (λ block. block_bytes block ≡ bytes.now) }
-    // A block is read from its spelling, unless memory runs out.
+    // What is read is encoded by those very bytes.
+    ensures encoded { IfOk result (λ block. block_bytes block ≡ bytes.now) }
+    // A block is read from its encoding, unless memory runs out.
     ensures only { (block : BlockRecord) → IsBlock is_accepted block
         → bytes.now ≡ block_bytes block → Gives (λ x. x) result (Ok block) }
 {

@@ -4,7 +4,7 @@
 ghost use Rattle.std.specs.Prelude.{◌≡◌, ◌++◌, IfOk, OnOk};
 ghost use Rattle.std.specs.List.{flat_map};
 ghost use Rattle.sha2.specs.Sha256.{sha256};
-ghost use Rattle.avm_block.specs.BlockSpelling.{block_entry_bytes, front_bytes, front_start};
+ghost use Rattle.avm_block.specs.BlockEncoding.{block_entry_bytes, front_bytes, front_start};
 
 use crate::entry::Entry;
 use crate::header_codec::{put_format, put_header};
@@ -12,7 +12,7 @@ use crate::outcome_codec::put_outcome;
 use avm_call::Call;
 use avm_call_codec::CallCodec;
 use avm_ledger::Header;
-use avm_ledger::spelling::{put_long_count, put_u64};
+use avm_ledger::encoding::{put_long_count, put_u64};
 use sha2::{Digest, Sha256};
 use std::alloc::{AllocError, Global};
 use std::marker::Model;

@@ -2,13 +2,13 @@
 
 ghost use Rattle.std.specs.Prelude.{◌≡◌, ◌++◌, OnErr, OnOk};
 ghost use Rattle.teal_value.specs.Answer.{Gives};
-ghost use Rattle.teal_code.specs.Spelling.{Continues};
-ghost use Rattle.avm_ledger.specs.Spellings.{header_bytes};
-ghost use Rattle.avm_block.specs.BlockSpelling.{format_bytes};
+ghost use Rattle.teal_code.specs.Encoding.{Continues};
+ghost use Rattle.avm_ledger.specs.Encodings.{header_bytes};
+ghost use Rattle.avm_block.specs.BlockEncoding.{format_bytes};
 ghost use Rattle.avm_block.specs.BlockReader.{header_at, profile_at};
 
 use crate::block_fault::{BlockError, BlockFault};
-use avm_ledger::spelling::{cut_if_refused, put_u64};
+use avm_ledger::encoding::{cut_if_refused, put_u64};
 use avm_ledger::{Fields, Header, Profile};
 use std::alloc::AllocError;
 use teal_value::Failure;
@@ -52,7 +52,7 @@ pub fn put_header(bytes: &mut Vec<u8>, header: &Header) -> Result<(), AllocError
     cut_if_refused(bytes, start, appended)
 }
 
-// Where memory is refused, a part of the spelling may stand behind what was there.
+// Where memory is refused, a part of the encoding may stand behind what was there.
 fn push_header(bytes: &mut Vec<u8>, header: &Header) -> Result<(), AllocError>
     ensures written { OnOk result (bytes.new.items ≡ bytes.old.items ++ header_bytes header.now) }
     ensures kept { Continues bytes.old.items bytes.new.items }

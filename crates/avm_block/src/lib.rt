@@ -1,6 +1,6 @@
 //! Blocks: calls in the order of their timestamps, with how each ended. A `Block` is one by its type; `encode` writes its
 //! bytes, and `decode` reads them; a `Front` is what they begin with, before the digest of the ledger after is known. What a block is and when it replays over a ledger stands in `specs/Blocks.antt`, which
-//! calls it may have in `specs/AcceptedCalls.antt`, its bytes in `specs/BlockSpelling.antt` and `specs/BlockReader.antt`,
+//! calls it may have in `specs/AcceptedCalls.antt`, its bytes in `specs/BlockEncoding.antt` and `specs/BlockReader.antt`,
 //! their laws in `reading_laws`.
 #![tactic(auto)]
 

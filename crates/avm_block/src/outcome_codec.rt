@@ -3,21 +3,21 @@
 ghost use Rattle.std.specs.Prelude.{◌≡◌, ◌++◌, OnErr, OnOk};
 ghost use Rattle.teal_value.specs.Answer.{Gives};
 ghost use Rattle.teal_value.specs.FaultNumbers.{fault_number, faults};
-ghost use Rattle.teal_code.specs.Spelling.{Continues};
-ghost use Rattle.avm_call.specs.OutcomeSpelling.{outcome_bytes, why_number, whys};
+ghost use Rattle.teal_code.specs.Encoding.{Continues};
+ghost use Rattle.avm_call.specs.OutcomeEncoding.{outcome_bytes, why_number, whys};
 ghost use Rattle.avm_block.specs.OutcomeReader.{cause_at, fault_and_place_at, one_at, outcome_at, place_at};
 
 use crate::block_fault::{BlockError, BlockFault};
 use avm_call::{Cause, Outcome, Why};
 use avm_ledger::Fields;
-use avm_ledger::spelling::cut_if_refused;
+use avm_ledger::encoding::cut_if_refused;
 use std::alloc::AllocError;
 use teal_value::{Failure, Fault};
 
 /// The last place that a fault may name: the end of the longest program.
 const MAX_PLACE: u16 = 1024;
 
-/// Appends an outcome's spelling.
+/// Appends an outcome's encoding.
 pub fn put_outcome(bytes: &mut Vec<u8>, outcome: Outcome) -> Result<(), AllocError>
     ensures written { OnOk result (bytes.new.items ≡ bytes.old.items ++ outcome_bytes outcome) }
     ensures unchanged { OnErr result (bytes.new.items ≡ bytes.old.items) }
@@ -27,7 +27,7 @@ pub fn put_outcome(bytes: &mut Vec<u8>, outcome: Outcome) -> Result<(), AllocErr
     cut_if_refused(bytes, start, appended)
 }
 
-// Where memory is refused, a part of the spelling may stand behind what was there.
+// Where memory is refused, a part of the encoding may stand behind what was there.
 fn push_outcome(bytes: &mut Vec<u8>, outcome: Outcome) -> Result<(), AllocError>
     ensures written { OnOk result (bytes.new.items ≡ bytes.old.items ++ outcome_bytes outcome) }
     ensures kept { Continues bytes.old.items bytes.new.items }

@@ -7,10 +7,10 @@ ghost use Rattle.avm_call.specs.declared.outcome.Why.TheVariants as why;
 ghost use Rattle.avm_call.specs.declared.outcome.Cause.TheVariants as cause;
 ghost use Rattle.avm_call.specs.declared.outcome.Outcome.TheVariants as outcome;
 ghost use Rattle.avm_block.specs.declared.block_fault.BlockFault.TheVariants.{Field, Format, Magic, Order, Truncated};
-ghost use Rattle.avm_block.specs.BlockSpelling.{magic};
+ghost use Rattle.avm_block.specs.BlockEncoding.{magic};
 ghost use Rattle.avm_block.specs.OutcomeReader.{outcome_at};
 ghost use Rattle.avm_block.specs.BlockReader.{block_at};
-ghost use Rattle.avm_block.specs.BlockRoundTrip.{NoneBeginsAnother, ReadsBack, SpellsBack};
+ghost use Rattle.avm_block.specs.BlockRoundTrip.{NoneBeginsAnother, ReadsBack, EncodesBack};
 ghost use Rattle.avm_block.specs.WorkedBlocks.{any_call, up_to_count};
 
 /// A block is read from its bytes.
@@ -18,12 +18,12 @@ pub fn reads_back()
     ensures { ReadsBack }
 {}
 
-/// A block that is read has the bytes as its one spelling.
-pub fn spells_back()
-    ensures { SpellsBack }
+/// A block that is read has the bytes as its one encoding.
+pub fn encodes_back()
+    ensures { EncodesBack }
 {}
 
-/// No spelling of a block begins another.
+/// No encoding of a block begins another.
 pub fn none_begins_another()
     ensures { NoneBeginsAnother }
 {}

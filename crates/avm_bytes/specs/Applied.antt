@@ -1,7 +1,7 @@
 -- What is answered of a block that is applied: the ledger after it, where it agrees.
 use Rattle.std.specs.Prelude.{◌≡◌, ◌⊎◌, ℕ, List, Option, Some, None, Result, Ok, Err}
 use Rattle.avm_ledger.specs.Ledgers.{Ledger}
-use Rattle.avm_ledger.specs.Spellings.{ledger_bytes}
+use Rattle.avm_ledger.specs.Encodings.{ledger_bytes}
 use Rattle.avm_block.specs.Blocks.{Block}
 use Rattle.avm_replay.specs.declared.verdict.Verdict.{Verdict}
 use Rattle.avm_replay.specs.declared.verdict.Verdict.TheVariants as verdict

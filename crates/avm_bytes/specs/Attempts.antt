@@ -5,7 +5,7 @@ use Rattle.avm_ledger.specs.declared.header.Header.{Header}
 use Rattle.avm_items.specs.declared.call_data.CallData.{CallData}
 use Rattle.avm_items.specs.Items.{ItemMap}
 use Rattle.avm_item_codec.specs.ItemReader.{items_at}
-use Rattle.avm_item_codec.specs.ItemSpelling.{item_bytes, items_bytes}
+use Rattle.avm_item_codec.specs.ItemEncoding.{item_bytes, items_bytes}
 use Rattle.avm_call_codec.specs.declared.call_data_fault.CallDataFault.TheVariants as bytes
 use Rattle.avm_call.specs.FaultNumbers.{call_fault_number}
 use Rattle.avm_run.specs.declared.call_run.Advance.{Advance}

@@ -3,7 +3,7 @@ use Rattle.std.specs.Prelude.{ℕ, List, Result, Ok, Err}
 use Rattle.teal_value.specs.Answer.{◌>>=◌}
 use Rattle.avm_ledger.specs.Ledgers.{Ledger}
 use Rattle.avm_ledger.specs.LedgerReader.{ledger_at}
-use Rattle.avm_ledger.specs.Spellings.{ledger_bytes}
+use Rattle.avm_ledger.specs.Encodings.{ledger_bytes}
 use Rattle.avm_block.specs.AcceptedCalls.{is_accepted}
 use Rattle.avm_block.specs.BlockReader.{block_at}
 use Rattle.avm_block.specs.Blocks.{Block}

@@ -3,7 +3,7 @@ use Rattle.std.specs.Prelude.{List, ℕ, Result, Ok, Err}
 use Rattle.teal_value.specs.Answer.{◌>>=◌}
 use Rattle.avm_ledger.specs.Ledgers.{Ledger}
 use Rattle.avm_ledger.specs.LedgerReader.{ledger_at}
-use Rattle.avm_ledger.specs.Spellings.{ledger_bytes}
+use Rattle.avm_ledger.specs.Encodings.{ledger_bytes}
 use Rattle.avm_call.specs.Replay.{ledger_after, outcome_on}
 use Rattle.avm_bytes.specs.declared.calls.OnLedger.{OnLedger}
 use Rattle.avm_bytes.specs.declared.statuses.Status.TheVariants as status

@@ -3,7 +3,7 @@ use Rattle.teal_value.specs.FaultNumbers.{fault_number}
 use Rattle.avm_call.specs.declared.outcome.Cause.TheVariants as cause
 use Rattle.avm_call.specs.declared.outcome.Outcome.{Outcome}
 use Rattle.avm_call.specs.declared.outcome.Outcome.TheVariants as outcome
-use Rattle.avm_call.specs.OutcomeSpelling.{why_number}
+use Rattle.avm_call.specs.OutcomeEncoding.{why_number}
 use Rattle.avm_bytes.specs.declared.ends.End.{End}
 
 abbrev pub end_of : Outcome → End

@@ -7,7 +7,7 @@ use Rattle.avm_items.specs.declared.call_data.CallData.{CallData}
 use Rattle.avm_block.specs.declared.block_calls.CallsFault.{CallsFault}
 use Rattle.avm_block.specs.declared.block_calls.CallsFault.TheVariants.{Profile, TooMany}
 use Rattle.avm_block.specs.Blocks.{Block}
-use Rattle.avm_block.specs.BlockSpelling.{block_bytes}
+use Rattle.avm_block.specs.BlockEncoding.{block_bytes}
 use Rattle.avm_block.specs.CallsFaults.{calls_fault}
 use Rattle.avm_replay.specs.Plain.{IsPlainBlock}
 use Rattle.avm_bytes.specs.declared.proposals.CallsOnLedger.{CallsOnLedger as WrittenCalls}

@@ -19,7 +19,7 @@ use Rattle.teal_code.specs.Reader.{Read, varuint_at, instr_at, with_opcode, imme
 use Rattle.teal_code.specs.Limits.{most_cost}
 use Rattle.teal_check.specs.declared.fault.CheckFault.{CheckFault}
 use Rattle.teal_check.specs.declared.fault.CheckFault.TheVariants as fault
-use Rattle.teal_check.specs.declared.program.Placed.{Placed}
+use Rattle.teal_check.specs.declared.program.PlacedInstr.{PlacedInstr}
 use Rattle.teal_check.specs.WellFormed.{WellFormed, on_code, version_of, placed_at, placed_from, places, first_index, number_of_place, target_of, with_targets, checked}
 use Rattle.teal_check.specs.WellFormed as check
 use Rattle.teal_check.proofs.CheckedPrograms.{is_checked, is_placed, placed_forward, placed_rises, length-places}
@@ -70,7 +70,7 @@ or_here false false c h = absurd cc
 is_the_end : (ss : List ℕ) (end x : ℕ) → x ≡ end → is_start_or_end ss end x ≡ true
 is_the_end ss end x e = ap (λ b. b || is_start ss x) (eq-eqb x end e)
 
-first_start : (n : ℕ) (version : Version) (bytes : List ℕ) (place : ℕ) (ps : List Placed) → place ≤ length bytes → length bytes ≤ place + n → placed_from n version bytes place ≡ Ok ps
+first_start : (n : ℕ) (version : Version) (bytes : List ℕ) (place : ℕ) (ps : List PlacedInstr) → place ≤ length bytes → length bytes ≤ place + n → placed_from n version bytes place ≡ Ok ps
     → is_start_or_end (places ps) (length bytes) place ≡ true
 unfolding placed_from
 first_start zero version bytes place ps low high e = is_the_end (places ps) (length bytes) place (omega arith)
@@ -91,7 +91,7 @@ first_start (suc n) version bytes place ps low high e =
 same_next : {i j : Instr} {n m : ℕ} → ◌≡◌ {A = Result (Instr × ℕ) CodeFault} (Ok (i, n)) (Ok (j, m)) → (i ≡ j) × (n ≡ m)
 same_next {i} {j} {n} {m} e = let both : (i, n) ≡ (j, m) = cc in (ap (λ (p : Instr × ℕ). p.0) both, ap (λ (p : Instr × ℕ). p.1) both)
 
-next_by : (version : Version) (bytes : List ℕ) (p : Placed) (qs : List Placed) (x : ℕ) (i : Instr) (next : ℕ) → read_at version bytes p.place ≡ Ok (p.instr, p.next)
+next_by : (version : Version) (bytes : List ℕ) (p : PlacedInstr) (qs : List PlacedInstr) (x : ℕ) (i : Instr) (next : ℕ) → read_at version bytes p.place ≡ Ok (p.instr, p.next)
     → is_start_or_end (places qs) (length bytes) p.next ≡ true → (is_start (places qs) x ≡ true → is_start_or_end (places qs) (length bytes) next ≡ true)
     → read_at version bytes x ≡ Ok (i, next) → (b : Bool) → (x == p.place) ≡ b → (b || is_start (places qs) x) ≡ true → is_start_or_end (places qs) (length bytes) next ≡ true
 next_by version bytes p qs x i next here first others read true e h =
@@ -100,7 +100,7 @@ next_by version bytes p qs x i next here first others read true e h =
     subst (λ n. is_start_or_end (places qs) (length bytes) n ≡ true) same.1 first
 next_by version bytes p qs x i next here first others read false e h = others h
 
-nexts : (n : ℕ) (version : Version) (bytes : List ℕ) (place : ℕ) (ps : List Placed) → place ≤ length bytes → length bytes ≤ place + n → placed_from n version bytes place ≡ Ok ps
+nexts : (n : ℕ) (version : Version) (bytes : List ℕ) (place : ℕ) (ps : List PlacedInstr) → place ≤ length bytes → length bytes ≤ place + n → placed_from n version bytes place ≡ Ok ps
     → (x : ℕ) (i : Instr) (next : ℕ) → is_start (places ps) x ≡ true → read_at version bytes x ≡ Ok (i, next) → is_start_or_end (places ps) (length bytes) next ≡ true
 unfolding placed_from
 nexts zero version bytes place ps low high e x i next there read = let none : [] ≡ ps = cc in let no = ap (λ qs. is_start (places qs) x) none ∙ there in absurd cc
@@ -224,7 +224,7 @@ is_branch x op.Bz m target e = (refl, cc)
 is_branch x op.B m target e = (refl, cc)
 is_branch x o m target e = absurd cc
 
-head_target : (version : Version) (bytes : List ℕ) (starts : List ℕ) (p : Placed) (t : Option ℕ) → target_of starts (length bytes) p ≡ Ok t → read_at version bytes p.place ≡ Ok (p.instr, p.next)
+head_target : (version : Version) (bytes : List ℕ) (starts : List ℕ) (p : PlacedInstr) (t : Option ℕ) → target_of starts (length bytes) p ≡ Ok t → read_at version bytes p.place ≡ Ok (p.instr, p.next)
     → (target : ℕ) → branch_target p.place p.instr.opcode p.instr.immediates ≡ Some target → is_start_or_end starts (length bytes) target ≡ true
 head_target version bytes starts p t e read target b =
     let branch = is_branch p.place p.instr.opcode p.instr.immediates target b in
@@ -234,7 +234,7 @@ head_target version bytes starts p t e read target b =
     let there : p.next + o.offset ≡ target = omega (arith, o.behind, branch.1) in
     subst (λ q. is_start_or_end starts (length bytes) q ≡ true) there inside
 
-target_by : (version : Version) (bytes : List ℕ) (starts : List ℕ) (p : Placed) (qs : List Placed) (t : Option ℕ) → target_of starts (length bytes) p ≡ Ok t → read_at version bytes p.place ≡ Ok (p.instr, p.next)
+target_by : (version : Version) (bytes : List ℕ) (starts : List ℕ) (p : PlacedInstr) (qs : List PlacedInstr) (t : Option ℕ) → target_of starts (length bytes) p ≡ Ok t → read_at version bytes p.place ≡ Ok (p.instr, p.next)
     → (x : ℕ) (i : Instr) (next target : ℕ) → read_at version bytes x ≡ Ok (i, next) → branch_target x i.opcode i.immediates ≡ Some target
     → (is_start (places qs) x ≡ true → is_start_or_end starts (length bytes) target ≡ true)
     → (b : Bool) → (x == p.place) ≡ b → (b || is_start (places qs) x) ≡ true → is_start_or_end starts (length bytes) target ≡ true
@@ -246,8 +246,8 @@ target_by version bytes starts p qs t first here x i next target read b others t
     head_target version bytes starts p t first here target b'
 target_by version bytes starts p qs t first here x i next target read b others false e h = others h
 
-targets : (n : ℕ) (version : Version) (bytes : List ℕ) (place : ℕ) (ps : List Placed) → place ≤ length bytes → placed_from n version bytes place ≡ Ok ps
-    → (starts : List ℕ) (rs : List Placed) → with_targets starts (length bytes) ps ≡ Ok rs
+targets : (n : ℕ) (version : Version) (bytes : List ℕ) (place : ℕ) (ps : List PlacedInstr) → place ≤ length bytes → placed_from n version bytes place ≡ Ok ps
+    → (starts : List ℕ) (rs : List PlacedInstr) → with_targets starts (length bytes) ps ≡ Ok rs
     → (x : ℕ) (i : Instr) (next target : ℕ) → is_start (places ps) x ≡ true → read_at version bytes x ≡ Ok (i, next) → branch_target x i.opcode i.immediates ≡ Some target
     → is_start_or_end starts (length bytes) target ≡ true
 unfolding placed_from with_targets
@@ -299,7 +299,7 @@ unfolding row_of
 costs_something op.Err = omega arith
 costs_something _ = omega arith
 
-count_below_cost : (ps : List Placed) → length ps ≤ check.cost_of ps
+count_below_cost : (ps : List PlacedInstr) → length ps ≤ check.cost_of ps
 count_below_cost [] = omega arith
 count_below_cost (p ∷ ps) =
     let one = costs_something p.instr.opcode in

@@ -8,7 +8,7 @@ use Rattle.teal_value.proofs.Binding.{bind_ok, chosen}
 use Rattle.teal_table.specs.declared.shape.Version.{Version}
 use Rattle.teal_code.specs.Limits.{most_program_bytes}
 use Rattle.teal_check.specs.declared.fault.CheckFault.{CheckFault}
-use Rattle.teal_check.specs.declared.program.Placed.{Placed}
+use Rattle.teal_check.specs.declared.program.PlacedInstr.{PlacedInstr}
 use Rattle.teal_check.specs.WellFormed.{WellFormed, placed_at, placed_from, places, checked}
 use Rattle.teal_check.proofs.CheckedPrograms.{is_checked, placed_forward}
 use Rattle.avm_ledger.specs.declared.application.Application.{Application}
@@ -45,7 +45,7 @@ one_within : (x y end : ℕ) (c there : Bool) → (x == y) ≡ c → y ≤ end �
 one_within x y end true there e within later h = let same : x ≡ y = eqb-true x y e in omega arith
 one_within x y end false there e within later h = later h
 
-placed_within : (n : ℕ) (version : Version) (bytes : List ℕ) (place : ℕ) (ps : List Placed) → place ≤ length bytes → placed_from n version bytes place ≡ Ok ps → (x : ℕ) → is_start (places ps) x ≡ true → x ≤ length bytes
+placed_within : (n : ℕ) (version : Version) (bytes : List ℕ) (place : ℕ) (ps : List PlacedInstr) → place ≤ length bytes → placed_from n version bytes place ≡ Ok ps → (x : ℕ) → is_start (places ps) x ≡ true → x ≤ length bytes
 unfolding placed_from
 placed_within zero version bytes place ps within e x there =
     let none : [] ≡ ps = cc in

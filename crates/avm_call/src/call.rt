@@ -103,7 +103,7 @@ impl Call {
         }
     }
 
-    /// The fields.
+    /// What the call says.
     pub fn fields(&self) -> &CallData
         ensures fields { result.now ≡ self.now }
         ensures checked { call_fault self.now ≡ None }

@@ -3,7 +3,7 @@
 ghost use Rattle.std.specs.Prelude.{◌≡◌};
 ghost use Rattle.teal_value.specs.FaultNumbers.{numbered};
 ghost use Rattle.avm_call.specs.FaultNames.{why_name};
-ghost use Rattle.avm_call.specs.OutcomeSpelling.{why_number, whys};
+ghost use Rattle.avm_call.specs.OutcomeEncoding.{why_number, whys};
 
 use teal_value::Fault;
 

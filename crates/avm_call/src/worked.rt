@@ -14,8 +14,8 @@ ghost use Rattle.std.specs.Prelude.{length};
 ghost use Rattle.teal_table.specs.declared.opcode.Opcode.TheVariants as op;
 ghost use Rattle.teal_code.specs.declared.instr.Immediates.TheVariants as is;
 ghost use Rattle.avm_ledger.specs.Ledgers.{empty_ledger};
-ghost use Rattle.avm_ledger.specs.Spellings.{ledger_bytes};
-ghost use Rattle.avm_call.specs.OutcomeSpelling.{outcome_bytes};
+ghost use Rattle.avm_ledger.specs.Encodings.{ledger_bytes};
+ghost use Rattle.avm_call.specs.OutcomeEncoding.{outcome_bytes};
 ghost use Rattle.avm_call.specs.Views.{view_after, Runs, AtEnd};
 ghost use Rattle.avm_call.specs.WorkedPrograms.{outcome_of_program, end_in, plain_creation, zero_header};
 ghost use Rattle.avm_call.specs.WorkedCalls.{call_one, one_uint_allowed, outcomes_of_calls, ledger_after_calls, approving, counting, put_and_err, uint_then_bytes, put_delete_put, local_put_and_reject, counter_after, local_state_after, next_id_after};
@@ -62,7 +62,7 @@ pub fn numbers()
         ≡ outcome.Faulted fault.BtoiLength 14 }
 {}
 
-/// Longer spellings, branches, blocks that are passed over, and byte strings.
+/// Longer encodings, branches, blocks that are passed over, and byte strings.
 #[tactic(auto, unfolding(teal_table::specs::Table::row_of, teal_table::specs::Table::opcodes, teal_table::specs::Table::opcode_at, teal_table::specs::Fields::txn_field_at, teal_table::specs::Fields::global_field_at, avm_ops::specs::Effect::effect))]
 pub fn paths()
     ensures longer_varuint { outcome_of_program (0x02 ∷ 0x20 ∷ 0x81 ∷ 0x00 ∷ 0x01 ∷ 0x22 ∷ [])
@@ -169,7 +169,7 @@ pub fn local_states()
 
 /// The bytes of ledgers and outcomes.
 #[tactic(auto, unfolding(teal_table::specs::Table::row_of, teal_table::specs::Table::opcodes, teal_table::specs::Table::opcode_at, teal_table::specs::Fields::txn_field_at, teal_table::specs::Fields::global_field_at, avm_ops::specs::Effect::effect))]
-pub fn spellings()
+pub fn encodings()
     ensures empty { ledger_bytes empty_ledger ≡ 0x00 ∷ 0x00 ∷ 0x00 ∷ 0x00
         ∷ 0x00 ∷ 0x00 ∷ 0x00 ∷ 0x01 ∷ 0x00 ∷ 0x00 ∷ 0x00 ∷ 0x00 ∷ 0x00 ∷ 0x00 ∷ 0x00 ∷ 0x00 ∷ [] }
     ensures one_application { ledger_bytes (ledger_after_calls (plain_creation approving approving

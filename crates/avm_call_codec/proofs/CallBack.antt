@@ -3,7 +3,7 @@ use Rattle.std.proofs.Common.{◌≡◌, ℕ, ◌+◌, ◌-◌, List, [], ◌∷
 use Rattle.std.specs.Int.{w64}
 use Rattle.std.proofs.lemmas.List.{append-nil}
 use Rattle.teal_value.specs.declared.address.Address.{Address}
-use Rattle.avm_ledger.specs.Spellings.{u8_bytes, u64_bytes, string_bytes, counted_bytes, schema_bytes}
+use Rattle.avm_ledger.specs.Encodings.{u8_bytes, u64_bytes, string_bytes, counted_bytes, schema_bytes}
 use Rattle.avm_ledger.specs.FieldReader.{number_at, string_at, address_at, alone}
 use Rattle.avm_ledger.proofs.FieldsBack.{then, bytes_back, byte_back, u64_back, string_back, address_back, schema_back, counted_back}
 use Rattle.avm_items.specs.declared.call_data.Completion.{Completion}
@@ -11,7 +11,7 @@ use Rattle.avm_items.specs.declared.call_data.Completion.TheVariants as completi
 use Rattle.avm_items.specs.declared.call_data.CallData.{CallData}
 use Rattle.avm_items.specs.CallFields.{completion_number}
 use Rattle.avm_call_codec.specs.declared.call_data_fault.CallDataFault.TheVariants.{Truncated, Rest}
-use Rattle.avm_call_codec.specs.CallSpelling.{address_bytes, terms_bytes, target_bytes, lists_bytes, programs_bytes, call_bytes}
+use Rattle.avm_call_codec.specs.CallEncoding.{address_bytes, terms_bytes, target_bytes, lists_bytes, programs_bytes, call_bytes}
 use Rattle.avm_call_codec.specs.CallReader.{completion_at, terms_at, target_at, lists_at, programs_at, call_front, call_from, call_at}
 use Rattle.avm_call_codec.specs.CallRoundTrip.{IsAddress, IsStringField, IsWord, HasFields}
 
@@ -118,7 +118,7 @@ call_back_from before c rest has =
     let next : length (before ++ (call_bytes c ++ rest)) - length rest ≡ length before + length (call_bytes c) = omega (arith, length-append before (call_bytes c ++ rest), length-append (call_bytes c) rest) in
     then _ _ _ _ front (ap (λ n. Ok (c, n)) next)
 
--- no bytes begin with the spellings of two different calls with fields within their sizes
+-- no bytes begin with the encodings of two different calls with fields within their sizes
 pub none_begins : (c d : CallData) (x y : List ℕ) → HasFields c → HasFields d → call_bytes c ++ x ≡ call_bytes d ++ y → (c ≡ d) × (x ≡ y)
 none_begins c d x y has has' e =
     let same = sym (call_back c x has) ∙ ap call_front e ∙ call_back d y has' in

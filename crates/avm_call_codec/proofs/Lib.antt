@@ -1,3 +1,3 @@
 pub mod CallBack
-pub mod CallSpelled
+pub mod CallEncoded
 pub mod CallRead

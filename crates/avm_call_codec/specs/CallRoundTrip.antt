@@ -2,7 +2,7 @@
 use Rattle.std.specs.Prelude.{◌≡◌, ℕ, ◌+◌, ◌^◌, ◌<◌, List, ◌++◌, length, drop, All, Ok}
 use Rattle.teal_value.specs.declared.address.Address.{Address}
 use Rattle.avm_items.specs.declared.call_data.CallData.{CallData}
-use Rattle.avm_call_codec.specs.CallSpelling.{call_bytes}
+use Rattle.avm_call_codec.specs.CallEncoding.{call_bytes}
 use Rattle.avm_call_codec.specs.CallReader.{call_front, call_from, call_at}
 
 -- an account's address has 32 bytes
@@ -50,20 +50,20 @@ ReadsBackAtAPlace =
     (before : List ℕ) (c : CallData) (rest : List ℕ) → HasFields c
     → call_from (before ++ (call_bytes c ++ rest)) (length before) ≡ Ok (c, length before + length (call_bytes c))
 
--- No spelling of a call begins another.
+-- No encoding of a call begins another.
 abbrev pub NoneBeginsAnother : Type 0
 NoneBeginsAnother = (c d : CallData) (x y : List ℕ) → HasFields c → HasFields d → call_bytes c ++ x ≡ call_bytes d ++ y → (c ≡ d) × (x ≡ y)
 
--- A call that is read is spelled by those very bytes, and has its fields.
-abbrev pub SpellsBack : Type 0
-SpellsBack =
+-- A call that is read is encoded by those very bytes, and has its fields.
+abbrev pub EncodesBack : Type 0
+EncodesBack =
     (bytes : List ℕ) (c : CallData) (rest : List ℕ) → All (λ b. b < 256) bytes → call_front bytes ≡ Ok (c, rest) → (call_bytes c ++ rest ≡ bytes) × HasFields c
 
-abbrev pub SpellsBackAlone : Type 0
-SpellsBackAlone = (bytes : List ℕ) (c : CallData) → All (λ b. b < 256) bytes → call_at bytes ≡ Ok c → (call_bytes c ≡ bytes) × HasFields c
+abbrev pub EncodesBackAlone : Type 0
+EncodesBackAlone = (bytes : List ℕ) (c : CallData) → All (λ b. b < 256) bytes → call_at bytes ≡ Ok c → (call_bytes c ≡ bytes) × HasFields c
 
--- The place behind a call is where its spelling ends.
-abbrev pub SpellsBackAtAPlace : Type 0
-SpellsBackAtAPlace =
+-- The place behind a call is where its encoding ends.
+abbrev pub EncodesBackAtAPlace : Type 0
+EncodesBackAtAPlace =
     (bytes : List ℕ) (place : ℕ) (c : CallData) (next : ℕ) → All (λ b. b < 256) bytes → call_from bytes place ≡ Ok (c, next)
     → (call_bytes c ++ drop next bytes ≡ drop place bytes) × HasFields c

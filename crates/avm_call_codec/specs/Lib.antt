@@ -1,4 +1,4 @@
-pub mod CallSpelling
+pub mod CallEncoding
 pub mod CallReader
 pub mod CallRoundTrip
 pub mod WorkedCallBytes

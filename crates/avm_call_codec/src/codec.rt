@@ -6,7 +6,7 @@ ghost use Rattle.teal_value.specs.Answer.{Gives};
 ghost use Rattle.avm_items.specs.declared.call_data.CallData.{CallData as CallFields};
 ghost use Rattle.avm_call_codec.specs.CallReader.{call_at, call_from};
 ghost use Rattle.avm_call_codec.specs.CallRoundTrip.{HasFields};
-ghost use Rattle.avm_call_codec.specs.CallSpelling.{call_bytes};
+ghost use Rattle.avm_call_codec.specs.CallEncoding.{call_bytes};
 
 use crate::call_data_fault::{CallDataError, CallDataFault};
 use crate::reading::{call_alone, front_of, shared_alone, shared_front_of};
@@ -17,7 +17,7 @@ use std::alloc::{AllocError, Global};
 use std::sync::Arc;
 use teal_value::Failure;
 
-/// A value with one spelling in bytes: the calls of this trait on [`CallData`].
+/// A value with one encoding in bytes: the calls of this trait on [`CallData`].
 pub trait CallCodec: Sized {
     /// The call that the bytes are. The first fault in reading order counts. Nothing grows by a count or a length that the
     /// bytes do not back.
@@ -37,7 +37,7 @@ pub trait CallCodec: Sized {
         place: usize,
     ) -> Result<(Arc<Self>, usize), CallDataError>;
 
-    /// Appends the call's spelling. Of a count or a length that has no room in its field, the low bytes are written.
+    /// Appends the call's encoding. Of a count or a length that has no room in its field, the low bytes are written.
     /// Where memory is refused, the bytes hold what they held.
     fn encode_into(&self, bytes: &mut Vec<u8>) -> Result<(), AllocError>;
 }
@@ -46,9 +46,9 @@ impl CallCodec for CallData {
     fn read(alloc: Global, bytes: &[u8]) -> Result<CallData, CallDataError>
         // The call that the grammar reads, or the fault that it names.
         ensures exact { Gives (λ call. call) result (call_at bytes.now) }
-        // What is read is spelled by those very bytes.
-        ensures spelled { IfOk result (λ call. call_bytes call ≡ bytes.now) }
-        // A call is read from its spelling, unless memory runs out.
+        // What is read is encoded by those very bytes.
+        ensures encoded { IfOk result (λ call. call_bytes call ≡ bytes.now) }
+        // A call is read from its encoding, unless memory runs out.
         ensures only { (call : CallFields)
             → HasFields call → bytes.now ≡ call_bytes call → Gives (λ x. x) result (Ok call) }
     {
@@ -69,7 +69,7 @@ impl CallCodec for CallData {
 
     fn shared_read(alloc: Global, bytes: &[u8]) -> Result<Arc<CallData>, CallDataError>
         ensures exact { Gives (λ call. arc_value call) result (call_at bytes.now) }
-        ensures spelled { IfOk result (λ call. call_bytes (arc_value call) ≡ bytes.now) }
+        ensures encoded { IfOk result (λ call. call_bytes (arc_value call) ≡ bytes.now) }
         ensures only { (call : CallFields) → HasFields call
             → bytes.now ≡ call_bytes call → Gives (λ x. arc_value x) result (Ok call) }
     {

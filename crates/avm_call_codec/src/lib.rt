@@ -1,5 +1,5 @@
 //! The bytes of calls: [`CallCodec`] reads and writes the fields of an application call. What the bytes are stands in
-//! `specs/CallSpelling.antt` and `specs/CallReader.antt`, their laws are the contracts of `reading_laws`.
+//! `specs/CallEncoding.antt` and `specs/CallReader.antt`, their laws are the contracts of `reading_laws`.
 #![tactic(auto)]
 
 mod call_data_fault;

@@ -3,10 +3,10 @@
 ghost use Rattle.std.specs.Prelude.{◌≡◌, ◌∷◌, ◌++◌, [], Ok, Err};
 ghost use Rattle.avm_ledger.specs.WorkedLedgers.{zeros};
 ghost use Rattle.avm_call_codec.specs.declared.call_data_fault.CallDataFault.TheVariants.{Field, Truncated, Rest};
-ghost use Rattle.avm_call_codec.specs.CallSpelling.{call_bytes};
+ghost use Rattle.avm_call_codec.specs.CallEncoding.{call_bytes};
 ghost use Rattle.avm_call_codec.specs.CallReader.{call_at, call_from};
 ghost use Rattle.avm_call_codec.specs.WorkedCallBytes.{behind_completion, up_to_completion, worked_call};
-ghost use Rattle.avm_call_codec.specs.CallRoundTrip.{NoneBeginsAnother, ReadsBack, ReadsBackAlone, ReadsBackAtAPlace, SpellsBack, SpellsBackAlone, SpellsBackAtAPlace};
+ghost use Rattle.avm_call_codec.specs.CallRoundTrip.{NoneBeginsAnother, ReadsBack, ReadsBackAlone, ReadsBackAtAPlace, EncodesBack, EncodesBackAlone, EncodesBackAtAPlace};
 
 /// A call is read from its bytes.
 pub fn reads_back()
@@ -15,14 +15,14 @@ pub fn reads_back()
     ensures at_a_place { ReadsBackAtAPlace }
 {}
 
-/// A call that is read has the bytes as its one spelling.
-pub fn spells_back()
-    ensures front { SpellsBack }
-    ensures alone { SpellsBackAlone }
-    ensures at_a_place { SpellsBackAtAPlace }
+/// A call that is read has the bytes as its one encoding.
+pub fn encodes_back()
+    ensures front { EncodesBack }
+    ensures alone { EncodesBackAlone }
+    ensures at_a_place { EncodesBackAtAPlace }
 {}
 
-/// No spelling of a call begins another.
+/// No encoding of a call begins another.
 pub fn none_begins_another()
     ensures { NoneBeginsAnother }
 {}
@@ -30,7 +30,7 @@ pub fn none_begins_another()
 /// Calls, and bytes that are none, read.
 pub fn worked_calls()
     ensures read { call_at (up_to_completion ++ 2 ∷ behind_completion) ≡ Ok worked_call }
-    ensures spelled { call_bytes worked_call ≡ up_to_completion ++ 2 ∷ behind_completion }
+    ensures encoded { call_bytes worked_call ≡ up_to_completion ++ 2 ∷ behind_completion }
     ensures at_a_place { call_from (7
         ∷ 7 ∷ 7 ∷ up_to_completion ++ 2 ∷ behind_completion ++ 9 ∷ []) 3 ≡ Ok (worked_call, 190) }
     ensures no_completion { call_at (up_to_completion ++ 6 ∷ []) ≡ Err Field }

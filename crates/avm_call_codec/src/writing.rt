@@ -1,16 +1,16 @@
 //! The fields of a call, written one after another.
 
 ghost use Rattle.std.specs.Prelude.{◌≡◌, ◌++◌, OnErr, OnOk};
-ghost use Rattle.teal_code.specs.Spelling.{Continues};
-ghost use Rattle.avm_ledger.specs.Spellings.{counted_bytes, string_bytes, u64_bytes, u8_bytes};
-ghost use Rattle.avm_call_codec.specs.CallSpelling.{address_bytes, call_bytes, lists_bytes, programs_bytes, target_bytes, terms_bytes};
+ghost use Rattle.teal_code.specs.Encoding.{Continues};
+ghost use Rattle.avm_ledger.specs.Encodings.{counted_bytes, string_bytes, u64_bytes, u8_bytes};
+ghost use Rattle.avm_call_codec.specs.CallEncoding.{address_bytes, call_bytes, lists_bytes, programs_bytes, target_bytes, terms_bytes};
 
 use avm_items::CallData;
-use avm_ledger::spelling::{cut_if_refused, put_schema, put_short_count, put_string, put_u64};
+use avm_ledger::encoding::{cut_if_refused, put_schema, put_short_count, put_string, put_u64};
 use std::alloc::AllocError;
 use teal_value::{Address, ByteString};
 
-/// Appends a call's spelling. Where memory is refused, the bytes hold what they held.
+/// Appends a call's encoding. Where memory is refused, the bytes hold what they held.
 pub(crate) fn put_call(bytes: &mut Vec<u8>, call: &CallData) -> Result<(), AllocError>
     ensures written { OnOk result (bytes.new.items ≡ bytes.old.items ++ call_bytes call.now) }
     ensures unchanged { OnErr result (bytes.new.items ≡ bytes.old.items) }
@@ -20,7 +20,7 @@ pub(crate) fn put_call(bytes: &mut Vec<u8>, call: &CallData) -> Result<(), Alloc
     cut_if_refused(bytes, start, appended)
 }
 
-// Where memory is refused, a part of the spelling may stand behind what was there. So it is with all that follow.
+// Where memory is refused, a part of the encoding may stand behind what was there. So it is with all that follow.
 fn push_call(bytes: &mut Vec<u8>, call: &CallData) -> Result<(), AllocError>
     ensures written { OnOk result (bytes.new.items ≡ bytes.old.items ++ call_bytes call.now) }
     ensures kept { Continues bytes.old.items bytes.new.items }

@@ -1,7 +1,7 @@
 -- Verdicts on a block.
 use Rattle.std.proofs.Common.{◌∙◌, ap, sym}
 use Rattle.avm_ledger.specs.Ledgers.{Ledger}
-use Rattle.avm_ledger.specs.Spellings.{ledger_digest}
+use Rattle.avm_ledger.specs.Encodings.{ledger_digest}
 use Rattle.avm_block.specs.Blocks.{Block}
 use Rattle.avm_replay.specs.declared.verdict.Verdict.{Verdict}
 use Rattle.avm_replay.specs.declared.verdict.Verdict.TheVariants as verdict

@@ -4,7 +4,7 @@ use Rattle.teal_value.specs.declared.failure.Failure.TheVariants as failure
 use Rattle.teal_code.specs.declared.instr.Instr.{Instr}
 use Rattle.avm_ledger.specs.declared.header.Header.{Header}
 use Rattle.avm_ledger.specs.Ledgers.{Ledger}
-use Rattle.avm_ledger.specs.Spellings.{ledger_digest}
+use Rattle.avm_ledger.specs.Encodings.{ledger_digest}
 use Rattle.avm_items.specs.declared.call_data.CallData.{CallData}
 use Rattle.avm_call.specs.Views.{NextStep, Runs, View, view_after}
 use Rattle.avm_block.specs.declared.entry.Entry.{Entry}

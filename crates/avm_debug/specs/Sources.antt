@@ -2,7 +2,7 @@
 use Rattle.std.specs.Prelude.{◌≢◌, ℕ, ◌<◌, Option}
 use Rattle.teal_value.specs.declared.failure.Failure.{Failure}
 use Rattle.avm_ledger.specs.Ledgers.{Ledger}
-use Rattle.avm_ledger.specs.Spellings.{ledger_digest}
+use Rattle.avm_ledger.specs.Encodings.{ledger_digest}
 use Rattle.avm_replay.specs.Past.{ledger_until}
 use Rattle.avm_stepper.specs.declared.faults.OpenFault.{OpenFault}
 use Rattle.avm_debug.specs.declared.source.Source.{Source}

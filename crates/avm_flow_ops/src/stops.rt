@@ -6,7 +6,7 @@ ghost use Rattle.avm_flow_ops.specs.Families.{stops_opcode};
 
 use avm_cpu::{Cpu, Flow};
 use avm_items::Env;
-use avm_ops::{Executed, Op, Stop, Way};
+use avm_ops::{Control, Executed, Op, Stop};
 use std::alloc::Global;
 use teal_code::Instr;
 use teal_table::Opcode;
@@ -82,7 +82,7 @@ impl Op for Stops {
         self.execute(alloc, instr, cpu, env)
     }
 
-    fn carry_out(&self, alloc: Global, instr: &Instr, cpu: &mut Cpu, env: &mut Env) -> Way {
-        Way::of(alloc, self.execute(alloc, instr, cpu, env))
+    fn carry_out(&self, alloc: Global, instr: &Instr, cpu: &mut Cpu, env: &mut Env) -> Control {
+        Control::of(alloc, self.execute(alloc, instr, cpu, env))
     }
 }

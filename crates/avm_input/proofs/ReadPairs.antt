@@ -8,7 +8,7 @@ use Rattle.std.proofs.lemmas.List.{get_or-set_other, get_or-set_same}
 use Rattle.hex.specs.Hex.{decode_pairs, hex_digit_value, pair_value, ◌>>=◌}
 use Rattle.hex.specs.declared.error.FromHexError.{FromHexError}
 use Rattle.hex.specs.declared.error.FromHexError.TheVariants.{InvalidHexCharacter}
-use Rattle.avm_input.specs.DigitPairs.{AreNumbers, AreRead, DigitsAreWritten, IsSpelled, byte_of}
+use Rattle.avm_input.specs.DigitPairs.{AreNumbers, AreRead, DigitsAreWritten, IsEncoded, byte_of}
 
 -- a digit's value is below 16
 small : (c v : ℕ) → hex_digit_value c ≡ Some v → v < 16
@@ -82,7 +82,7 @@ pair_more digits bytes i most high low next byte room high-is low-is greatest by
 
 -- a byte of a block
 read_there : (digits numbers bytes : List ℕ) (start most j : ℕ) → j < 32 → most < 16 → AreNumbers digits (2 * start) 64 numbers most
-    → slice_index bytes (start + j) ≡ byte_of (slice_index numbers (2 * j)) (slice_index numbers (2 * j + 1)) → IsSpelled digits (start + j) (slice_index bytes (start + j))
+    → slice_index bytes (start + j) ≡ byte_of (slice_index numbers (2 * j)) (slice_index numbers (2 * j + 1)) → IsEncoded digits (start + j) (slice_index bytes (start + j))
 read_there digits numbers bytes start most j lt few are e =
     let high : 2 * (start + j) ≡ 2 * start + 2 * j = omega arith in
     let low : 2 * (start + j) + 1 ≡ 2 * start + (2 * j + 1) = omega arith in (
@@ -120,8 +120,8 @@ none_read digits bytes = record { read = λ few k lt. absurd (omega (arith, lt))
 two_on : (a b : ℕ) (digits : List ℕ) (i k : ℕ) → i ≡ suc (suc k) → slice_index (a ∷ b ∷ digits) i ≡ slice_index digits k
 two_on a b digits i k e = rw e refl
 
-rest_spelled : (a b : ℕ) (digits : List ℕ) (k byte : ℕ) → IsSpelled (a ∷ b ∷ digits) (suc k) byte → IsSpelled digits k byte
-rest_spelled a b digits k byte (high, low, first, second, e) = (
+rest_encoded : (a b : ℕ) (digits : List ℕ) (k byte : ℕ) → IsEncoded (a ∷ b ∷ digits) (suc k) byte → IsEncoded digits k byte
+rest_encoded a b digits k byte (high, low, first, second, e) = (
   high,
   low,
   ap hex_digit_value (sym (two_on a b digits (2 * suc k) (2 * k) (omega arith))) ∙ first,
@@ -129,17 +129,17 @@ rest_spelled a b digits k byte (high, low, first, second, e) = (
   e,
 )
 
--- pairs of digits spell the bytes of their numbers
-all_spelled : (place : ℕ) (digits bytes : List ℕ) → length digits ≡ 2 * length bytes → ((k : ℕ) → k < length bytes → IsSpelled digits k (slice_index bytes k)) → decode_pairs place digits ≡ Ok bytes
+-- pairs of digits encode the bytes of their numbers
+all_encoded : (place : ℕ) (digits bytes : List ℕ) → length digits ≡ 2 * length bytes → ((k : ℕ) → k < length bytes → IsEncoded digits k (slice_index bytes k)) → decode_pairs place digits ≡ Ok bytes
 unfolding decode_pairs
-all_spelled place [] [] len same = refl
-all_spelled place [] (x ∷ bytes) len same = absurd (omega (arith, len))
-all_spelled place (a ∷ []) bytes len same = absurd (omega (arith, len))
-all_spelled place (a ∷ b ∷ digits) [] len same = absurd (omega (arith, len))
-all_spelled place (a ∷ b ∷ digits) (x ∷ bytes) len same =
+all_encoded place [] [] len same = refl
+all_encoded place [] (x ∷ bytes) len same = absurd (omega (arith, len))
+all_encoded place (a ∷ []) bytes len same = absurd (omega (arith, len))
+all_encoded place (a ∷ b ∷ digits) [] len same = absurd (omega (arith, len))
+all_encoded place (a ∷ b ∷ digits) (x ∷ bytes) len same =
     let (high, low, first, second, e) = same 0 (omega arith) in
     let byte : high * 16 + low ≡ x = omega (arith, small a high first, small b low second, e) in
-    let more = all_spelled (place + 2) digits bytes (omega (arith, len)) (λ k lt. rest_spelled a b digits k (slice_index bytes k) (same (suc k) (omega (arith, lt)))) in
+    let more = all_encoded (place + 2) digits bytes (omega (arith, len)) (λ k lt. rest_encoded a b digits k (slice_index bytes k) (same (suc k) (omega (arith, lt)))) in
     rw (pair_read a b place high low first second, more, byte) refl
 
 -- a digit that is none is refused
@@ -161,7 +161,7 @@ all_read digits bytes i most few end len few-is are =
     elim (cases_lt most 16) [
       | inl lt ↦
           let yes : nat_lt most 16 ≡ true = search (arith, lt) in
-          rw (few-is, yes) (ap result_ok (all_spelled 0 digits bytes len (λ k below. are.read lt k (omega (arith, below, end)))))
+          rw (few-is, yes) (ap result_ok (all_encoded 0 digits bytes len (λ k below. are.read lt k (omega (arith, below, end)))))
       | inr le ↦
           let no : nat_lt most 16 ≡ false = search (arith, le) in
           let (k, lt, none) = are.no_digit (omega (arith, le)) in

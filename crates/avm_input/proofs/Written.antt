@@ -24,7 +24,7 @@ kept_appends now after kept = Appends-kept now now after [] (Appends-nil now) ke
 
 -- ---- digits, piece by piece
 
--- of the bytes, those before the rest are spelled and written
+-- of the bytes, those before the rest are encoded and written
 abbrev pub IsWrittenTo : Option (List ℕ) → Option (List ℕ) → List ℕ → List ℕ → Type 0
 IsWrittenTo held now bytes rest = (done : List ℕ) × (bytes ≡ done ++ rest) × Appends held now (encode_lower done)
 

@@ -21,12 +21,12 @@ pub record DigitsAreWritten (numbers before bytes : List ℕ) (place count : ℕ
   pub bytes_there : (k : ℕ) → k < count → slice_index bytes (place + k) ≡ byte_of (slice_index numbers (2 * k)) (slice_index numbers (2 * k + 1))
   pub kept : (k : ℕ) → k < place → slice_index bytes k ≡ slice_index before k
 
--- the pair of digits at an index spells a byte
-abbrev pub IsSpelled : List ℕ → ℕ → ℕ → Type 0
-IsSpelled digits k byte =
+-- the pair of digits at an index encodes a byte
+abbrev pub IsEncoded : List ℕ → ℕ → ℕ → Type 0
+IsEncoded digits k byte =
     (high : ℕ) × (low : ℕ) × (hex_digit_value (slice_index digits (2 * k)) ≡ Some high) × (hex_digit_value (slice_index digits (2 * k + 1)) ≡ Some low) × (byte ≡ byte_of high low)
 
 -- so many pairs are read, unless the greatest number is 16 or more, which tells that one of them has no digit
 pub record AreRead (digits bytes : List ℕ) (count most : ℕ) : Type 0 where
-  pub read : most < 16 → (k : ℕ) → k < count → IsSpelled digits k (slice_index bytes k)
+  pub read : most < 16 → (k : ℕ) → k < count → IsEncoded digits k (slice_index bytes k)
   pub no_digit : 16 ≤ most → (k : ℕ) × (k < 2 * count) × (hex_digit_value (slice_index digits k) ≡ None)

@@ -19,9 +19,9 @@ use thiserror::Error;
 #[derive(Clone, Copy, Debug, PartialEq, Eq, Error)]
 #[error("{name}", name = self.name())]
 pub enum CallLineFault {
-    /// They spell no call.
+    /// They encode no call.
     Bytes(CallDataFault),
-    /// They spell a call that breaks this rule.
+    /// They encode a call that breaks this rule.
     Rule(CallFault),
 }
 

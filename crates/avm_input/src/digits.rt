@@ -16,7 +16,7 @@ const BLOCK: usize = 32;
 /// How many bytes are zeroed and then written at once: so few that the nearest cache keeps them.
 const PIECE: usize = 1024;
 
-/// The bytes that digits of either case spell, where they are an even number of such digits.
+/// The bytes that digits of either case encode, where they are an even number of such digits.
 pub fn decode_digits(alloc: Global, digits: &[u8]) -> Result<Option<Vec<u8>>, AllocError>
     ensures { IfOk result
         (λ bytes. option_map (λ v. v.items) bytes ≡ result_ok (decode_of digits.now)) }
@@ -37,7 +37,7 @@ pub fn decode_digits(alloc: Global, digits: &[u8]) -> Result<Option<Vec<u8>>, Al
     Ok(if read { Some(bytes) } else { None })
 }
 
-/// Adds the bytes that digits spell, and says whether all are digits; if not, it adds any bytes.
+/// Adds the bytes that digits encode, and says whether all are digits; if not, it adds any bytes.
 fn add_piece(bytes: &mut Vec<u8>, digits: &[u8]) -> Result<bool, AllocError>
     requires { length digits.now % 2 ≡ 0 }
     ensures { IfOk result
@@ -49,7 +49,7 @@ fn add_piece(bytes: &mut Vec<u8>, digits: &[u8]) -> Result<bool, AllocError>
     Ok(put_bytes(digits, bytes.slice_mut(start..)))
 }
 
-/// Writes the bytes that digits spell, and says whether all of them are digits; if not, it writes any bytes.
+/// Writes the bytes that digits encode, and says whether all of them are digits; if not, it writes any bytes.
 fn put_bytes(digits: &[u8], bytes: &mut [u8]) -> bool
     requires { length digits.now ≡ 2 * length bytes.old }
     ensures { result_ok (decode_pairs 0 digits.now) ≡ (if result then Some bytes.new else None) }

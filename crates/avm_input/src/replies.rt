@@ -30,7 +30,7 @@ pub const USAGE: u8 = 2;
 /// The exit status of a failed read or write, and where memory was refused.
 pub const FAILED: u8 = 3;
 
-/// How many bytes are spelled and written at once: so many that a long line takes few writes, and so few that its digits stand
+/// How many bytes are encoded and written at once: so many that a long line takes few writes, and so few that its digits stand
 /// in a near cache.
 const PIECE: usize = 16_384;
 

@@ -10,7 +10,7 @@ use Rattle.std.proofs.lemmas.List.Elements.{All-head, All-tail}
 use Rattle.avm_ledger.specs.declared.application.Application.{Application}
 use Rattle.avm_ledger.specs.declared.ledger_fault.LedgerFault.{LedgerFault}
 use Rattle.avm_ledger.specs.declared.ledger_fault.LedgerFault.TheVariants.{Truncated, Rest}
-use Rattle.avm_ledger.specs.Spellings.{u8_bytes, u32_bytes, u64_bytes, string_bytes, schema_bytes, state_bytes, value_bytes, counted_bytes}
+use Rattle.avm_ledger.specs.Encodings.{u8_bytes, u32_bytes, u64_bytes, string_bytes, schema_bytes, state_bytes, value_bytes, counted_bytes}
 use Rattle.avm_ledger.specs.FieldReader.{Front, alone}
 use Rattle.avm_ledger.specs.LedgerReader.{local_room, value_at}
 use Rattle.avm_ledger.proofs.FieldsBack.{then, address_back, byte_back, u32_back, u64_back, short_string_back}
@@ -25,7 +25,7 @@ use Rattle.avm_items.proofs.Puts.{item_total}
 use Rattle.teal_value.specs.declared.value.Value.{Value}
 use Rattle.teal_value.specs.declared.value.Value.TheVariants.{Uint, Bytes}
 use Rattle.avm_ledger.specs.LedgerRules.{IsStateValue}
-use Rattle.avm_item_codec.specs.ItemSpelling.{item_bytes, row_bytes, item_value_bytes, item_entry_bytes, items_bytes}
+use Rattle.avm_item_codec.specs.ItemEncoding.{item_bytes, row_bytes, item_value_bytes, item_entry_bytes, items_bytes}
 use Rattle.avm_item_codec.specs.ItemReader.{item_front, short_key_at, row_at, maybe_at, one_of_each, local_value_at, item_value_at, item_entry_front, new_entry_at, more_items_at, items_front, items_at}
 use Rattle.avm_item_codec.specs.ItemRules.{IsItem, IsRow, IsValueFor, IsEntry, AreNew, with_all}
 
@@ -152,7 +152,7 @@ map_back items all sorted few =
     let is = in_order [] items sorted in
     list_back_alone items all is.0 few ∙ ap Ok is.1
 
--- ---- no spelling begins another
+-- ---- no encoding begins another
 
 pub no_item_begins : (x y : Item) (p q : List ℕ) → IsItem x → IsItem y → item_bytes x ++ p ≡ item_bytes y ++ q → (x ≡ y) × (p ≡ q)
 no_item_begins x y p q is is' e =

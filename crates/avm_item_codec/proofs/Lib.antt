@@ -1,5 +1,5 @@
 pub mod ListReading
 pub mod ItemsBack
-pub mod ItemsSpelled
+pub mod ItemsEncoded
 pub mod ItemsRead
 pub mod LedgerValues

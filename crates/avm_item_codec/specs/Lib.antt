@@ -1,4 +1,4 @@
-pub mod ItemSpelling
+pub mod ItemEncoding
 pub mod ItemReader
 pub mod ItemRules
 pub mod ItemRoundTrip

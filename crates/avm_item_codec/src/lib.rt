@@ -1,5 +1,5 @@
 //! The bytes of a ledger's items and of their values: items one by one, and lists of items with their values, for whoever
-//! keeps a ledger item by item. What the bytes are stands in `specs/ItemSpelling.antt` and `specs/ItemReader.antt`, what is
+//! keeps a ledger item by item. What the bytes are stands in `specs/ItemEncoding.antt` and `specs/ItemReader.antt`, what is
 //! asked of an item and of its value by itself in `specs/ItemRules.antt`. The laws are the contracts of `reading_laws`.
 #![tactic(auto)]
 

@@ -4,8 +4,8 @@ ghost use Rattle.std.specs.Prelude.{◌≡◌, ◌∷◌, ◌++◌, [], Ok, Err}
 ghost use Rattle.avm_ledger.specs.WorkedLedgers.{zeros};
 ghost use Rattle.avm_ledger.specs.declared.ledger_fault.LedgerFault.TheVariants.{Malformed, Rest, Truncated};
 ghost use Rattle.avm_item_codec.specs.ItemReader.{items_at};
-ghost use Rattle.avm_item_codec.specs.ItemSpelling.{items_bytes};
-ghost use Rattle.avm_item_codec.specs.ItemRoundTrip.{ItemReadsBack, ItemSpellsBack, LedgersHaveValues, ListReadsBack, ListSpellsBack, MapReadsBack, NoItemBeginsAnother, NoValueBeginsAnother, ValueReadsBack, ValueSpellsBack};
+ghost use Rattle.avm_item_codec.specs.ItemEncoding.{items_bytes};
+ghost use Rattle.avm_item_codec.specs.ItemRoundTrip.{ItemReadsBack, ItemEncodesBack, LedgersHaveValues, ListReadsBack, ListEncodesBack, MapReadsBack, NoItemBeginsAnother, NoValueBeginsAnother, ValueReadsBack, ValueEncodesBack};
 ghost use Rattle.avm_item_codec.specs.WorkedItems.{counts_of_seven, key_a, next_is_ten, no_application, three_entries, worked_items};
 
 /// Items, values and lists of items are read from their bytes.
@@ -16,14 +16,14 @@ pub fn reads_back()
     ensures map { MapReadsBack }
 {}
 
-/// What is read keeps the rules, and has the bytes as its spelling: the only one of an item and of a value.
-pub fn spells_back()
-    ensures item { ItemSpellsBack }
-    ensures value { ValueSpellsBack }
-    ensures list { ListSpellsBack }
+/// What is read keeps the rules, and has the bytes as its encoding: the only one of an item and of a value.
+pub fn encodes_back()
+    ensures item { ItemEncodesBack }
+    ensures value { ValueEncodesBack }
+    ensures list { ListEncodesBack }
 {}
 
-/// No spelling of an item begins another's, and none of an item's values begins another.
+/// No encoding of an item begins another's, and none of an item's values begins another.
 pub fn none_begins_another()
     ensures item { NoItemBeginsAnother }
     ensures value { NoValueBeginsAnother }

@@ -1,12 +1,12 @@
 //! Items and their values, written one after another.
 
 ghost use Rattle.std.specs.Prelude.{◌≡◌, ◌++◌, OnOk};
-ghost use Rattle.avm_ledger.specs.Spellings.{schema_bytes, u64_bytes, u8_bytes};
-ghost use Rattle.avm_item_codec.specs.ItemSpelling.{item_bytes, item_entry_bytes, item_value_bytes, items_bytes, row_bytes};
+ghost use Rattle.avm_ledger.specs.Encodings.{schema_bytes, u64_bytes, u8_bytes};
+ghost use Rattle.avm_item_codec.specs.ItemEncoding.{item_bytes, item_entry_bytes, item_value_bytes, items_bytes, row_bytes};
 
 use avm_items::{Item, ItemValue};
 use avm_ledger::Application;
-use avm_ledger::spelling::{
+use avm_ledger::encoding::{
     put_long_count, put_schema, put_short_count, put_short_string, put_state, put_string, put_u64,
     put_value,
 };

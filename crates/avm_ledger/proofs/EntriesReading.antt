@@ -15,9 +15,9 @@ use Rattle.avm_ledger.specs.FieldReader.{Front, short_string_at}
 use Rattle.avm_ledger.specs.LedgerReader.{rises_from_key, key_at, value_at, entries_at}
 use Rattle.avm_states.proofs.KeyOrder.{byte_total}
 use Rattle.avm_ledger.proofs.FieldsBack.{then}
-use Rattle.avm_ledger.proofs.FieldsSpelled.{from}
+use Rattle.avm_ledger.proofs.FieldsEncoded.{from}
 use Rattle.avm_ledger.proofs.LedgerKept.{rule_kept, and_second, less}
-use Rattle.avm_ledger.proofs.LedgerSpelled.{and_first}
+use Rattle.avm_ledger.proofs.LedgerEncoded.{and_first}
 use Rattle.avm_ledger.proofs.RisingReading.{AllLower, with_front, none_in_front, one_in_front, stopped, insert_last, all_lower_more}
 
 -- the entries so far and those of the rest are those that are meant, and a key that comes next stands above all so far

@@ -1,4 +1,4 @@
--- Fields that are spelled read back, whatever stands behind them.
+-- Fields that are encoded read back, whatever stands behind them.
 use Rattle.std.proofs.Common.{◌≡◌, ℕ, suc, ◌^◌, ◌<◌, false, ltb, List, [], ◌∷◌, ◌++◌, length, take, drop, Result, Ok, refl, sym, ap, ◌∙◌, append_assoc, length-append, arith}
 use Rattle.std.specs.Int.{Width, w8, w16, w32, w64, byte_len, to_be_bytes, from_be_bytes}
 use Rattle.std.proofs.lemmas.Bool.{le-ltb}
@@ -11,7 +11,7 @@ use Rattle.teal_value.specs.declared.address.Address.{Address}
 use Rattle.avm_states.specs.declared.schema.Schema.{Schema}
 use Rattle.teal_code.specs.Reader.{many_at}
 use Rattle.avm_ledger.specs.FieldReader.{Front, address_at, schema_at, counted_at, bytes_at, number_at, short_string_at, string_at}
-use Rattle.avm_ledger.specs.Spellings.{u8_bytes, u16_bytes, u32_bytes, u64_bytes}
+use Rattle.avm_ledger.specs.Encodings.{u8_bytes, u16_bytes, u32_bytes, u64_bytes}
 
 -- a step that succeeds, and what follows it
 pub then : {A B F : Type 0} (r : Result A F) (x : A) (f : A → Result B F) (q : Result B F) → r ≡ Ok x → f x ≡ q → (r >>= f) ≡ q
@@ -68,16 +68,16 @@ pub schema_back : {F : Type 0} (truncated : F) (s : Schema) (rest : List ℕ) �
 schema_back truncated s rest uints strings =
     then _ _ _ _ (byte_back truncated s.uints (u8_bytes s.bytes ++ rest) uints) (then _ _ _ _ (byte_back truncated s.bytes rest strings) refl)
 
-many_back : {A F : Type 0} (one : List ℕ → Front F A) (spelling : A → List ℕ) (P : A → Type 0) → ((x : A) (rest : List ℕ) → P x → one (spelling x ++ rest) ≡ Ok (x, rest))
-    → (xs : List A) (rest : List ℕ) → All P xs → many_at one (length xs) (flat_map spelling xs ++ rest) ≡ Ok (xs, rest)
-many_back one spelling P back [] rest all = refl
-many_back one spelling P back (x ∷ xs) rest all =
-    ap (many_at one (suc (length xs))) (append_assoc (spelling x) (flat_map spelling xs) rest)
-    ∙ then _ _ _ _ (back x (flat_map spelling xs ++ rest) (All-head P x xs all))
-    (then _ _ _ _ (many_back one spelling P back xs rest (All-tail P x xs all)) refl)
+many_back : {A F : Type 0} (one : List ℕ → Front F A) (encoding : A → List ℕ) (P : A → Type 0) → ((x : A) (rest : List ℕ) → P x → one (encoding x ++ rest) ≡ Ok (x, rest))
+    → (xs : List A) (rest : List ℕ) → All P xs → many_at one (length xs) (flat_map encoding xs ++ rest) ≡ Ok (xs, rest)
+many_back one encoding P back [] rest all = refl
+many_back one encoding P back (x ∷ xs) rest all =
+    ap (many_at one (suc (length xs))) (append_assoc (encoding x) (flat_map encoding xs) rest)
+    ∙ then _ _ _ _ (back x (flat_map encoding xs ++ rest) (All-head P x xs all))
+    (then _ _ _ _ (many_back one encoding P back xs rest (All-tail P x xs all)) refl)
 
 -- fewer than 256 values are read from their count and bytes, where each is read from its own
-pub counted_back : {A F : Type 0} (truncated : F) (one : List ℕ → Front F A) (spelling : A → List ℕ) (P : A → Type 0) → ((x : A) (rest : List ℕ) → P x → one (spelling x ++ rest) ≡ Ok (x, rest))
-    → (xs : List A) (rest : List ℕ) → All P xs → length xs < 256 → counted_at truncated one (u8_bytes (length xs) ++ (flat_map spelling xs ++ rest)) ≡ Ok (xs, rest)
-counted_back truncated one spelling P back xs rest all few =
-    then _ _ _ _ (byte_back truncated (length xs) (flat_map spelling xs ++ rest) few) (many_back one spelling P back xs rest all)
+pub counted_back : {A F : Type 0} (truncated : F) (one : List ℕ → Front F A) (encoding : A → List ℕ) (P : A → Type 0) → ((x : A) (rest : List ℕ) → P x → one (encoding x ++ rest) ≡ Ok (x, rest))
+    → (xs : List A) (rest : List ℕ) → All P xs → length xs < 256 → counted_at truncated one (u8_bytes (length xs) ++ (flat_map encoding xs ++ rest)) ≡ Ok (xs, rest)
+counted_back truncated one encoding P back xs rest all few =
+    then _ _ _ _ (byte_back truncated (length xs) (flat_map encoding xs ++ rest) few) (many_back one encoding P back xs rest all)

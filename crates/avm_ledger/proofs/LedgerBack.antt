@@ -25,7 +25,7 @@ use Rattle.avm_ledger.specs.declared.application.StoredApplication.{StoredApplic
 use Rattle.avm_ledger.specs.Ledgers.{Ledger, account_cmp}
 use Rattle.avm_states.specs.Schemas.{count_with, count_without, counts_in}
 use Rattle.teal_code.specs.Limits.{most_program_bytes}
-use Rattle.avm_ledger.specs.Spellings.{string_bytes, schema_bytes, counted_bytes, u8_bytes, u16_bytes, u32_bytes, u64_bytes, application_bytes, local_state_bytes, ledger_bytes, value_bytes, entry_bytes, state_bytes}
+use Rattle.avm_ledger.specs.Encodings.{string_bytes, schema_bytes, counted_bytes, u8_bytes, u16_bytes, u32_bytes, u64_bytes, application_bytes, local_state_bytes, ledger_bytes, value_bytes, entry_bytes, state_bytes}
 use Rattle.avm_ledger.specs.FieldReader.{number_at, short_string_at, alone}
 use Rattle.avm_ledger.specs.LedgerReader.{tested, Room, local_room, room_of_schema, stored_in, limited_schema_at, program_at, stored_application_at, id_between, applications_at, is_no_lower, rises_from_pair, account_at, local_id_at, local_states_at, next_id_at, ledger_front, ledger_at, rises_from_key, key_at, value_of_kind, value_at, entries_at, state_of_count, state_at}
 use Rattle.avm_ledger.specs.LedgerRules.{IsStateValue, IsStateEntry, IsStateIn, IsApplicationBelow, IsLocalStateBelow, KeepsRules, IsCountable}
@@ -279,7 +279,7 @@ pub ledger_back_alone : (l : Ledger) → KeepsRules l → IsCountable l → ledg
 ledger_back_alone l keeps count =
     ap ledger_at (sym (append-nil (ledger_bytes l))) ∙ then (ledger_front (ledger_bytes l ++ [])) (l, []) (alone Rest) (Ok l) (ledger_back l [] keeps count) refl
 
--- no bytes begin with the spellings of two different countable ledgers that keep the rules
+-- no bytes begin with the encodings of two different countable ledgers that keep the rules
 pub none_begins : (l m : Ledger) (x y : List ℕ) → KeepsRules l → IsCountable l → KeepsRules m → IsCountable m → ledger_bytes l ++ x ≡ ledger_bytes m ++ y → (l ≡ m) × (x ≡ y)
 none_begins l m x y keeps count keeps' count' e =
     let same = sym (ledger_back l x keeps count) ∙ ap ledger_front e ∙ ledger_back m y keeps' count' in

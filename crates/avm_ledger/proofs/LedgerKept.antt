@@ -27,9 +27,9 @@ use Rattle.avm_ledger.specs.LedgerRules.{IsStateValue, IsStateEntry, IsStateIn, 
 use Rattle.avm_states.proofs.Maps.{all_below}
 use Rattle.avm_ledger.proofs.Changes.{account_total}
 use Rattle.teal_code.proofs.Bytes.{AllBytes, all_bytes}
-use Rattle.avm_ledger.proofs.FieldsSpelled.{from, same_value, byte_spelled, u32_spelled, address_spelled}
+use Rattle.avm_ledger.proofs.FieldsEncoded.{from, same_value, byte_encoded, u32_encoded, address_encoded}
 use Rattle.avm_ledger.proofs.FieldsFit.{u32_fits, u64_fits, address_fits}
-use Rattle.avm_ledger.proofs.LedgerSpelled.{key_spelled, value_spelled, entries_spelled, state_spelled, limited_schema_spelled, program_spelled, stored_spelled, id_spelled, applications_spelled, account_spelled, local_id_spelled, local_states_spelled, next_id_spelled, and_first, if_kept, at_end}
+use Rattle.avm_ledger.proofs.LedgerEncoded.{key_encoded, value_encoded, entries_encoded, state_encoded, limited_schema_encoded, program_encoded, stored_encoded, id_encoded, applications_encoded, account_encoded, local_id_encoded, local_states_encoded, next_id_encoded, and_first, if_kept, at_end}
 
 -- a field that keeps its rule
 pub rule_kept : {A : Type 0} (rule : A × List ℕ → Bool) (x y : A × List ℕ) → tested (rule x) x ≡ Ok y → (rule y ≡ true) × (x ≡ y)
@@ -62,7 +62,7 @@ HasRoom (Bytes s) left = 0 < left.bytes
 -- a value that is read may stand in a state
 pub value_kept : (left : Schema) (bytes : List ℕ) (x : Value × List ℕ) → AllBytes bytes → value_at left bytes ≡ Ok x → IsStateValue x.0 × HasRoom x.0 left
 value_kept left bytes x all e =
-    from (number_at Truncated w8 bytes) (value_of_kind left) x e (λ n en e1. at_uint n (byte_spelled Truncated bytes n all en).rest_are_bytes (eqb n.0 1 && ltb 0 left.uints) refl e1)
+    from (number_at Truncated w8 bytes) (value_of_kind left) x e (λ n en e1. at_uint n (byte_encoded Truncated bytes n all en).rest_are_bytes (eqb n.0 1 && ltb 0 left.uints) refl e1)
   where
     uint_value : (n : ℕ × List ℕ) → AllBytes n.1 → ltb 0 left.uints ≡ true → uint_at n.1 ≡ Ok x → IsStateValue x.0 × HasRoom x.0 left
     uint_value n all room e =
@@ -118,10 +118,10 @@ entries_kept (suc n) before left bytes x all e =
     from (key_at before bytes) _ x e (λ k ek e1.
     from (short_string_at Truncated bytes) _ k ek (λ s es t1.
     let key = rule_kept (λ z. leb (length z.0) 64 && rises_from_key before z.0) s k t1 in
-    let spelled = key_spelled before bytes k all ek in
+    let encoded = key_encoded before bytes k all ek in
     from (value_at left k.1) _ x e1 (λ v ev e2.
-    let value = value_kept left k.1 v spelled.rest_are_bytes ev in
-    let behind = value_spelled left k.1 v spelled.rest_are_bytes ev in
+    let value = value_kept left k.1 v encoded.rest_are_bytes ev in
+    let behind = value_encoded left k.1 v encoded.rest_are_bytes ev in
     from (entries_at n (Some k.0) (count_without v.0 left) v.1) _ x e2 (λ m em e3.
     let more = entries_kept n (Some k.0) (count_without v.0 left) v.1 m behind.rest_are_bytes em in
     let counts = counts_more v.0 (counts_in m.0) left value.1 more.uints more.strings in
@@ -140,9 +140,9 @@ state_kept room bytes x all e =
     from (number_at Truncated w8 bytes) (state_of_count room) x e (λ n en e1.
     let few : leb n.0 room.entries ≡ true = passed_rule (leb n.0 room.entries) (entries_at n.0 None room.kinds n.1) Malformed x e1 in
     let read : entries_at n.0 None room.kinds n.1 ≡ Ok x = if_kept (leb n.0 room.entries) _ Malformed x e1 in
-    let rest = (byte_spelled Truncated bytes n all en).rest_are_bytes in
+    let rest = (byte_encoded Truncated bytes n all en).rest_are_bytes in
     let are = entries_kept n.0 None room.kinds n.1 x rest read in
-    let count : length x.0 ≡ n.0 = (entries_spelled n.0 None room.kinds n.1 x rest read).1 in
+    let count : length x.0 ≡ n.0 = (entries_encoded n.0 None room.kinds n.1 x rest read).1 in
     record { rising = are.rising; entries = are.entries; few = subst (λ m. m ≤ room.entries) (sym count) (leb-true n.0 room.entries few); uints = are.uints; strings = are.strings })
 
 -- ---- applications
@@ -165,15 +165,15 @@ id_kept before next bytes x e =
 stored_kept : (next id : ℕ) (bytes : List ℕ) (x : StoredApplication × List ℕ) → 1 ≤ id → id < next → AllBytes bytes → stored_application_at bytes ≡ Ok x → IsApplicationBelow next (id, x.0)
 stored_kept next id bytes x positive below all e =
     from (address_at Truncated bytes) _ x e (λ a ea e1.
-    let creator = address_spelled Truncated bytes a all ea in
+    let creator = address_encoded Truncated bytes a all ea in
     from (program_at a.1) _ x e1 (λ b eb e2.
-    let approval = program_spelled a.1 b creator.rest_are_bytes eb in
+    let approval = program_encoded a.1 b creator.rest_are_bytes eb in
     from (program_at b.1) _ x e2 (λ c ec e3.
-    let clear = program_spelled b.1 c approval.rest_are_bytes ec in
+    let clear = program_encoded b.1 c approval.rest_are_bytes ec in
     from (limited_schema_at 64 c.1) _ x e3 (λ g eg e4.
-    let global = limited_schema_spelled 64 c.1 g clear.rest_are_bytes eg in
+    let global = limited_schema_encoded 64 c.1 g clear.rest_are_bytes eg in
     from (limited_schema_at 16 g.1) _ x e4 (λ l el e5.
-    let local = limited_schema_spelled 16 g.1 l global.rest_are_bytes el in
+    let local = limited_schema_encoded 16 g.1 l global.rest_are_bytes el in
     from (state_at (room_of_schema g.0) l.1) _ x e5 (λ s es e6.
     let app : StoredApplication = record { row = record { creator = a.0; approval = b.0; clear = c.0; global_schema = g.0; local_schema = l.0 }; state = s.0 } in
     let is : ◌≡◌ {A = StoredApplication × List ℕ} (app, s.1) x = same_value _ _ e6 in
@@ -219,9 +219,9 @@ applications_kept zero before next bytes x all e =
 applications_kept (suc n) before next bytes x all e =
     from (id_between before next bytes) _ x e (λ i ei e1.
     let id = id_kept before next bytes i ei in
-    let behind = id_spelled before next bytes i all ei in
+    let behind = id_encoded before next bytes i all ei in
     from (stored_application_at i.1) _ x e1 (λ a ea e2.
-    let app = stored_spelled i.1 a behind.rest_are_bytes ea in
+    let app = stored_encoded i.1 a behind.rest_are_bytes ea in
     let positive : 1 ≤ i.0 = omega (arith, id.0) in
     let keeps = stored_kept next i.0 i.1 a positive id.1 behind.rest_are_bytes ea in
     from (applications_at n i.0 next a.1) _ x e2 (λ m em e3.
@@ -273,17 +273,17 @@ local_states_kept zero before next apps bytes x all e =
     subst (λ p. All (IsLocalStateBelow next apps) p.0) is (All-nil (IsLocalStateBelow next apps))
 local_states_kept (suc n) before next apps bytes x all e =
     from (account_at before bytes) _ x e (λ a ea e1.
-    let who = account_spelled before bytes a all ea in
+    let who = account_encoded before bytes a all ea in
     from (address_at Truncated bytes) _ a ea (λ w ew t1.
     let account : length a.0.0 ≡ 32 = subst (λ p. length p.0.0 ≡ 32) (rule_kept (λ z. is_no_lower before z.0) w a t1).1 (address_fits Truncated bytes w ew) in
     from (local_id_at before next a.0 a.1) _ x e1 (λ i ei e2.
-    let id = local_id_spelled before next a.0 a.1 i who.rest_are_bytes ei in
+    let id = local_id_encoded before next a.0 a.1 i who.rest_are_bytes ei in
     from (id_between 0 next a.1) _ i ei (λ j ej t2.
     let pair = rule_kept (λ z. rises_from_pair before (a.0, z.0)) j i t2 in
     let between : (0 < i.0) × (i.0 < next) = subst (λ p. (0 < p.0) × (p.0 < next)) pair.1 (id_kept 0 next a.1 j ej) in
     let positive : 1 ≤ i.0 = omega (arith, between.0) in
     from (state_at (local_room (stored_in apps i.0)) i.1) _ x e2 (λ s es e3.
-    let state = state_spelled (local_room (stored_in apps i.0)) i.1 s id.rest_are_bytes es in
+    let state = state_encoded (local_room (stored_in apps i.0)) i.1 s id.rest_are_bytes es in
     let keeps = state_kept (local_room (stored_in apps i.0)) i.1 s id.rest_are_bytes es in
     from (local_states_at n (Some (a.0, i.0)) next apps s.1) _ x e3 (λ m em e4.
     let more = local_states_kept n (Some (a.0, i.0)) next apps s.1 m state.rest_are_bytes em in
@@ -303,17 +303,17 @@ next_id_kept bytes x all e =
 front_kept : (bytes : List ℕ) (x : Ledger × List ℕ) → AllBytes bytes → ledger_front bytes ≡ Ok x → KeepsRules x.0 × IsCountable x.0
 front_kept bytes x all e =
     from (next_id_at bytes) _ x e (λ n en e1.
-    let next = next_id_spelled bytes n all en in
+    let next = next_id_encoded bytes n all en in
     let id = next_id_kept bytes n all en in
     from (number_at Truncated w32 n.1) _ x e1 (λ c ec e2.
-    let count = u32_spelled Truncated n.1 c next.rest_are_bytes ec in
+    let count = u32_encoded Truncated n.1 c next.rest_are_bytes ec in
     from (applications_at c.0 0 n.0 c.1) _ x e2 (λ a ea e3.
-    let apps = applications_spelled c.0 0 n.0 c.1 a count.rest_are_bytes ea in
+    let apps = applications_encoded c.0 0 n.0 c.1 a count.rest_are_bytes ea in
     let kept_apps = applications_kept c.0 0 n.0 c.1 a count.rest_are_bytes ea in
     from (number_at Truncated w32 a.1) _ x e3 (λ d ed e4.
-    let states = u32_spelled Truncated a.1 d apps.0.rest_are_bytes ed in
+    let states = u32_encoded Truncated a.1 d apps.0.rest_are_bytes ed in
     from (local_states_at d.0 None n.0 a.0 d.1) _ x e4 (λ s es e5.
-    let locals = local_states_spelled d.0 None n.0 a.0 d.1 s states.rest_are_bytes es in
+    let locals = local_states_encoded d.0 None n.0 a.0 d.1 s states.rest_are_bytes es in
     let kept_states = local_states_kept d.0 None n.0 a.0 d.1 s states.rest_are_bytes es in
     let l : Ledger = record { next_id = n.0; applications = a.0; local_states = s.0 } in
     let is : ◌≡◌ {A = Ledger × List ℕ} (l, s.1) x = same_value _ _ e5 in

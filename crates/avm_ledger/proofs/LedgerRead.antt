@@ -13,10 +13,10 @@ use Rattle.avm_states.specs.Entries.{IsInKeyOrder}
 use Rattle.avm_ledger.specs.Ledgers.{Ledger, IsInOrder}
 use Rattle.avm_ledger.specs.LedgerReader.{ledger_at}
 use Rattle.avm_ledger.specs.LedgerRules.{IsApplicationBelow, KeepsRules, IsCountable}
-use Rattle.avm_ledger.specs.Spellings.{ledger_bytes}
+use Rattle.avm_ledger.specs.Encodings.{ledger_bytes}
 use Rattle.avm_ledger.proofs.Changes.{found_is, no_application}
 use Rattle.avm_ledger.proofs.LedgerBack.{ledger_back_alone}
-use Rattle.avm_ledger.proofs.LedgerSpelled.{ledger_spelled}
+use Rattle.avm_ledger.proofs.LedgerEncoded.{ledger_encoded}
 use Rattle.avm_ledger.proofs.LedgerKept.{ledger_kept}
 
 found_by : (first : StoredApplication) (b : Bool) (later : Option StoredApplication) (app : StoredApplication) → IsInKeyOrder first.state → (later ≡ Some app → IsInKeyOrder app.state) → cond b (Some first) later ≡ Some app
@@ -43,10 +43,10 @@ pub rules_of : (bytes : List ℕ) (r : Result Ledger (Failure LedgerFault)) → 
 rules_of bytes (Ok l) all e = (ledger_kept bytes l all e).0
 rules_of bytes (Err d) all e = tt
 
--- a ledger that is read is spelled by those very bytes
-pub spelling_of : (bytes : List ℕ) (r : Result Ledger (Failure LedgerFault)) → All (λ b. b < 256) bytes → Gives (λ l. l) r (ledger_at bytes) → IfOk r (λ l. ledger_bytes l ≡ bytes)
-spelling_of bytes (Ok l) all e = ledger_spelled bytes l all e
-spelling_of bytes (Err d) all e = tt
+-- a ledger that is read is encoded by those very bytes
+pub encoding_of : (bytes : List ℕ) (r : Result Ledger (Failure LedgerFault)) → All (λ b. b < 256) bytes → Gives (λ l. l) r (ledger_at bytes) → IfOk r (λ l. ledger_bytes l ≡ bytes)
+encoding_of bytes (Ok l) all e = ledger_encoded bytes l all e
+encoding_of bytes (Err d) all e = tt
 
 -- bytes of a countable ledger that keeps the rules are read as it, unless memory is refused
 pub only_its_ledger : (bytes : List ℕ) (r : Result Ledger (Failure LedgerFault)) (l : Ledger) → Gives (λ x. x) r (ledger_at bytes) → KeepsRules l → IsCountable l → bytes ≡ ledger_bytes l → Gives (λ x. x) r (Ok l)

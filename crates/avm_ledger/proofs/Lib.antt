@@ -1,9 +1,9 @@
 pub mod Changes
 pub mod FieldsBack
-pub mod FieldsSpelled
+pub mod FieldsEncoded
 pub mod FieldsFit
 pub mod LedgerBack
-pub mod LedgerSpelled
+pub mod LedgerEncoded
 pub mod LedgerKept
 pub mod RisingReading
 pub mod EntriesReading

@@ -1,5 +1,5 @@
 pub mod Ledgers
-pub mod Spellings
+pub mod Encodings
 pub mod FieldReader
 pub mod LedgerReader
 pub mod LedgerRules

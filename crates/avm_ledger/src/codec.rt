@@ -1,17 +1,17 @@
-//! The bytes of a ledger: one spelling each.
+//! The bytes of a ledger: one encoding each.
 
 ghost use Rattle.std.specs.Prelude.{◌≡◌, ◌++◌, Ok, IfOk, OnOk};
 ghost use Rattle.teal_value.specs.Answer.{Gives};
 ghost use Rattle.avm_ledger.specs.Ledgers.{Ledger as LedgerMaps};
 ghost use Rattle.avm_ledger.specs.LedgerReader.{ledger_at};
 ghost use Rattle.avm_ledger.specs.LedgerRules.{IsCountable, KeepsRules};
-ghost use Rattle.avm_ledger.specs.Spellings.{application_bytes, counted_bytes, ledger_bytes, ledger_digest, local_state_bytes, u32_bytes};
+ghost use Rattle.avm_ledger.specs.Encodings.{application_bytes, counted_bytes, ledger_bytes, ledger_digest, local_state_bytes, u32_bytes};
 
 use crate::application::StoredApplication;
+use crate::encoding::{put_long_count, put_schema, put_state, put_string, put_u64};
 use crate::ledger::Ledger;
 use crate::ledger_fault::LedgerError;
 use crate::ledger_reading::parts_of;
-use crate::spelling::{put_long_count, put_schema, put_state, put_string, put_u64};
 use avm_states::State;
 use sha2::{Digest, Sha256};
 use std::alloc::{AllocError, Global};
@@ -24,17 +24,17 @@ impl Ledger {
     pub fn read(alloc: Global, bytes: &[u8]) -> Result<Ledger, LedgerError>
         // The ledger that the grammar reads, or the fault that it names.
         ensures exact { Gives (λ l. l) result (ledger_at bytes.now) }
-        // What is read keeps the rules, and is spelled by those very bytes.
+        // What is read keeps the rules, and is encoded by those very bytes.
         ensures rules { IfOk result (λ l. KeepsRules l) }
-        ensures spelled { IfOk result (λ l. ledger_bytes l ≡ bytes.now) }
-        // What keeps the rules is read from its spelling, unless memory runs out.
+        ensures encoded { IfOk result (λ l. ledger_bytes l ≡ bytes.now) }
+        // What keeps the rules is read from its encoding, unless memory runs out.
         ensures only { (l : LedgerMaps) → KeepsRules l
             → IsCountable l → bytes.now ≡ ledger_bytes l → Gives (λ x. x) result (Ok l) }
     {
         ledger_of(alloc, bytes)
     }
 
-    /// The ledger's one spelling. Of a count or a length that has no room in its field, the low bytes are written; a
+    /// The ledger's one encoding. Of a count or a length that has no room in its field, the low bytes are written; a
     /// ledger that keeps the rules has none.
     pub fn canonical(&self, alloc: Global) -> Result<Vec<u8>, AllocError>
         ensures { IfOk result (λ bytes. bytes.items ≡ ledger_bytes self.now) }
@@ -46,7 +46,7 @@ impl Ledger {
         Ok(bytes)
     }
 
-    /// The SHA-256 of the ledger's spelling (FIPS 180-4).
+    /// The SHA-256 of the ledger's encoding (FIPS 180-4).
     pub fn digest(&self, alloc: Global) -> Result<[u8; 32], AllocError>
         ensures { IfOk result (λ digest. digest ≡ ledger_digest self.now) }
     {

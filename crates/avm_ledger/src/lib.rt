@@ -1,10 +1,11 @@
 //! Ledgers: applications, local states, and what a block tells its programs. What a ledger is stands in
-//! `specs/Ledgers.antt`, the rules of ledgers in `specs/LedgerRules.antt`, their bytes in `specs/Spellings.antt` and
+//! `specs/Ledgers.antt`, the rules of ledgers in `specs/LedgerRules.antt`, their bytes in `specs/Encodings.antt` and
 //! `specs/LedgerReader.antt`. The states are those of `avm_states`.
 #![tactic(auto)]
 
 mod application;
 mod codec;
+pub mod encoding;
 mod fields;
 mod header;
 mod ids_end;
@@ -16,7 +17,6 @@ pub mod reading;
 pub mod reading_laws;
 mod shared_application;
 mod sorted_map;
-pub mod spelling;
 mod state_reading;
 mod stored_program;
 

@@ -3,10 +3,10 @@
 ghost use Rattle.std.specs.Prelude.{◌≡◌, ◌∷◌, ◌++◌, [], Ok, Err};
 ghost use Rattle.avm_ledger.specs.declared.ledger_fault.LedgerFault.TheVariants.{Malformed, Truncated, Rest};
 ghost use Rattle.avm_ledger.specs.Ledgers.{empty_ledger};
-ghost use Rattle.avm_ledger.specs.Spellings.{ledger_bytes};
+ghost use Rattle.avm_ledger.specs.Encodings.{ledger_bytes};
 ghost use Rattle.avm_ledger.specs.LedgerReader.{ledger_at};
 ghost use Rattle.avm_ledger.specs.WorkedLedgers.{falling_keys, one_local_state, two_entries, two_uint_entries, up_to_state, worked_ledger, zeros};
-ghost use Rattle.avm_ledger.specs.LedgerRoundTrip.{KeepsTheRules, NoneBeginsAnother, ReadsBack, ReadsBackAlone, SpellsBack};
+ghost use Rattle.avm_ledger.specs.LedgerRoundTrip.{KeepsTheRules, NoneBeginsAnother, ReadsBack, ReadsBackAlone, EncodesBack};
 
 /// A ledger that keeps the rules is read from its bytes.
 pub fn reads_back()
@@ -14,13 +14,13 @@ pub fn reads_back()
     ensures alone { ReadsBackAlone }
 {}
 
-/// A ledger that is read keeps the rules, and has the bytes as its one spelling.
-pub fn spells_back()
-    ensures bytes { SpellsBack }
+/// A ledger that is read keeps the rules, and has the bytes as its one encoding.
+pub fn encodes_back()
+    ensures bytes { EncodesBack }
     ensures rules { KeepsTheRules }
 {}
 
-/// No spelling of a ledger begins another.
+/// No encoding of a ledger begins another.
 pub fn none_begins_another()
     ensures { NoneBeginsAnother }
 {}
@@ -30,7 +30,7 @@ pub fn none_begins_another()
 pub fn worked_ledgers()
     ensures empty { ledger_at (zeros 7 ++ 1 ∷ zeros 8) ≡ Ok empty_ledger }
     ensures read { ledger_at (up_to_state ++ two_entries ++ one_local_state) ≡ Ok worked_ledger }
-    ensures spelled { ledger_bytes worked_ledger ≡ up_to_state ++ two_entries ++ one_local_state }
+    ensures encoded { ledger_bytes worked_ledger ≡ up_to_state ++ two_entries ++ one_local_state }
     ensures nothing { ledger_at [] ≡ Err Truncated }
     ensures no_next_id { ledger_at (zeros 16) ≡ Err Malformed }
     ensures byte_behind { ledger_at (zeros 7 ++ 1 ∷ zeros 9) ≡ Err Rest }

@@ -3,7 +3,7 @@ use Rattle.std.specs.Prelude.{◌≡◌, ℕ, ◌++◌, ◌<◌, ◌≤◌, ◌�
 use Rattle.std.specs.List.{flat_map}
 use Rattle.hex.specs.Hex.{encode_lower}
 use Rattle.avm_items.specs.declared.call_data.CallData.{CallData}
-use Rattle.avm_block.specs.BlockSpelling.{block_bytes}
+use Rattle.avm_block.specs.BlockEncoding.{block_bytes}
 use Rattle.avm_block.specs.Blocks.{most_calls}
 use Rattle.avm_pool.specs.declared.pool_fault.PoolFault.{PoolFault}
 use Rattle.avm_pool.specs.declared.pool_fault.PoolFault.TheVariants as fault

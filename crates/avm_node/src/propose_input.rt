@@ -5,7 +5,7 @@ ghost use Rattle.teal_value.specs.Answer.{Gives};
 ghost use Rattle.avm_ledger.specs.declared.header.Profile.TheVariants.{Three};
 ghost use Rattle.sha2.specs.Sha256.{sha256};
 ghost use Rattle.avm_ledger.specs.LedgerReader.{ledger_at};
-ghost use Rattle.avm_ledger.specs.Spellings.{ledger_bytes};
+ghost use Rattle.avm_ledger.specs.Encodings.{ledger_bytes};
 ghost use Rattle.avm_input.specs.BlockLines.{on_ledger};
 ghost use Rattle.avm_input.specs.DigitLines.{digit_lines};
 ghost use Rattle.avm_input.specs.Lines.{lines_shown};
@@ -125,10 +125,10 @@ fn base_of(alloc: Global, bytes: &[u8]) -> BaseRead
     Ok(SharedBase::with_digest(alloc, ledger, digest)?)
 }
 
-/// The ledger that the bytes are. They are its one spelling, so their digest is the ledger's.
+/// The ledger that the bytes are. They are its one encoding, so their digest is the ledger's.
 fn ledger_of(alloc: Global, bytes: &[u8]) -> Result<Ledger, Failure<Refusal>>
     ensures exact { Gives (λ l. l) result (on_ledger (ledger_at bytes.now)) }
-    ensures spelled { IfOk result (λ l. ledger_bytes l ≡ bytes.now) }
+    ensures encoded { IfOk result (λ l. ledger_bytes l ≡ bytes.now) }
 {
     Ledger::read(alloc, bytes).map_err(|failure| failure.map(Refusal::Ledger))
 }

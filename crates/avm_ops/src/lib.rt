@@ -12,5 +12,5 @@ mod op;
 mod set;
 
 pub use avm_cpu::Flow;
-pub use op::{BoxedOp, Executed, Op, Stop, Way, flag};
+pub use op::{BoxedOp, Control, Executed, Op, Stop, flag};
 pub use set::{OpSet, Ops, PushFault};

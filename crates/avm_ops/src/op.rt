@@ -6,7 +6,7 @@ ghost use Rattle.teal_value.specs.declared.value.Value.TheVariants.{Uint};
 ghost use Rattle.teal_table.specs.Table.{code_of};
 ghost use Rattle.avm_ops.specs.Frame.{flag};
 ghost use Rattle.avm_ops.specs.declared.op.Stop.TheVariants as stop;
-ghost use Rattle.avm_ops.specs.Objects.{CarriesOut, Does, IfHeld, IfStopped, IsWay, IsReady, context_of, known_effect};
+ghost use Rattle.avm_ops.specs.Objects.{CarriesOut, Does, IfHeld, IfStopped, IsControl, IsReady, context_of, known_effect};
 
 use avm_cpu::{Cpu, Flow};
 use avm_items::{Env, Item};
@@ -72,7 +72,7 @@ pub type Executed = Result<Flow, Stop>;
 /// The way on from an instruction, in two registers. Who runs a program asks for it at each instruction; an [`Executed`]
 /// would be written to memory, and read there again.
 #[derive(Debug, Drop)]
-pub enum Way {
+pub enum Control {
     /// The program goes on to the instruction behind this one.
     Next,
     /// It goes on to the target of the branch.
@@ -87,19 +87,19 @@ pub enum Way {
     Memory,
 }
 
-impl Way {
+impl Control {
     /// The way on from what was executed.
     #[inline(always)]
-    pub fn of(alloc: Global, executed: Executed) -> Way
-        ensures { IsWay executed result }
+    pub fn of(alloc: Global, executed: Executed) -> Control
+        ensures { IsControl executed result }
     {
         match executed {
-            Ok(Flow::Next) => Way::Next,
-            Ok(Flow::Jump(_)) => Way::Jump,
-            Ok(Flow::End) => Way::End,
+            Ok(Flow::Next) => Control::Next,
+            Ok(Flow::Jump(_)) => Control::Jump,
+            Ok(Flow::End) => Control::End,
             Err(Stop::Fault(fault)) => faulted(alloc, fault),
-            Err(Stop::Need(item)) => Way::Need(item),
-            Err(Stop::Memory) => Way::Memory,
+            Err(Stop::Need(item)) => Control::Need(item),
+            Err(Stop::Memory) => Control::Memory,
         }
     }
 }
@@ -107,12 +107,12 @@ impl Way {
 /// A fault in its box. It is out of line, since it ends a program.
 #[cold]
 #[inline(never)]
-fn faulted(alloc: Global, fault: Fault) -> Way
-    ensures { IsWay (Err (stop.Fault fault)) result }
+fn faulted(alloc: Global, fault: Fault) -> Control
+    ensures { IsControl (Err (stop.Fault fault)) result }
 {
     match Box::new(alloc, fault) {
-        Ok(fault) => Way::Fault(fault),
-        Err(_refused) => Way::Memory,
+        Ok(fault) => Control::Fault(fault),
+        Err(_refused) => Control::Memory,
     }
 }
 
@@ -142,7 +142,7 @@ pub trait Op: Send + Drop {
 
     /// Carries out an instruction as [`Op::exec`] does, and answers the way on. A fault is answered as `Memory` where there is
     /// no memory for its box.
-    fn carry_out(&self, alloc: Global, instr: &Instr, cpu: &mut Cpu, env: &mut Env) -> Way
+    fn carry_out(&self, alloc: Global, instr: &Instr, cpu: &mut Cpu, env: &mut Env) -> Control
         requires opcode { instr.now.opcode ≡ opcode self.now }
         requires ready { IsReady cpu.old.place (opcode self.now) instr.now.immediates }
         ensures row { CarriesOut result cpu.new env.new
@@ -150,7 +150,7 @@ pub trait Op: Send + Drop {
         ensures writes { env.new ≡ record env.old { writes = env.new.writes } }
         ensures unchanged { IfHeld result ((cpu.new ≡ cpu.old) × (env.new ≡ env.old)) }
     {
-        Way::of(alloc, self.exec(alloc, instr, cpu, env))
+        Control::of(alloc, self.exec(alloc, instr, cpu, env))
     }
 }
 
@@ -171,7 +171,7 @@ impl Op for BoxedOp {
         self.op.exec(alloc, instr, cpu, env)
     }
 
-    fn carry_out(&self, alloc: Global, instr: &Instr, cpu: &mut Cpu, env: &mut Env) -> Way {
+    fn carry_out(&self, alloc: Global, instr: &Instr, cpu: &mut Cpu, env: &mut Env) -> Control {
         self.op.carry_out(alloc, instr, cpu, env)
     }
 }

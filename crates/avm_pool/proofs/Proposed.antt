@@ -8,7 +8,7 @@ use Rattle.avm_ledger.specs.declared.header.Header.{Header}
 use Rattle.avm_ledger.specs.Ledgers.{Ledger}
 use Rattle.avm_block.specs.declared.entry.Entry.{Entry}
 use Rattle.avm_block.specs.Blocks.{Block}
-use Rattle.avm_block.specs.BlockSpelling.{block_bytes, front_bytes}
+use Rattle.avm_block.specs.BlockEncoding.{block_bytes, front_bytes}
 use Rattle.mv_parts.specs.Journals.{Journal}
 use Rattle.mv_parts.specs.Sealing.{IsSealed}
 use Rattle.avm_pool.specs.declared.finishing.Parts.{Parts}
@@ -48,6 +48,6 @@ pub parts_of_own : (j : Journal) (base : Ledger) (header : Header) (p : Parts) �
 parts_of_own j base header p own_base own_header parts = subst (λ (b : Ledger). AreParts j b j.header p) (sym own_base) (subst (λ (h : Header). AreParts j base h p) (sym own_header) parts)
 
 -- the bytes that a front comes to are those of the block of its parts
-pub spelled_as_made : (b : Block) (base : List ℕ) (header : Header) (entries : List Entry) (after front bytes : List ℕ) → b ≡ record { base = base; header = header; entries = entries; after = after }
+pub encoded_as_made : (b : Block) (base : List ℕ) (header : Header) (entries : List Entry) (after front bytes : List ℕ) → b ≡ record { base = base; header = header; entries = entries; after = after }
     → front ≡ front_bytes base header entries → bytes ≡ front ++ after ++ sha256 (front ++ after) → bytes ≡ block_bytes b
-spelled_as_made b base header entries after front bytes made is spelled = spelled ∙ ap (λ xs. xs ++ after ++ sha256 (xs ++ after)) is ∙ ap block_bytes (sym made)
+encoded_as_made b base header entries after front bytes made is encoded = encoded ∙ ap (λ xs. xs ++ after ++ sha256 (xs ++ after)) is ∙ ap block_bytes (sym made)

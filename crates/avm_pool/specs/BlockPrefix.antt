@@ -3,7 +3,7 @@ use Rattle.std.specs.Prelude.{◌≡◌, ◌++◌, ℕ, List, length, take}
 use Rattle.std.specs.List.{flat_map}
 use Rattle.avm_ledger.specs.declared.header.Header.{Header}
 use Rattle.avm_block.specs.declared.entry.Entry.{Entry}
-use Rattle.avm_block.specs.BlockSpelling.{block_entry_bytes, front_start}
+use Rattle.avm_block.specs.BlockEncoding.{block_entry_bytes, front_start}
 use Rattle.mv_parts.specs.Journals.{Journal}
 use Rattle.mv_parts.specs.MadeEntries.{AreBlockEntries}
 

@@ -2,9 +2,9 @@
 use Rattle.std.specs.Prelude.{◌≡◌, ℕ, List}
 use Rattle.avm_ledger.specs.declared.header.Header.{Header}
 use Rattle.avm_ledger.specs.Ledgers.{Ledger}
-use Rattle.avm_ledger.specs.Spellings.{ledger_digest}
+use Rattle.avm_ledger.specs.Encodings.{ledger_digest}
 use Rattle.avm_block.specs.declared.entry.Entry.{Entry}
-use Rattle.avm_block.specs.BlockSpelling.{front_bytes}
+use Rattle.avm_block.specs.BlockEncoding.{front_bytes}
 use Rattle.mv_parts.specs.Journals.{Journal}
 use Rattle.mv_parts.specs.MadeEntries.{AreBlockEntries, IsDigestAfter}
 use Rattle.avm_pool.specs.declared.finishing.Parts.{Parts}

@@ -4,7 +4,7 @@
 
 ghost use Rattle.std.specs.Prelude.{◌≡◌, IfOk, IsTrue, length};
 ghost use Rattle.mv_parts.specs.MadeEntries.{AreBlockEntries};
-ghost use Rattle.avm_block.specs.BlockSpelling.{front_bytes};
+ghost use Rattle.avm_block.specs.BlockEncoding.{front_bytes};
 ghost use Rattle.avm_pool.specs.BlockPrefix.{Begins};
 
 use avm_block::{Entry, Front, entry_room};

@@ -1,7 +1,7 @@
 //! What a pool proposes.
 
 ghost use Rattle.std.specs.Prelude.{◌≡◌};
-ghost use Rattle.avm_block.specs.BlockSpelling.{block_bytes};
+ghost use Rattle.avm_block.specs.BlockEncoding.{block_bytes};
 
 use avm_block::Block;
 
@@ -16,5 +16,5 @@ pub struct Proposal {
     /// The numbers of all other calls: those to which memory was refused, also in the attempt after the workers had
     /// ended.
     pub left: Vec<u32>,
-    ghost spelled: { bytes.items ≡ block_bytes block },
+    ghost encoded: { bytes.items ≡ block_bytes block },
 }

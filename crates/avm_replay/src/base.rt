@@ -4,14 +4,14 @@ ghost use Rattle.std.specs.Prelude.{◌≡◌, IfOk};
 ghost use Rattle.teal_value.specs.Answer.{Gives};
 ghost use Rattle.avm_ledger.specs.LedgerReader.{ledger_at};
 ghost use Rattle.avm_ledger.specs.LedgerRules.{KeepsRules};
-ghost use Rattle.avm_ledger.specs.Spellings.{ledger_digest};
+ghost use Rattle.avm_ledger.specs.Encodings.{ledger_digest};
 
 use avm_ledger::{Ledger, LedgerError};
 use sha2::{Digest, Sha256};
 use std::alloc::{AllocError, Global};
 use std::marker::Model;
 
-/// A ledger before a block, with its digest, by which the block names it. It is spelled once at most: not at all where it
+/// A ledger before a block, with its digest, by which the block names it. It is encoded once at most: not at all where it
 /// is read.
 #[derive(Drop)]
 pub struct Base {
@@ -22,7 +22,7 @@ pub struct Base {
 impl Model for Base {
     ghost use Rattle.std.specs.Prelude.{◌≡◌};
     ghost use Rattle.avm_ledger.specs.Ledgers.{Ledger as LedgerMaps};
-    ghost use Rattle.avm_ledger.specs.Spellings.{ledger_digest};
+    ghost use Rattle.avm_ledger.specs.Encodings.{ledger_digest};
 
     ghost Value = { LedgerMaps };
 
@@ -40,7 +40,7 @@ impl Base {
         Ok(Base { ledger, digest })
     }
 
-    /// The ledger that the bytes are, with their digest, which is the ledger's since they are its one spelling.
+    /// The ledger that the bytes are, with their digest, which is the ledger's since they are its one encoding.
     ///
     /// They are read as [`Ledger::read`] does.
     pub fn read(alloc: Global, bytes: &[u8]) -> Result<Base, LedgerError>

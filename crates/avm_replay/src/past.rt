@@ -1,7 +1,7 @@
 //! Ledgers of the past.
 
 ghost use Rattle.std.specs.Prelude.{◌≡◌, IfErr, IfOk};
-ghost use Rattle.avm_ledger.specs.Spellings.{ledger_digest};
+ghost use Rattle.avm_ledger.specs.Encodings.{ledger_digest};
 ghost use Rattle.avm_call.specs.Replay.{replayed};
 ghost use Rattle.avm_block.specs.Blocks.{RisesAbove, calls_in};
 ghost use Rattle.avm_replay.specs.FaultNames.{state_fault_name};

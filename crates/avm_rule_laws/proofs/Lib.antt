@@ -6,7 +6,7 @@ pub mod ProgramValues
 pub mod SoundPuts
 pub mod KeptRules
 pub mod SoundReading
-pub mod DistinctSpellings
+pub mod DistinctEncodings
 pub mod CheckedCalls
 pub mod BoundedCalls
 pub mod AnyOrder

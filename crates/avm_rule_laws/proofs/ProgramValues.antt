@@ -12,7 +12,7 @@ use Rattle.teal_code.specs.declared.decode.CodeFault.{CodeFault}
 use Rattle.teal_code.specs.declared.instr.Immediates.{Immediates}
 use Rattle.teal_code.specs.declared.instr.Immediates.TheVariants as is
 use Rattle.teal_code.specs.declared.instr.Instr.{Instr}
-use Rattle.teal_code.specs.Grammar.{IsString, Each, AreImmediates, Spells}
+use Rattle.teal_code.specs.Grammar.{IsString, Each, AreImmediates, Encodes}
 use Rattle.teal_code.specs.Reader.{Read, instr_at}
 use Rattle.teal_code.specs.Varuint.{IsVaruint}
 use Rattle.teal_code.proofs.Reading.{instr_sound}
@@ -57,14 +57,14 @@ immediates_fit s (is.Bytes t) text all h = absurd h
 immediates_fit s (is.ByteBlock ss) text all h = absurd h
 immediates_fit s i text all h = tt
 
-spelled_fits : (version : Version) (text : List ℕ) (i : Instr) → AreBytes text → Spells version text i → FitsImmediates i.immediates
-spelled_fits version [] i all h = absurd h
-spelled_fits version (code ∷ text) i all h = immediates_fit (row_of i.opcode).immediates i.immediates text (All-tail (λ b. b < 256) code text all) h.1
+encoded_fits : (version : Version) (text : List ℕ) (i : Instr) → AreBytes text → Encodes version text i → FitsImmediates i.immediates
+encoded_fits version [] i all h = absurd h
+encoded_fits version (code ∷ text) i all h = immediates_fit (row_of i.opcode).immediates i.immediates text (All-tail (λ b. b < 256) code text all) h.1
 
 first_fits : (version : Version) (bytes : List ℕ) (i : Instr) (rest : List ℕ) → AreBytes bytes → instr_at version bytes ≡ Ok (i, rest) → FitsImmediates i.immediates
 first_fits version bytes i rest all e =
     let t = instr_sound version bytes i rest e in
-    spelled_fits version t.front i (front_all (λ b. b < 256) t.front rest (subst AreBytes t.parts all)) t.spelled
+    encoded_fits version t.front i (front_all (λ b. b < 256) t.front rest (subst AreBytes t.parts all)) t.encoded
 
 instruction_is : {i j : Instr} {n m : ℕ} → ◌≡◌ {A = Result (Instr × ℕ) CodeFault} (Ok (i, n)) (Ok (j, m)) → i ≡ j
 instruction_is {i} {j} {n} {m} e = let both : (i, n) ≡ (j, m) = cc in ap (λ (p : Instr × ℕ). p.0) both
@@ -97,14 +97,14 @@ immediates_short s (is.Bytes t) text few h = absurd h
 immediates_short s (is.ByteBlock ss) text few h = absurd h
 immediates_short s i text few h = tt
 
-spelled_short : (version : Version) (text : List ℕ) (i : Instr) → IsShort text → Spells version text i → AreShortImmediates i.immediates
-spelled_short version [] i few h = absurd h
-spelled_short version (code ∷ text) i few h = immediates_short (row_of i.opcode).immediates i.immediates text (omega (arith, few)) h.1
+encoded_short : (version : Version) (text : List ℕ) (i : Instr) → IsShort text → Encodes version text i → AreShortImmediates i.immediates
+encoded_short version [] i few h = absurd h
+encoded_short version (code ∷ text) i few h = immediates_short (row_of i.opcode).immediates i.immediates text (omega (arith, few)) h.1
 
 first_short : (version : Version) (bytes : List ℕ) (i : Instr) (rest : List ℕ) → IsShort bytes → instr_at version bytes ≡ Ok (i, rest) → AreShortImmediates i.immediates
 first_short version bytes i rest few e =
     let t = instr_sound version bytes i rest e in
-    spelled_short version t.front i (omega (arith, few, ap length t.parts ∙ length-append t.front rest)) t.spelled
+    encoded_short version t.front i (omega (arith, few, ap length t.parts ∙ length-append t.front rest)) t.encoded
 
 short_by : (program : List ℕ) (place : ℕ) (i : Instr) (next : ℕ) → IsShort program → (r : Read Instr) → instr_at (version_in_front program).0 (drop place program) ≡ r
     → ◌≡◌ {A = Result (Instr × ℕ) CodeFault} (r >>= λ x. Ok (x.0, length program - length x.1)) (Ok (i, next)) → AreShortImmediates i.immediates

@@ -11,20 +11,20 @@ use Rattle.avm_states.specs.Entries.{Entries}
 use Rattle.avm_ledger.specs.Ledgers.{Ledger, empty_ledger}
 use Rattle.avm_ledger.specs.LedgerReader.{ledger_at}
 use Rattle.avm_ledger.specs.LedgerRules.{IsStateValue, IsStateEntry, IsApplicationBelow, IsLocalStateBelow}
-use Rattle.avm_ledger.specs.Spellings.{u8_bytes, u16_bytes, u32_bytes, u64_bytes, short_string_bytes, string_bytes, counted_bytes, value_bytes, entry_bytes, state_bytes, schema_bytes, application_bytes, local_state_bytes}
-use Rattle.avm_ledger.proofs.LedgerSpelled.{ledger_spelled}
+use Rattle.avm_ledger.specs.Encodings.{u8_bytes, u16_bytes, u32_bytes, u64_bytes, short_string_bytes, string_bytes, counted_bytes, value_bytes, entry_bytes, state_bytes, schema_bytes, application_bytes, local_state_bytes}
+use Rattle.avm_ledger.proofs.LedgerEncoded.{ledger_encoded}
 use Rattle.avm_ledger.proofs.LedgerKept.{ledger_kept}
 use Rattle.avm_items.specs.declared.call_data.CallData.{CallData}
 use Rattle.avm_items.specs.CallFields.{completion_number}
 use Rattle.avm_call_codec.specs.CallReader.{call_front}
 use Rattle.avm_call_codec.specs.CallRoundTrip.{HasFields}
-use Rattle.avm_call_codec.specs.CallSpelling.{address_bytes, terms_bytes, target_bytes, lists_bytes, programs_bytes, call_bytes}
-use Rattle.avm_call_codec.proofs.CallSpelled.{front_spells}
+use Rattle.avm_call_codec.specs.CallEncoding.{address_bytes, terms_bytes, target_bytes, lists_bytes, programs_bytes, call_bytes}
+use Rattle.avm_call_codec.proofs.CallEncoded.{front_encodes}
 use Rattle.avm_items.proofs.RulesKept.{empty_keeps}
 use Rattle.avm_rule_laws.specs.Rules.{AreBytes, IsMachineValue, AreMachineValues, IsStoredOfBytes, IsCallOfBytes, IsSound}
 use Rattle.avm_rule_laws.proofs.ProgramValues.{front_all, rest_all}
 
--- ---- parts of spellings
+-- ---- parts of encodings
 
 abbrev joined : List ℕ → List (List ℕ) → List ℕ
 joined front [] = front
@@ -40,14 +40,14 @@ parts front (p ∷ ps) all =
 string_part : (s : List ℕ) → AreBytes (string_bytes s) → AreBytes s
 string_part s all = rest_all (λ b. b < 256) (u16_bytes (length s)) s all
 
-each_part : {A : Type 0} (spelling : A → List ℕ) (xs : List A) → AreBytes (flat_map spelling xs) → All (λ x. AreBytes (spelling x)) xs
-each_part spelling [] all = All-nil (λ x. AreBytes (spelling x))
-each_part spelling (x ∷ xs) all =
-    All-cons (λ y. AreBytes (spelling y)) x xs (front_all (λ b. b < 256) (spelling x) (flat_map spelling xs) all) (each_part spelling xs (rest_all (λ b. b < 256) (spelling x) (flat_map spelling xs) all))
+each_part : {A : Type 0} (encoding : A → List ℕ) (xs : List A) → AreBytes (flat_map encoding xs) → All (λ x. AreBytes (encoding x)) xs
+each_part encoding [] all = All-nil (λ x. AreBytes (encoding x))
+each_part encoding (x ∷ xs) all =
+    All-cons (λ y. AreBytes (encoding y)) x xs (front_all (λ b. b < 256) (encoding x) (flat_map encoding xs) all) (each_part encoding xs (rest_all (λ b. b < 256) (encoding x) (flat_map encoding xs) all))
 
--- where a list spelled behind its count is bytes, the spelling of each element is
-pub counted_parts : {A : Type 0} (count : ℕ → List ℕ) (spelling : A → List ℕ) (xs : List A) → AreBytes (counted_bytes count spelling xs) → All (λ x. AreBytes (spelling x)) xs
-counted_parts count spelling xs all = each_part spelling xs (rest_all (λ b. b < 256) (count (length xs)) (flat_map spelling xs) all)
+-- where a list encoded behind its count is bytes, the encoding of each element is
+pub counted_parts : {A : Type 0} (count : ℕ → List ℕ) (encoding : A → List ℕ) (xs : List A) → AreBytes (counted_bytes count encoding xs) → All (λ x. AreBytes (encoding x)) xs
+counted_parts count encoding xs all = each_part encoding xs (rest_all (λ b. b < 256) (count (length xs)) (flat_map encoding xs) all)
 
 together : {A : Type 0} (P Q R : A → Type 0) (xs : List A) → ((x : A) → P x → Q x → R x) → All P xs → All Q xs → All R xs
 together P Q R [] f p q = All-nil R
@@ -83,7 +83,7 @@ local_part next apps e is all =
 pub ledger_sound : (bytes : List ℕ) (l : Ledger) → AreBytes bytes → ledger_at bytes ≡ Ok l → IsSound l
 ledger_sound bytes l all e =
     let rules = (ledger_kept bytes l all e).0 in
-    let p = parts (u64_bytes l.next_id) (counted_bytes u32_bytes application_bytes l.applications ∷ counted_bytes u32_bytes local_state_bytes l.local_states ∷ []) (subst AreBytes (sym (ledger_spelled bytes l all e)) all) in
+    let p = parts (u64_bytes l.next_id) (counted_bytes u32_bytes application_bytes l.applications ∷ counted_bytes u32_bytes local_state_bytes l.local_states ∷ []) (subst AreBytes (sym (ledger_encoded bytes l all e)) all) in
     record {
       rules = rules;
       of_bytes = record {
@@ -98,8 +98,8 @@ empty_sound = record { rules = empty_keeps; of_bytes = record { applications = A
 -- ---- calls
 
 -- a call whose bytes are bytes
-pub spelled_call : (c : CallData) → HasFields c → AreBytes (call_bytes c) → IsCallOfBytes c
-spelled_call c fields whole =
+pub encoded_call : (c : CallData) → HasFields c → AreBytes (call_bytes c) → IsCallOfBytes c
+encoded_call c fields whole =
     let groups = parts (terms_bytes c) (target_bytes c ∷ lists_bytes c ∷ programs_bytes c ∷ []) whole in
     let terms = parts c.sender.0 (u64_bytes c.fee ∷ u64_bytes c.first_valid ∷ u64_bytes c.last_valid ∷ string_bytes c.note ∷ []) groups.0 in
     let target = parts c.lease (c.rekey_to.0 ∷ u64_bytes c.application ∷ u8_bytes (completion_number c.completion) ∷ []) groups.1.0 in
@@ -120,5 +120,5 @@ spelled_call c fields whole =
 -- a call read from bytes has fields within their sizes, and its byte strings are of bytes
 pub call_of_bytes : (bytes : List ℕ) (c : CallData) (rest : List ℕ) → AreBytes bytes → call_front bytes ≡ Ok (c, rest) → IsCallOfBytes c
 call_of_bytes bytes c rest all e =
-    let spelled = front_spells bytes c rest all e in
-    spelled_call c spelled.1 (front_all (λ b. b < 256) (call_bytes c) rest (subst AreBytes (sym spelled.0) all))
+    let encoded = front_encodes bytes c rest all e in
+    encoded_call c encoded.1 (front_all (λ b. b < 256) (call_bytes c) rest (subst AreBytes (sym encoded.0) all))

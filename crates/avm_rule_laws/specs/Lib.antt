@@ -1,5 +1,5 @@
 pub mod Rules
 pub mod Bounds
-pub mod Spellings
+pub mod Encodings
 pub mod PutOrder
 pub mod ReadBlocks

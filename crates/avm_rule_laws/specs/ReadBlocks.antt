@@ -1,7 +1,7 @@
 -- What blocks lead to that are read from bytes. The statement of the law.
 use Rattle.std.specs.Prelude.{◌≡◌, ℕ, List, take, Ok}
 use Rattle.avm_ledger.specs.Ledgers.{Ledger}
-use Rattle.avm_ledger.specs.Spellings.{ledger_bytes}
+use Rattle.avm_ledger.specs.Encodings.{ledger_bytes}
 use Rattle.avm_ledger.specs.LedgerReader.{ledger_at}
 use Rattle.avm_ledger.specs.LedgerRules.{IsCountable}
 use Rattle.avm_call.specs.Replay.{replayed}

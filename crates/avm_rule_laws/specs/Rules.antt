@@ -8,7 +8,7 @@ use Rattle.avm_ledger.specs.declared.header.Header.{Header}
 use Rattle.avm_states.specs.Entries.{Entries}
 use Rattle.avm_states.specs.Schemas.{most_global_entries, most_local_entries}
 use Rattle.avm_ledger.specs.Ledgers.{Ledger, empty_ledger}
-use Rattle.avm_ledger.specs.Spellings.{ledger_bytes}
+use Rattle.avm_ledger.specs.Encodings.{ledger_bytes}
 use Rattle.avm_ledger.specs.LedgerReader.{ledger_at}
 use Rattle.avm_ledger.specs.LedgerRules.{IsCountable, KeepsRules}
 use Rattle.avm_items.specs.declared.call_data.Completion.TheVariants as completion

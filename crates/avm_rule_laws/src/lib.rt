@@ -4,6 +4,6 @@
 //! calls rests on `avm_laws` alone, so nothing of a run stands on these.
 #![tactic(auto)]
 
+pub mod encoding_laws;
 pub mod ledger_laws;
 pub mod rule_laws;
-pub mod spelling_laws;

@@ -9,7 +9,7 @@ mod context;
 mod ending;
 mod finished;
 mod full_ops;
-mod known;
+mod item_values;
 pub mod laws;
 mod on_ledger;
 mod phase;

@@ -10,12 +10,12 @@ ghost use Rattle.avm_ops.specs.Objects.{Executes, context_of};
 ghost use Rattle.avm_state_ops.specs.Parts.{Answers};
 
 use crate::fields::{ZERO_ADDRESS, bytes_value};
-use crate::known::known;
+use crate::item_reads::known;
 use avm_cpu::{Cpu, Flow};
 use avm_items::{Env, Item, ItemValue};
 use avm_ledger::Profile;
 use avm_ops::immediates::field_of;
-use avm_ops::{Executed, Op, Stop, Way};
+use avm_ops::{Control, Executed, Op, Stop};
 use std::alloc::Global;
 use teal_code::Instr;
 use teal_table::{GlobalField, Opcode, global_field};
@@ -94,7 +94,7 @@ impl Op for GlobalOp {
         self.execute(alloc, instr, cpu, env)
     }
 
-    fn carry_out(&self, alloc: Global, instr: &Instr, cpu: &mut Cpu, env: &mut Env) -> Way {
-        Way::of(alloc, self.execute(alloc, instr, cpu, env))
+    fn carry_out(&self, alloc: Global, instr: &Instr, cpu: &mut Cpu, env: &mut Env) -> Control {
+        Control::of(alloc, self.execute(alloc, instr, cpu, env))
     }
 }

@@ -6,7 +6,7 @@
 
 mod fields;
 mod global;
-mod known;
+mod item_reads;
 mod reads;
 mod txn;
 mod writes;

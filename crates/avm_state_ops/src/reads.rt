@@ -11,10 +11,10 @@ ghost use Rattle.avm_state_ops.specs.Families.{read_opcode};
 ghost use Rattle.avm_state_ops.specs.Parts.{known_row};
 
 use crate::fields::account;
-use crate::known::{application, global_entry, local_state};
+use crate::item_reads::{application, global_entry, local_state};
 use avm_cpu::{Cpu, Flow};
 use avm_items::Env;
-use avm_ops::{Executed, Op, Stop, Way, flag};
+use avm_ops::{Control, Executed, Op, Stop, flag};
 use std::alloc::{AllocError, Global};
 use teal_code::Instr;
 use teal_table::Opcode;
@@ -192,7 +192,7 @@ impl Op for StateRead {
         self.execute(alloc, instr, cpu, env)
     }
 
-    fn carry_out(&self, alloc: Global, instr: &Instr, cpu: &mut Cpu, env: &mut Env) -> Way {
-        Way::of(alloc, self.execute(alloc, instr, cpu, env))
+    fn carry_out(&self, alloc: Global, instr: &Instr, cpu: &mut Cpu, env: &mut Env) -> Control {
+        Control::of(alloc, self.execute(alloc, instr, cpu, env))
     }
 }

@@ -12,11 +12,11 @@ ghost use Rattle.avm_state_ops.specs.Families.{write_opcode};
 ghost use Rattle.avm_state_ops.specs.Parts.{Answers, after_delete, after_put, known_row, schema_test};
 
 use crate::fields::account;
-use crate::known::{application, global_counts, global_entry, local_state};
+use crate::item_reads::{application, global_counts, global_entry, local_state};
 use avm_cpu::{Cpu, Flow};
 use avm_items::{Env, Item, ItemValue};
 use avm_ledger::Application;
-use avm_ops::{Executed, Op, Stop, Way};
+use avm_ops::{Control, Executed, Op, Stop};
 use avm_states::{EntryCounts, MAX_VALUE_BYTES, Schema, State};
 use std::alloc::Global;
 use teal_code::Instr;
@@ -281,7 +281,7 @@ impl Op for StateWrite {
         self.execute(alloc, instr, cpu, env)
     }
 
-    fn carry_out(&self, alloc: Global, instr: &Instr, cpu: &mut Cpu, env: &mut Env) -> Way {
-        Way::of(alloc, self.execute(alloc, instr, cpu, env))
+    fn carry_out(&self, alloc: Global, instr: &Instr, cpu: &mut Cpu, env: &mut Env) -> Control {
+        Control::of(alloc, self.execute(alloc, instr, cpu, env))
     }
 }

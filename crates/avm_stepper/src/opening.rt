@@ -2,7 +2,7 @@
 
 ghost use Rattle.std.specs.Prelude.{◌≡◌, ◌-◌, IfErr, IfOk};
 ghost use Rattle.std.specs.Option.{option_copied};
-ghost use Rattle.avm_ledger.specs.Spellings.{ledger_digest};
+ghost use Rattle.avm_ledger.specs.Encodings.{ledger_digest};
 ghost use Rattle.avm_replay.specs.Past.{ledger_until};
 ghost use Rattle.avm_stepper.specs.Opening.{IsBaseRefusal, entry_numbered};
 ghost use Rattle.avm_stepper.specs.Starting.{Begins, BeginsOver, IsAtTests, StartsOver};

@@ -2,9 +2,9 @@
 use Rattle.std.specs.Prelude.{ℕ, List, ◌++◌, codes}
 use Rattle.std.specs.List.{flat_map}
 use Rattle.hex.specs.Hex.{encode_lower}
-use Rattle.avm_ledger.specs.Spellings.{header_bytes, ledger_bytes}
+use Rattle.avm_ledger.specs.Encodings.{header_bytes, ledger_bytes}
 use Rattle.avm_items.specs.declared.call_data.CallData.{CallData}
-use Rattle.avm_call_codec.specs.CallSpelling.{call_bytes}
+use Rattle.avm_call_codec.specs.CallEncoding.{call_bytes}
 use Rattle.json_documents.specs.Documents.{Document}
 
 abbrev pub line : List ℕ → List ℕ

@@ -6,8 +6,8 @@ use Rattle.base64.specs.GeneralPurpose.{decode_of}
 use Rattle.teal_value.specs.Answer.{◌>>=◌}
 use Rattle.teal_value.specs.AddressText.{address_of}
 use Rattle.teal_value.specs.declared.address.Address.{Address}
-use Rattle.teal_value.specs.declared.address_spelling.AddressFault.{AddressFault}
-use Rattle.teal_value.specs.declared.address_spelling.AddressFault.TheVariants as address_fault
+use Rattle.teal_value.specs.declared.address_encoding.AddressFault.{AddressFault}
+use Rattle.teal_value.specs.declared.address_encoding.AddressFault.TheVariants as address_fault
 use Rattle.teal_text.specs.Numbers.{number_of}
 use Rattle.json.specs.Json.{Json}
 use Rattle.json.specs.Find.{as_bool, as_number, as_str}

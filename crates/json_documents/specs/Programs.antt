@@ -25,7 +25,7 @@ abbrev pub on_source : Result (List ℕ) AsmFault → Result (List ℕ) Fault
 on_source (Ok code) = Ok code
 on_source (Err f) = Err (here (what.Source f))
 
--- the program that a source text spells
+-- the program that a source text means
 abbrev pub program_of_source : List ℕ → Result (List ℕ) Fault
 program_of_source text = on_source (assembled text) >>= checked_code
 

@@ -35,7 +35,7 @@ impl SharedCall {
         })
     }
 
-    /// The fields.
+    /// What the call says.
     pub fn fields(&self) -> &CallData
         ensures { result.now ≡ self.now }
     {

@@ -3,12 +3,12 @@
 ghost use Rattle.std.specs.Prelude.{◌≡◌, ◌++◌, IfOk, OnOk};
 ghost use Rattle.std.specs.Option.{option_copied};
 ghost use Rattle.avm_ledger.specs.Ledgers.{application_at, empty_ledger, local_state_at, with_application, with_local_state};
-ghost use Rattle.avm_ledger.specs.Spellings.{application_bytes, counted_bytes, ledger_bytes, local_state_bytes, u32_bytes};
+ghost use Rattle.avm_ledger.specs.Encodings.{application_bytes, counted_bytes, ledger_bytes, local_state_bytes, u32_bytes};
 ghost use Rattle.avm_items.specs.SameValues.{is_same_application, is_same_schema};
 ghost use Rattle.json_documents.specs.Drafts.{is_same_stored, raised};
 
 use crate::ids::Id;
-use avm_ledger::spelling::{put_long_count, put_schema, put_state, put_string, put_u64};
+use avm_ledger::encoding::{put_long_count, put_schema, put_state, put_string, put_u64};
 use avm_states::{Schema, State};
 use std::alloc::{AllocError, Global};
 use std::collections::BTreeMap;
@@ -60,7 +60,7 @@ impl ApplicationDraft {
             && is_same_schema(self.local_schema, other.local_schema)
     }
 
-    /// Appends the spelling of the application of an id.
+    /// Appends the encoding of the application of an id.
     fn put(&self, bytes: &mut Vec<u8>, id: u64) -> Result<(), AllocError>
         ensures { OnOk result
             (bytes.new.items ≡ bytes.old.items ++ application_bytes (id, self.now)) }
@@ -153,7 +153,7 @@ impl LedgerDraft {
         Ok(ledger)
     }
 
-    /// The ledger's one spelling.
+    /// The ledger's one encoding.
     pub fn canonical(&self, alloc: Global) -> Result<Vec<u8>, AllocError>
         ensures { IfOk result (λ bytes. bytes.items ≡ ledger_bytes self.now) }
     {

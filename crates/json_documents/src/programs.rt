@@ -43,7 +43,7 @@ fn checked_code(alloc: Global, code: ByteString) -> Result<ByteString, FieldErro
     }
 }
 
-/// The program that a source text spells.
+/// The program that a source text means.
 pub(crate) fn program_of_source(alloc: Global, text: &str) -> Result<ByteString, FieldError>
     ensures { Gives (λ c. c) result (program_of_source text.now) }
 {

@@ -1,6 +1,6 @@
 -- What is kept by a value that is read: of a member, and of an array's elements one after another.
 use Rattle.std.proofs.Common.{◌≡◌, ℕ, ◌+◌, Bool, true, false, cond, Option, Some, None, Result, Ok, Err, List, refl, subst}
-pub use Rattle.avm_ledger.proofs.FieldsSpelled.{from, same_value}
+pub use Rattle.avm_ledger.proofs.FieldsEncoded.{from, same_value}
 use Rattle.json.specs.Json.{Json, Items, no_items, item}
 use Rattle.json.specs.Find.{get, is_null, as_array}
 use Rattle.json_documents.specs.declared.document_fault.DocumentFault.{DocumentFault}

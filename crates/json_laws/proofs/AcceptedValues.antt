@@ -13,8 +13,8 @@ use Rattle.std.proofs.lemmas.List.Elements.{All-nil, All-from_get_or, All-take}
 use Rattle.teal_value.specs.AddressText.{checksum, address_before_checksum, address_in, address_of}
 use Rattle.teal_value.specs.Base32.{IsBytes, base32_decoded}
 use Rattle.teal_value.specs.declared.address.Address.{Address}
-use Rattle.teal_value.specs.declared.address_spelling.AddressFault.{AddressFault}
-use Rattle.teal_value.specs.declared.address_spelling.AddressFault.TheVariants as address_fault
+use Rattle.teal_value.specs.declared.address_encoding.AddressFault.{AddressFault}
+use Rattle.teal_value.specs.declared.address_encoding.AddressFault.TheVariants as address_fault
 use Rattle.teal_value.specs.declared.base32.BadText.{BadText}
 use Rattle.teal_value.specs.declared.value.Value.{Value}
 use Rattle.teal_value.specs.declared.value.Value.TheVariants.{Uint, Bytes}
@@ -101,7 +101,7 @@ address_whole_of : (s : List ℕ) (who : Address) → address_of s ≡ Ok who �
 unfolding address_of
 address_whole_of s who e = address_whole_in (length s) (base32_decoded s) who (λ bytes is. (reads_back s bytes is).0) e
 
--- an address that a text spells is of bytes
+-- an address that a text encodes is of bytes
 pub address_of_bytes : (s : List ℕ) (who : Address) → address_of s ≡ Ok who → AreBytes who.0
 address_of_bytes s who e = (address_whole_of s who e).of_bytes
 

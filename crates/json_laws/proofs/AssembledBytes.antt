@@ -1,4 +1,4 @@
--- The program that a text spells is of bytes, where the text is.
+-- The program that a text means is of bytes, where the text is.
 use Rattle.std.proofs.Common.{◌≡◌, ℕ, suc, ◌+◌, ◌-◌, ◌<◌, ◌≤◌, Bool, true, false, not, cond, eqb, ltb, List, [], ◌∷◌, ◌++◌, length, take, drop, map, Option, Some, None, Result, Ok, Err, refl, ap, subst, arith, inl, inr, ◌⊎◌}
 use Rattle.std.specs.Prelude.{All, ◌||◌, nat_eq, nat_le}
 use Rattle.std.specs.Int.{to_be_bytes, w16}
@@ -14,7 +14,7 @@ use Rattle.teal_table.specs.declared.shape.Version.{Version}
 use Rattle.teal_table.specs.declared.shape.Version.TheVariants.{Two, Three}
 use Rattle.teal_table.specs.Table.{code_of}
 use Rattle.teal_code.specs.declared.instr.Immediates.TheVariants as is
-use Rattle.teal_code.specs.Spelling.{immediates_spelling}
+use Rattle.teal_code.specs.Encoding.{immediates_encoding}
 use Rattle.teal_text.specs.declared.token.Token.{Token}
 use Rattle.teal_text.specs.Lines.{LineTokens, lines_of}
 use Rattle.teal_source.specs.declared.command.Command.{Command}
@@ -25,11 +25,11 @@ use Rattle.teal_source.specs.Operands.{Word}
 use Rattle.teal_source.specs.Commands.{command}
 use Rattle.teal_source.specs.Statements.{Words, behind, distinct, gathered_string, gathered_strings, gathered_uint, gathered_uints, gathers_too_many, has_label, is_pragma, label_name, labelled, mixes_blocks, on_line, on_text, optional_command, pragma_version, statement, statements, with_new, word_at, words_of_line, words_of_lines, words_on}
 use Rattle.teal_asm.specs.Meaning.{Meaning, Meant, Straight, Branch, all_instructions, branch, byte_block_in_front, gathered_blocks, instruction, instructions, label_number, meaning, meaning_of_lines, optional_instruction, read_byte_constant, read_uint_constant, uint_block_in_front, commands_in}
-use Rattle.teal_asm.specs.Program.{assembled, instruction_spelling, program, spelling, total_size, version_byte}
+use Rattle.teal_asm.specs.Program.{assembled, instruction_encoding, program, encoding, total_size, version_byte}
 use Rattle.avm_rule_laws.specs.Rules.{AreBytes}
 use Rattle.json_laws.proofs.AcceptedSteps.{from, same_value}
 use Rattle.json_laws.proofs.AssembledCommands.{AreFit, IsFitCommand, code_is_byte, command_fits, immediates_are}
-use Rattle.json_laws.proofs.SpelledBytes.{number}
+use Rattle.json_laws.proofs.EncodedBytes.{number}
 
 -- ---- the words of a text
 
@@ -322,14 +322,14 @@ all_instructions_fit ss is are e =
 
 -- ---- programs
 
-one_spelled : (n : ℕ) (m : Meant) (rest : List Meant) → IsFitMeant m → AreBytes (instruction_spelling n m rest)
-one_spelled n (Straight o m) rest h = All-cons (λ x. x < 256) (code_of o) (immediates_spelling m) (code_is_byte o) (immediates_are m h)
-one_spelled n (Branch o target) rest h = All-cons (λ x. x < 256) (code_of o) (to_be_bytes w16 (total_size (take (target - (n + 1)) rest))) (code_is_byte o) (number w16 (total_size (take (target - (n + 1)) rest)))
+one_encoded : (n : ℕ) (m : Meant) (rest : List Meant) → IsFitMeant m → AreBytes (instruction_encoding n m rest)
+one_encoded n (Straight o m) rest h = All-cons (λ x. x < 256) (code_of o) (immediates_encoding m) (code_is_byte o) (immediates_are m h)
+one_encoded n (Branch o target) rest h = All-cons (λ x. x < 256) (code_of o) (to_be_bytes w16 (total_size (take (target - (n + 1)) rest))) (code_is_byte o) (number w16 (total_size (take (target - (n + 1)) rest)))
 
-all_spelled : (n : ℕ) (ms : List Meant) → All IsFitMeant ms → AreBytes (spelling n ms)
-unfolding spelling
-all_spelled n [] all = All-nil (λ x. x < 256)
-all_spelled n (m ∷ ms) all = All-append (λ x. x < 256) (instruction_spelling n m ms) (spelling (n + 1) ms) (one_spelled n m ms (All-head IsFitMeant m ms all)) (all_spelled (n + 1) ms (All-tail IsFitMeant m ms all))
+all_encoded : (n : ℕ) (ms : List Meant) → All IsFitMeant ms → AreBytes (encoding n ms)
+unfolding encoding
+all_encoded n [] all = All-nil (λ x. x < 256)
+all_encoded n (m ∷ ms) all = All-append (λ x. x < 256) (instruction_encoding n m ms) (encoding (n + 1) ms) (one_encoded n m ms (All-head IsFitMeant m ms all)) (all_encoded (n + 1) ms (All-tail IsFitMeant m ms all))
 
 version_small : (v : Version) → version_byte v < 256
 version_small Two = omega arith
@@ -337,7 +337,7 @@ version_small Three = omega arith
 
 program_is : (m : Meaning) → All IsFitMeant m.instructions → AreBytes (program m)
 unfolding program
-program_is m all = All-cons (λ x. x < 256) (version_byte m.version) (spelling 0 m.instructions) (version_small m.version) (all_spelled 0 m.instructions all)
+program_is m all = All-cons (λ x. x < 256) (version_byte m.version) (encoding 0 m.instructions) (version_small m.version) (all_encoded 0 m.instructions all)
 
 lines_mean : (ls : List Words) (m : Meaning) → All AreWords ls → meaning_of_lines ls ≡ Ok m → All IsFitMeant m.instructions
 lines_mean [] m all e = absurd cc

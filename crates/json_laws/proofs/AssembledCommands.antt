@@ -20,7 +20,7 @@ use Rattle.teal_table.specs.Table.{code_of, has, only_in, opcode_at, opcode_name
 use Rattle.teal_table.proofs.Codes.{opcode_at-code_of}
 use Rattle.teal_code.specs.declared.instr.Immediates.{Immediates}
 use Rattle.teal_code.specs.declared.instr.Immediates.TheVariants as is
-use Rattle.teal_code.specs.Spelling.{immediates_spelling, prefixed}
+use Rattle.teal_code.specs.Encoding.{immediates_encoding, prefixed}
 use Rattle.teal_code.specs.Varuint.{varuint, varuint_in}
 use Rattle.teal_text.specs.Numbers.{number_of}
 use Rattle.teal_source.specs.declared.command.Command.{Command}
@@ -32,7 +32,7 @@ use Rattle.teal_source.specs.Commands.{Asked, array, array_command, command, eac
 use Rattle.avm_rule_laws.specs.Rules.{AreBytes}
 use Rattle.json_laws.proofs.AcceptedSteps.{from, passed, same_value}
 use Rattle.json_laws.proofs.LiteralBytes.{IsLiteralOfBytes, address_value_are, literal_value_are, literals_are}
-use Rattle.json_laws.proofs.SpelledBytes.{number}
+use Rattle.json_laws.proofs.EncodedBytes.{number}
 
 -- ---- numbers of opcodes and fields are bytes
 
@@ -125,8 +125,8 @@ one a h = All-cons (λ x. x < 256) a [] h (All-nil (λ x. x < 256))
 two : (a b : ℕ) → a < 256 → b < 256 → AreBytes (a ∷ b ∷ [])
 two a b h k = All-cons (λ x. x < 256) a (b ∷ []) h (one b k)
 
--- immediates of bytes are spelled in bytes
-pub immediates_are : (m : Immediates) → AreFit m → AreBytes (immediates_spelling m)
+-- immediates of bytes are encoded in bytes
+pub immediates_are : (m : Immediates) → AreFit m → AreBytes (immediates_encoding m)
 immediates_are is.Nothing h = All-nil (λ x. x < 256)
 immediates_are (is.Index i) h = one i h
 immediates_are (is.Field f) h = one f h

@@ -76,8 +76,8 @@ assembled_ok : (r : Result (List ℕ) AsmFault) (code : List ℕ) → on_source 
 assembled_ok (Ok t) code e = let same : t ≡ code = same_value t code e in cc
 assembled_ok (Err f) code e = absurd cc
 
-spelled : (s code : List ℕ) → AreBytes s → program_of_source s ≡ Ok code → IsProgramOfBytes code
-spelled s code all e =
+encoded : (s code : List ℕ) → AreBytes s → program_of_source s ≡ Ok code → IsProgramOfBytes code
+encoded s code all e =
     from (on_source (assembled s)) _ code e (λ t et e1.
     let p = is_checked_code t code e1 in
     subst IsProgramOfBytes p.1 (p.0, assembled_is_bytes s t all (assembled_ok (assembled s) t et)))
@@ -87,4 +87,4 @@ accepted_documents_are_of_bytes j x h e =
     all_of_bytes IsProgramOfBytes AreBytes x (λ code p. p.1) (λ code c. c)
     (document_is inherited IsProgramOfBytes AreBytes (record { as_bytes = λ k code q is. given k code is }) (record { of_bytes = λ s all. all; of_programs = λ code p. p.1 }) j x h
     (λ sources is. optional_gives inherited (AreSources IsProgramOfBytes) (codes "sources") (each (source (has_placeholders j)) no_sources) no_sources (none_are IsProgramOfBytes)
-    (sources_kept inherited IsProgramOfBytes (has_placeholders j) (λ k s code q ks is. spelled s code (string_of k s q (there (as_str k) NotText s ks)) is)) j sources h is) e)
+    (sources_kept inherited IsProgramOfBytes (has_placeholders j) (λ k s code q ks is. encoded s code (string_of k s q (there (as_str k) NotText s ks)) is)) j sources h is) e)

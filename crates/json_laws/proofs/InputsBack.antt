@@ -13,14 +13,14 @@ use Rattle.avm_ledger.specs.Ledgers.{Ledger}
 use Rattle.avm_ledger.specs.LedgerReader.{ledger_at}
 use Rattle.avm_ledger.specs.LedgerRules.{KeepsRules}
 use Rattle.avm_ledger.proofs.LedgerKept.{ledger_kept}
-use Rattle.avm_ledger.proofs.LedgerSpelled.{ledger_spelled}
+use Rattle.avm_ledger.proofs.LedgerEncoded.{ledger_encoded}
 use Rattle.avm_block.specs.declared.block_fault.BlockFault.{BlockFault}
 use Rattle.avm_block.specs.AcceptedCalls.{is_accepted}
 use Rattle.avm_block.specs.BlockReader.{block_at}
 use Rattle.avm_block.specs.BlockRoundTrip.{IsBlock}
-use Rattle.avm_block.specs.BlockSpelling.{body_bytes}
+use Rattle.avm_block.specs.BlockEncoding.{body_bytes}
 use Rattle.avm_block.specs.Blocks.{Block, calls_of}
-use Rattle.avm_block.proofs.BlockSpelled.{block_spelled}
+use Rattle.avm_block.proofs.BlockEncoded.{block_encoded}
 use Rattle.avm_input.specs.BlockLines.{first_ledger, needed_bytes, on_block, on_ledger}
 use Rattle.avm_input.specs.DigitLines.{DigitLine, digit_lines, first_bytes, line_bytes, on_digits, with_no_line}
 use Rattle.avm_input.specs.Replies.{input_refusal, succeeded}
@@ -40,8 +40,8 @@ use Rattle.json_laws.proofs.BlocksBack.{shown_block_back}
 use Rattle.json_laws.proofs.LedgersBack.{shown_ledger_back}
 use Rattle.json_laws.proofs.ShownBlockTexts.{block_shown}
 use Rattle.json_laws.proofs.ShownLedgerTexts.{ledger_shown}
-use Rattle.json_laws.proofs.SpelledCalls.{block_parts}
-use Rattle.json_laws.proofs.SpelledParts.{front_part, ledger_parts}
+use Rattle.json_laws.proofs.EncodedCalls.{block_parts}
+use Rattle.json_laws.proofs.EncodedParts.{front_part, ledger_parts}
 use Rattle.json_laws.proofs.TextsBack.{IsTextOf, text_back}
 
 -- ---- what was read
@@ -90,7 +90,7 @@ ledger_is_read (line ∷ more) x e =
     let all : AreBytes first.0.0 = subst AreBytes same (line_of_bytes line bytes.0 bytes.1) in
     let ledger = bound (on_ledger (ledger_at first.0.0)) _ x first.2 in
     let read : ledger_at first.0.0 ≡ Ok x.0 = ledger_read (ledger_at first.0.0) ledger.0 ledger.1 ∙ ap (λ p. Ok p.0) (ok_same (ledger.0, first.0.1) x ledger.2) in
-    record { rules = (ledger_kept first.0.0 x.0 all read).0; of_bytes = ledger_parts x.0 (subst AreBytes (sym (ledger_spelled first.0.0 x.0 all read)) all) }
+    record { rules = (ledger_kept first.0.0 x.0 all read).0; of_bytes = ledger_parts x.0 (subst AreBytes (sym (ledger_encoded first.0.0 x.0 all read)) all) }
 
 -- the same, where there is a block
 IsReadIfThere : Option Block → Type 0
@@ -103,8 +103,8 @@ no_line_left (line ∷ more) b c e = absurd cc
 
 one_block_is_read : (bytes : List ℕ) (b : Block) → AreBytes bytes → block_at is_accepted bytes ≡ Ok b → IsReadBlock b
 one_block_is_read bytes b all e =
-    let spelled = block_spelled is_accepted bytes b all e in
-    record { rules = spelled.1; of_bytes = block_parts b spelled.1 (front_part (body_bytes b) (sha256 (body_bytes b)) (subst AreBytes (sym spelled.0) all)) }
+    let encoded = block_encoded is_accepted bytes b all e in
+    record { rules = encoded.1; of_bytes = block_parts b encoded.1 (front_part (body_bytes b) (sha256 (body_bytes b)) (subst AreBytes (sym encoded.0) all)) }
 
 block_is_read : (bytes : Option (List ℕ)) (rest : List DigitLine) (b : Option Block) → ((s : List ℕ) → bytes ≡ Some s → AreBytes s) → block_behind bytes rest ≡ Ok b → IsReadIfThere b
 unfolding IsReadIfThere

@@ -3,14 +3,14 @@ pub mod MembersBack
 pub mod OrderBack
 pub mod ByAccountBack
 pub mod PlainBack
-pub mod SpelledParts
+pub mod EncodedParts
 pub mod StatesBack
 pub mod ApplicationsBack
 pub mod LocalStatesBack
 pub mod LedgersBack
 pub mod TokensBack
 pub mod CallPlaces
-pub mod SpelledCalls
+pub mod EncodedCalls
 pub mod CheckedSchemas
 pub mod CallsBack
 pub mod BlocksBack
@@ -27,7 +27,7 @@ pub mod AcceptedSources
 pub mod AcceptedLedgers
 pub mod AcceptedCalls
 pub mod AcceptedDocuments
-pub mod SpelledBytes
+pub mod EncodedBytes
 pub mod LiteralBytes
 pub mod AssembledCommands
 pub mod AssembledBytes

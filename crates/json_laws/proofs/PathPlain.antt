@@ -9,8 +9,8 @@ use Rattle.std.proofs.lemmas.Bool.{cond-false}
 use Rattle.teal_value.specs.Answer.{◌>>=◌}
 use Rattle.teal_value.specs.AddressText.{address_of}
 use Rattle.teal_value.specs.declared.address.Address.{Address}
-use Rattle.teal_value.specs.declared.address_spelling.AddressFault.{AddressFault}
-use Rattle.teal_value.specs.declared.address_spelling.AddressFault.TheVariants as address_fault
+use Rattle.teal_value.specs.declared.address_encoding.AddressFault.{AddressFault}
+use Rattle.teal_value.specs.declared.address_encoding.AddressFault.TheVariants as address_fault
 use Rattle.json.specs.Json.{Json}
 use Rattle.json.specs.Find.{as_bool, as_number, as_str}
 use Rattle.json_documents.specs.declared.document_fault.DocumentFault.{DocumentFault}

@@ -9,10 +9,10 @@ use Rattle.teal_value.specs.Answer.{◌>>=◌}
 use Rattle.avm_ledger.specs.declared.header.Header.{Header}
 use Rattle.avm_ledger.specs.declared.header.Profile.TheVariants as profile
 use Rattle.avm_ledger.specs.LedgerRules.{IsCountable}
-use Rattle.avm_ledger.specs.Spellings.{header_bytes, ledger_bytes}
+use Rattle.avm_ledger.specs.Encodings.{header_bytes, ledger_bytes}
 use Rattle.avm_ledger.proofs.FieldsBack.{then}
 use Rattle.avm_items.specs.declared.call_data.CallData.{CallData}
-use Rattle.avm_call_codec.specs.CallSpelling.{call_bytes}
+use Rattle.avm_call_codec.specs.CallEncoding.{call_bytes}
 use Rattle.avm_block.specs.BlockReader.{header_at}
 use Rattle.avm_block.specs.BlockRoundTrip.{IsHeader}
 use Rattle.avm_input.specs.Answers.{input_limit}
@@ -36,19 +36,19 @@ use Rattle.json_laws.proofs.AcceptedDocuments.{accepted_documents_keep_the_rules
 use Rattle.json_laws.proofs.AcceptedTexts.{by_value}
 use Rattle.json_laws.proofs.CountableDocuments.{is_countable}
 use Rattle.json_laws.proofs.DocumentsOfBytes.{accepted_documents_are_of_bytes}
-use Rattle.json_laws.proofs.ProposedLines.{call_back_checked, call_not_empty, header_back, header_not_empty, ledger_first, ledger_not_empty, line_first, needed_first, spelled_bytes, spelled_line}
-use Rattle.json_laws.proofs.SpelledBytes.{call_is_bytes, header_is_bytes, ledger_is_bytes}
+use Rattle.json_laws.proofs.ProposedLines.{call_back_checked, call_not_empty, header_back, header_not_empty, ledger_first, ledger_not_empty, line_first, needed_first, encoded_bytes, encoded_line}
+use Rattle.json_laws.proofs.EncodedBytes.{call_is_bytes, header_is_bytes, ledger_is_bytes}
 use Rattle.json_laws.proofs.TextsOfBytes.{value_of_bytes}
 use Rattle.json_laws.proofs.Weights.{text_weight}
 
-header_first : (n : ℕ) (h : Header) (more : List DigitLine) → IsHeader h → h.profile ≡ profile.Three → first_header (spelled_line n (header_bytes h) ∷ more) ≡ Ok (h, more)
+header_first : (n : ℕ) (h : Header) (more : List DigitLine) → IsHeader h → h.profile ≡ profile.Three → first_header (encoded_line n (header_bytes h) ∷ more) ≡ Ok (h, more)
 header_first n h more is three =
-    then (needed_bytes (spelled_line n (header_bytes h) ∷ more)) (header_bytes h, more) (λ first. header_of first.0 >>= λ k. Ok (k, first.1)) (Ok (h, more)) (needed_first n (header_bytes h) more (header_is_bytes h))
+    then (needed_bytes (encoded_line n (header_bytes h) ∷ more)) (header_bytes h, more) (λ first. header_of first.0 >>= λ k. Ok (k, first.1)) (Ok (h, more)) (needed_first n (header_bytes h) more (header_is_bytes h))
     (ap (λ r. only_header r >>= λ k. Ok (k, more)) (ap (λ p. header_at p (header_bytes h)) (sym three) ∙ header_back h is))
 
-call_read : (number n : ℕ) (c : CallData) → IsAllowedCall c → IsCallOfBytes c → call_on_line number (spelled_line n (call_bytes c)) ≡ Ok c
+call_read : (number n : ℕ) (c : CallData) → IsAllowedCall c → IsCallOfBytes c → call_on_line number (encoded_line n (call_bytes c)) ≡ Ok c
 call_read number n c is of_bytes =
-    then (line_bytes (spelled_line n (call_bytes c))) (call_bytes c) (λ bytes. on_call number (checked_call bytes)) (Ok c) (spelled_bytes n (call_bytes c) (call_is_bytes c of_bytes)) (ap (on_call number) (call_back_checked c is))
+    then (line_bytes (encoded_line n (call_bytes c))) (call_bytes c) (λ bytes. on_call number (checked_call bytes)) (Ok c) (encoded_bytes n (call_bytes c) (call_is_bytes c of_bytes)) (ap (on_call number) (call_back_checked c is))
 
 calls_read : (number before : ℕ) (calls : List CallData) → All IsAllowedCall calls → All IsCallOfBytes calls → calls_on_lines number (lines_after before (lines (flat_map call_line calls))) ≡ Ok calls
 calls_read number before [] are of_bytes = refl
@@ -57,21 +57,21 @@ calls_read number before (c ∷ cs) are of_bytes =
     let bytes = All-head IsCallOfBytes c cs of_bytes in
     let more = lines_after (before + 1) (lines (flat_map call_line cs)) in
     ap (calls_on_lines number) (line_first before (call_bytes c) (flat_map call_line cs) (call_is_bytes c bytes) (call_not_empty c is))
-    ∙ then (call_on_line number (spelled_line (before + 1) (call_bytes c))) c (λ call. calls_on_lines (number + 1) more >>= λ calls. Ok (call ∷ calls)) (Ok (c ∷ cs)) (call_read number (before + 1) c is bytes)
+    ∙ then (call_on_line number (encoded_line (before + 1) (call_bytes c))) c (λ call. calls_on_lines (number + 1) more >>= λ calls. Ok (call ∷ calls)) (Ok (c ∷ cs)) (call_read number (before + 1) c is bytes)
     (then (calls_on_lines (number + 1) more) cs (λ calls. Ok (c ∷ calls)) (Ok (c ∷ cs)) (calls_read (number + 1) (before + 1) cs (All-tail IsAllowedCall c cs are) (All-tail IsCallOfBytes c cs of_bytes)) refl)
 
-the_lines : (x : Document) → IsDocumentOfBytes x → digit_lines (lines_text x) ≡ spelled_line 1 (ledger_bytes x.ledger) ∷ spelled_line 2 (header_bytes x.header) ∷ lines_after 2 (lines (flat_map call_line x.calls))
+the_lines : (x : Document) → IsDocumentOfBytes x → digit_lines (lines_text x) ≡ encoded_line 1 (ledger_bytes x.ledger) ∷ encoded_line 2 (header_bytes x.header) ∷ lines_after 2 (lines (flat_map call_line x.calls))
 the_lines x of_bytes =
     ap (λ t. lines_after 0 (lines t)) (append_assoc (line (ledger_bytes x.ledger)) (line (header_bytes x.header)) (flat_map call_line x.calls))
     ∙ line_first 0 (ledger_bytes x.ledger) (line (header_bytes x.header) ++ flat_map call_line x.calls) (ledger_is_bytes x.ledger of_bytes.ledger) (ledger_not_empty x.ledger)
-    ∙ ap (λ ls. spelled_line 1 (ledger_bytes x.ledger) ∷ ls) (line_first 1 (header_bytes x.header) (flat_map call_line x.calls) (header_is_bytes x.header) (header_not_empty x.header))
+    ∙ ap (λ ls. encoded_line 1 (ledger_bytes x.ledger) ∷ ls) (line_first 1 (header_bytes x.header) (flat_map call_line x.calls) (header_is_bytes x.header) (header_not_empty x.header))
 
 is_proposed : (x : Document) → KeepsAllRules x → IsDocumentOfBytes x → IsCountable x.ledger → IsProposed x
 is_proposed x keeps of_bytes countable =
     let calls = lines_after 2 (lines (flat_map call_line x.calls)) in
-    let header = spelled_line 2 (header_bytes x.header) ∷ calls in
+    let header = encoded_line 2 (header_bytes x.header) ∷ calls in
     ap propose_input (the_lines x of_bytes)
-    ∙ then (first_ledger (spelled_line 1 (ledger_bytes x.ledger) ∷ header)) (x.ledger, header)
+    ∙ then (first_ledger (encoded_line 1 (ledger_bytes x.ledger) ∷ header)) (x.ledger, header)
     (λ l. first_header l.1 >>= λ h. calls_on_lines 1 h.1 >>= λ cs. Ok (record { base = l.0; header = h.0; calls = cs })) (Ok (record { base = x.ledger; header = x.header; calls = x.calls }))
     (ledger_first 1 x.ledger header keeps.ledger countable (ledger_is_bytes x.ledger of_bytes.ledger))
     (then (first_header header) (x.header, calls) (λ h. calls_on_lines 1 h.1 >>= λ cs. Ok (record { base = x.ledger; header = h.0; calls = cs })) (Ok (record { base = x.ledger; header = x.header; calls = x.calls }))

@@ -1,4 +1,4 @@
--- The lines of a document are read as the ledger, the header and the calls that they spell.
+-- The lines of a document are read as the ledger, the header and the calls that they encode.
 use Rattle.std.proofs.Common.{◌≡◌, ℕ, ◌+◌, ◌<◌, List, [], ◌∷◌, ◌++◌, length, Ok, refl, sym, ap, ◌∙◌, append_assoc, append-nil, length-append, arith}
 use Rattle.std.specs.Str.Lines.{lines}
 use Rattle.hex.specs.Hex.{encode_lower}
@@ -7,11 +7,11 @@ use Rattle.avm_ledger.specs.declared.header.Header.{Header}
 use Rattle.avm_ledger.specs.LedgerReader.{ledger_at}
 use Rattle.avm_ledger.specs.LedgerRules.{IsCountable, KeepsRules}
 use Rattle.avm_ledger.specs.Ledgers.{Ledger}
-use Rattle.avm_ledger.specs.Spellings.{header_bytes, ledger_bytes, string_bytes, u64_bytes}
+use Rattle.avm_ledger.specs.Encodings.{header_bytes, ledger_bytes, string_bytes, u64_bytes}
 use Rattle.avm_ledger.proofs.FieldsBack.{then, u64_back}
 use Rattle.avm_ledger.proofs.LedgerBack.{ledger_back_alone}
 use Rattle.avm_items.specs.declared.call_data.CallData.{CallData}
-use Rattle.avm_call_codec.specs.CallSpelling.{call_bytes, lists_bytes, programs_bytes, target_bytes}
+use Rattle.avm_call_codec.specs.CallEncoding.{call_bytes, lists_bytes, programs_bytes, target_bytes}
 use Rattle.avm_call_codec.proofs.CallBack.{call_back_alone}
 use Rattle.avm_call.specs.CallRules.{call_fault}
 use Rattle.avm_block.specs.declared.block_fault.BlockFault.TheVariants.{Truncated}
@@ -27,31 +27,31 @@ use Rattle.json_laws.proofs.DigitTexts.{digits_back, digits_first, not_blank}
 
 -- ---- a line
 
--- the line with a number that some bytes are spelled in
-abbrev pub spelled_line : ℕ → List ℕ → DigitLine
-spelled_line n bytes = record { number = n; digits = encode_lower bytes }
+-- the line with a number that some bytes are encoded in
+abbrev pub encoded_line : ℕ → List ℕ → DigitLine
+encoded_line n bytes = record { number = n; digits = encode_lower bytes }
 
--- a line that spells some bytes comes first, and those after it have the next numbers
-pub line_first : (before : ℕ) (bytes rest : List ℕ) → AreBytes bytes → 0 < length bytes → lines_after before (lines (line bytes ++ rest)) ≡ spelled_line (before + 1) bytes ∷ lines_after (before + 1) (lines rest)
+-- a line that encodes some bytes comes first, and those after it have the next numbers
+pub line_first : (before : ℕ) (bytes rest : List ℕ) → AreBytes bytes → 0 < length bytes → lines_after before (lines (line bytes ++ rest)) ≡ encoded_line (before + 1) bytes ∷ lines_after (before + 1) (lines rest)
 line_first before bytes rest all some =
     ap (λ t. lines_after before (lines t)) (append_assoc (encode_lower bytes) (10 ∷ []) rest)
     ∙ ap (lines_after before) (digits_first bytes rest all)
     ∙ rw (not_blank bytes all some) refl
 
 -- the line is read as its bytes
-pub spelled_bytes : (n : ℕ) (bytes : List ℕ) → AreBytes bytes → line_bytes (spelled_line n bytes) ≡ Ok bytes
-spelled_bytes n bytes all = ap (on_digits n) (digits_back bytes all)
+pub encoded_bytes : (n : ℕ) (bytes : List ℕ) → AreBytes bytes → line_bytes (encoded_line n bytes) ≡ Ok bytes
+encoded_bytes n bytes all = ap (on_digits n) (digits_back bytes all)
 
 -- where a line is needed, the first is taken and the others are left
-pub needed_first : (n : ℕ) (bytes : List ℕ) (more : List DigitLine) → AreBytes bytes → needed_bytes (spelled_line n bytes ∷ more) ≡ Ok (bytes, more)
-needed_first n bytes more all = then (line_bytes (spelled_line n bytes)) bytes (λ b. Ok (b, more)) (Ok (bytes, more)) (spelled_bytes n bytes all) refl
+pub needed_first : (n : ℕ) (bytes : List ℕ) (more : List DigitLine) → AreBytes bytes → needed_bytes (encoded_line n bytes ∷ more) ≡ Ok (bytes, more)
+needed_first n bytes more all = then (line_bytes (encoded_line n bytes)) bytes (λ b. Ok (b, more)) (Ok (bytes, more)) (encoded_bytes n bytes all) refl
 
 -- ---- ledgers
 
--- a ledger spelled in bytes that keeps the rules and is countable is read from the first line
-pub ledger_first : (n : ℕ) (l : Ledger) (more : List DigitLine) → KeepsRules l → IsCountable l → AreBytes (ledger_bytes l) → first_ledger (spelled_line n (ledger_bytes l) ∷ more) ≡ Ok (l, more)
+-- a ledger encoded in bytes that keeps the rules and is countable is read from the first line
+pub ledger_first : (n : ℕ) (l : Ledger) (more : List DigitLine) → KeepsRules l → IsCountable l → AreBytes (ledger_bytes l) → first_ledger (encoded_line n (ledger_bytes l) ∷ more) ≡ Ok (l, more)
 ledger_first n l more keeps countable all =
-    then (needed_bytes (spelled_line n (ledger_bytes l) ∷ more)) (ledger_bytes l, more) (λ first. on_ledger (ledger_at first.0) >>= λ k. Ok (k, first.1)) (Ok (l, more)) (needed_first n (ledger_bytes l) more all)
+    then (needed_bytes (encoded_line n (ledger_bytes l) ∷ more)) (ledger_bytes l, more) (λ first. on_ledger (ledger_at first.0) >>= λ k. Ok (k, first.1)) (Ok (l, more)) (needed_first n (ledger_bytes l) more all)
     (ap (λ r. on_ledger r >>= λ k. Ok (k, more)) (ledger_back_alone l keeps countable))
 
 -- ---- headers
@@ -81,7 +81,7 @@ header_back h is = ap (header_at h.profile) (sym (append-nil (header_bytes h))) 
 pub call_back_checked : (c : CallData) → IsAllowedCall c → checked_call (call_bytes c) ≡ Ok c
 call_back_checked c is = ap (λ r. on_bytes r >>= λ fields. unless_broken fields (call_fault fields)) (call_back_alone c is.fields) ∙ ap (unless_broken c) is.rules
 
--- ---- no spelling is empty
+-- ---- no encoding is empty
 
 more_left : (a b : List ℕ) → 0 < length a → 0 < length (a ++ b)
 more_left a b h = omega (arith, length-append a b)

@@ -8,7 +8,7 @@ use Rattle.base64.specs.GeneralPurpose.{decode_of}
 use Rattle.teal_value.specs.Answer.{◌>>=◌}
 use Rattle.teal_value.specs.AddressText.{address_of}
 use Rattle.teal_value.specs.Keys.{most_key_bytes}
-use Rattle.teal_value.specs.declared.address_spelling.AddressFault.TheVariants as address_fault
+use Rattle.teal_value.specs.declared.address_encoding.AddressFault.TheVariants as address_fault
 use Rattle.teal_value.specs.declared.address.Address.{Address}
 use Rattle.teal_check.specs.declared.fault.CheckFault.{CheckFault}
 use Rattle.teal_check.specs.WellFormed.{checked}
@@ -174,8 +174,8 @@ Before one start (at_index i ∷ above) j x = (js : Items) × (value_at above j 
 -- ---- what is wrong with the value there, in the document j
 
 -- a source text whose program breaks this rule
-abbrev pub SpellsRefused : CheckFault → List ℕ → Type 0
-SpellsRefused f s = (code : List ℕ) × (assembled s ≡ Ok code) × (checked code ≡ Err f)
+abbrev pub EncodesRefused : CheckFault → List ℕ → Type 0
+EncodesRefused f s = (code : List ℕ) × (assembled s ≡ Ok code) × (checked code ≡ Err f)
 
 -- a number that is refused as the next id, or as an id below the end of the document's ids
 abbrev pub IsRefusedId : Json → List Step → Json → Type 0
@@ -276,7 +276,7 @@ IsRefusedCall j w path v = ⊥
 abbrev pub HasRefusedProgram : Json → CheckFault → List Step → Json → Type 0
 HasRefusedProgram j f path v =
     ((Ends (codes "approval-program") path ⊎ Ends (codes "clear-state-program") path) × IsBase64 v (λ code. checked code ≡ Err f))
-    ⊎ ((Ends (codes "source") path × IsText v (SpellsRefused f)) ⊎ IsRefusedCall j (what.Program f) path v)
+    ⊎ ((Ends (codes "source") path × IsText v (EncodesRefused f)) ⊎ IsRefusedCall j (what.Program f) path v)
 
 -- what a fault of a document says of the value to which its path leads
 abbrev pub IsWrong : Json → DocumentFault → List Step → Json → Type 0

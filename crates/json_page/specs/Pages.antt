@@ -5,7 +5,7 @@ use Rattle.base64.specs.GeneralPurpose.{IsBytes, encode_of}
 use Rattle.json.specs.Json.{Json, null}
 use Rattle.teal_value.specs.declared.failure.Failure.TheVariants as failure
 use Rattle.avm_ledger.specs.Ledgers.{Ledger}
-use Rattle.avm_ledger.specs.Spellings.{ledger_digest}
+use Rattle.avm_ledger.specs.Encodings.{ledger_digest}
 use Rattle.avm_call.specs.declared.outcome.Outcome.{Outcome}
 use Rattle.avm_call.specs.Replay.{outcomes, replayed}
 use Rattle.avm_block.specs.Blocks.{Block, calls_of}

@@ -14,15 +14,15 @@ abbrev pub alphabet : List ℕ
 alphabet = codes "ABCDEFGHIJKLMNOPQRSTUVWXYZabcdefghijklmnopqrstuvwxyz0123456789+/="
 
 -- characters of the alphabet alone, which are decoded to these bytes
-pub record Spells (symbols bytes : List ℕ) : Type 0 where
+pub record Encodes (symbols bytes : List ℕ) : Type 0 where
   pub alone : All (λ c. Contains alphabet c) symbols
   pub decodes : decode_of standard symbols ≡ Ok bytes
 
 abbrev pub Base64ReadsBack : Type 0
-Base64ReadsBack = (bytes : List ℕ) → IsBytes bytes → Spells (encode_of standard bytes) bytes
+Base64ReadsBack = (bytes : List ℕ) → IsBytes bytes → Encodes (encode_of standard bytes) bytes
 
--- between the fixed texts of a page stands what spells the text of its document
+-- between the fixed texts of a page stands what encodes the text of its document
 abbrev pub PagesReadBack : Type 0
 PagesReadBack =
     (traces : Traces) (base : Ledger) (b : Block) (page : List ℕ) → (is : IsPage traces base b page)
-    → (symbols : List ℕ) × (page ≡ BEGINNING.now ++ (symbols ++ END.now)) × Spells symbols (document_text (page_document base b (number_of traces) is.verdict is.trace))
+    → (symbols : List ℕ) × (page ≡ BEGINNING.now ++ (symbols ++ END.now)) × Encodes symbols (document_text (page_document base b (number_of traces) is.verdict is.trace))

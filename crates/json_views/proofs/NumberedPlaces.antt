@@ -2,7 +2,7 @@
 use Rattle.std.proofs.Common.{◌≡◌, ℕ, suc, ◌<◌, ◌≤◌, true, false, List, [], ◌∷◌, length, Option, Some, None, refl, arith}
 use Rattle.std.specs.Prelude.{◌==◌, option_map}
 use Rattle.std.proofs.lemmas.List.{length-map}
-use Rattle.teal_check.specs.declared.program.Placed.{Placed}
+use Rattle.teal_check.specs.declared.program.PlacedInstr.{PlacedInstr}
 use Rattle.teal_check.specs.WellFormed.{first_index, places}
 use Rattle.json_views.specs.MachineStates.{number_at, number_or}
 
@@ -20,7 +20,7 @@ index_within x (y ∷ ys) n e = elim (x == y) as (λ b. (x == y) ≡ b → n < l
   | false ↦ λ other. index_more (first_index x ys) n (length ys) (λ k at. index_within x ys k at) (rw other at e)
 ] refl
 
-number_within : (placed : List Placed) (place n : ℕ) → first_index place (places placed) ≡ Some n → n < length placed
+number_within : (placed : List PlacedInstr) (place n : ℕ) → first_index place (places placed) ≡ Some n → n < length placed
 number_within placed place n e = omega (arith, index_within place (places placed) n e, length-map {B = ℕ} placed)
 
 number_or_within : (o : Option ℕ) (end : ℕ) → ((n : ℕ) → o ≡ Some n → n < end) → number_or end o ≤ end
@@ -28,5 +28,5 @@ number_or_within None end below = omega arith
 number_or_within (Some n) end below = omega (arith, below n refl)
 
 -- the number of an instruction is at most the number of instructions of the program
-pub number_at_within : (placed : List Placed) (place : ℕ) → number_at placed place ≤ length placed
+pub number_at_within : (placed : List PlacedInstr) (place : ℕ) → number_at placed place ≤ length placed
 number_at_within placed place = number_or_within (first_index place (places placed)) (length placed) (λ n. number_within placed place n)

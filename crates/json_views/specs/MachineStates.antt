@@ -4,7 +4,7 @@ use Rattle.json.specs.Json.{Json}
 use Rattle.teal_value.specs.declared.value.Value.{Value}
 use Rattle.teal_value.specs.declared.value.Value.TheVariants.{Uint}
 use Rattle.teal_value.specs.FaultNames.{fault_name}
-use Rattle.teal_check.specs.declared.program.Placed.{Placed}
+use Rattle.teal_check.specs.declared.program.PlacedInstr.{PlacedInstr}
 use Rattle.teal_check.specs.WellFormed.{WellFormed, first_index, places}
 use Rattle.teal_dis.specs.Listing.{line_number}
 use Rattle.avm_call.specs.Views.{NextStep, Runs, Faults, AtEnd}
@@ -19,11 +19,11 @@ number_or end None = end
 number_or end (Some n) = n
 
 -- the number of the instruction at a place; at the end, how many there are
-abbrev pub number_at : List Placed → ℕ → ℕ
+abbrev pub number_at : List PlacedInstr → ℕ → ℕ
 number_at placed place = number_or (length placed) (first_index place (places placed))
 
 -- the line of the listing on which the instruction at a place stands, counted from 0; at the end, how many lines there are
-abbrev pub line_at : List Placed → ℕ → ℕ
+abbrev pub line_at : List PlacedInstr → ℕ → ℕ
 line_at placed place = line_number placed (number_at placed place)
 
 -- ---- the scratch space

@@ -6,10 +6,10 @@ use Rattle.avm_ledger.specs.declared.header.Header.{Header}
 use Rattle.avm_ledger.specs.declared.header.Profile.{Profile}
 use Rattle.avm_ledger.specs.declared.header.Profile.TheVariants as profile
 use Rattle.avm_ledger.specs.Ledgers.{Ledger}
-use Rattle.avm_ledger.specs.Spellings.{ledger_digest}
+use Rattle.avm_ledger.specs.Encodings.{ledger_digest}
 use Rattle.avm_block.specs.declared.entry.Entry.{Entry}
 use Rattle.avm_block.specs.Blocks.{Block}
-use Rattle.avm_block.specs.BlockSpelling.{body_bytes}
+use Rattle.avm_block.specs.BlockEncoding.{body_bytes}
 use Rattle.avm_input.specs.Outcomes.{outcome_text}
 use Rattle.json_views.specs.Documents.{Member, array_of, digits, object_of, text, uint}
 use Rattle.json_views.specs.ShownCalls.{shown_call}

@@ -2,7 +2,7 @@
 use Rattle.std.specs.Prelude.{[], ◌∷◌, codes, map}
 use Rattle.json.specs.Json.{Json}
 use Rattle.avm_ledger.specs.Ledgers.{Ledger}
-use Rattle.avm_ledger.specs.Spellings.{ledger_digest}
+use Rattle.avm_ledger.specs.Encodings.{ledger_digest}
 use Rattle.json_views.specs.Documents.{array_of, digits, object_of, uint}
 use Rattle.json_views.specs.Applications.{shown_application}
 use Rattle.json_views.specs.ByAccount.{shown_by_account}

@@ -5,7 +5,7 @@ ghost use Rattle.json.specs.Tree.{json_tokens};
 ghost use Rattle.teal_value.specs.Answer.{Gives};
 ghost use Rattle.avm_block.specs.AcceptedCalls.{is_accepted};
 ghost use Rattle.avm_block.specs.BlockReader.{block_at};
-ghost use Rattle.avm_block.specs.BlockSpelling.{block_bytes};
+ghost use Rattle.avm_block.specs.BlockEncoding.{block_bytes};
 ghost use Rattle.json_views.specs.Writing.{Adds};
 ghost use Rattle.json_views.specs.Documents.{array_of, member_tokens, uint};
 ghost use Rattle.json_views.specs.ShownBlocks.{block_digest, header_members, profile_number, shown_block, shown_block_entry, shown_digests};

@@ -2,7 +2,7 @@
 
 ghost use Rattle.std.specs.Prelude.{◌≡◌, IfErr, IfOk, List, OnOk, Some, map, string_bytes};
 ghost use Rattle.json.specs.Token.{Token};
-ghost use Rattle.avm_ledger.specs.Spellings.{ledger_digest};
+ghost use Rattle.avm_ledger.specs.Encodings.{ledger_digest};
 ghost use Rattle.avm_stepper.specs.Opening.{IsOpened};
 ghost use Rattle.json_views.specs.CallTraces.{AddsDocument, AddsTraces, FindsRefusal, FindsText, IsDocumentFailure, IsEntryFailure, IsTextFailure, IsTextWithin, IsTracesFailure, array_tokens, response_tokens};
 ghost use Rattle.json_views.specs.StateRuns.{AddsTrace, IsStartOver, IsTraceFailure};

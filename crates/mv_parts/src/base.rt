@@ -2,7 +2,7 @@
 
 ghost use Rattle.std.specs.Prelude.{◌≡◌, IfOk};
 ghost use Rattle.std.specs.Arc.{arc_value};
-ghost use Rattle.avm_ledger.specs.Spellings.{ledger_digest};
+ghost use Rattle.avm_ledger.specs.Encodings.{ledger_digest};
 
 use avm_ledger::Ledger;
 use std::alloc::{AllocError, Global};
@@ -20,7 +20,7 @@ impl Model for SharedBase {
     ghost use Rattle.std.specs.Prelude.{◌≡◌};
     ghost use Rattle.std.specs.Arc.{arc_value};
     ghost use Rattle.avm_ledger.specs.Ledgers.{Ledger as LedgerMaps};
-    ghost use Rattle.avm_ledger.specs.Spellings.{ledger_digest};
+    ghost use Rattle.avm_ledger.specs.Encodings.{ledger_digest};
 
     ghost Value = { LedgerMaps };
 

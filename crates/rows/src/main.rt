@@ -8,7 +8,7 @@
 //! - `case NAME` prints the name of what follows;
 //! - the rows of `ledgers`, which make calls on a ledger and read and write bytes;
 //! - the rows of `blocks`, which make blocks of calls, and step through calls;
-//! - the rows of `texts`, which spell bytes as texts and read them;
+//! - the rows of `texts`, which encode bytes as texts and read them;
 //! - `stores` begins the rows of `script`, events of stores and journals, which all that follow are.
 //! Others, as `# TEXT`, say nothing.
 #![tactic(auto)]

@@ -1,4 +1,4 @@
-//! Bytes spelled as texts, and read from them, by these rows:
+//! Bytes encoded as texts, and read from them, by these rows:
 //! - `base32 TEXT` and `nobody` tell texts of bytes and of the zero address;
 //! - `base32_bytes TEXT` and `address TEXT` tell the bytes of a text in base32 and of an address, in digits behind `0x`;
 //! - `literal TOKEN` and `literal_of ENCODING TEXT` tell the bytes of a byte literal of one token and of two;

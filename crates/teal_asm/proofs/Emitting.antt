@@ -8,7 +8,7 @@ use Rattle.teal_code.specs.Limits.{most_program_bytes}
 use Rattle.teal_asm.specs.declared.emit.Instruction.{Instruction}
 use Rattle.teal_source.specs.declared.fault.AsmFaultKind.TheVariants as kind
 use Rattle.teal_asm.specs.Meaning.{Meant, Straight, Branch}
-use Rattle.teal_asm.specs.Program.{size, total_size, instruction_spelling, spelling, short_program}
+use Rattle.teal_asm.specs.Program.{size, total_size, instruction_encoding, encoding, short_program}
 use Rattle.teal_asm.specs.Instructions.{meant, all_meant, ArePlaces}
 
 total-append : (xs ys : List Meant) → total_size (xs ++ ys) ≡ total_size xs + total_size ys
@@ -144,44 +144,44 @@ branch_offset is places n t p lt =
 
 -- what is written, and the instructions that are left, are all that is to be written
 pub record WritesOn (code : List ℕ) (number : ℕ) (rest : List Meant) (all : List ℕ) : Type 0 where
-  pub same : code ++ spelling number rest ≡ all
+  pub same : code ++ encoding number rest ≡ all
 
-pub write_begins : (code : List ℕ) (v : ℕ) (is : List Meant) → code ≡ v ∷ [] → WritesOn code 0 is (v ∷ spelling 0 is)
+pub write_begins : (code : List ℕ) (v : ℕ) (is : List Meant) → code ≡ v ∷ [] → WritesOn code 0 is (v ∷ encoding 0 is)
 write_begins code v is e = rw e (record { same = refl })
 
 pub writes_on : (is : List Instruction) (i : ℕ) (x : Instruction) (code now all : List ℕ) → i < length is → x ≡ get_or is i x → WritesOn code i (drop i (all_meant is)) all
-    → now ≡ code ++ instruction_spelling i (meant x) (drop (i + 1) (all_meant is)) → WritesOn now (i + 1) (drop (i + 1) (all_meant is)) all
-unfolding spelling
+    → now ≡ code ++ instruction_encoding i (meant x) (drop (i + 1) (all_meant is)) → WritesOn now (i + 1) (drop (i + 1) (all_meant is)) all
+unfolding encoding
 writes_on is i x code now all lt at w pushed =
-    let here : spelling i (drop i (all_meant is)) ≡ instruction_spelling i (meant x) (drop (i + 1) (all_meant is)) ++ spelling (i + 1) (drop (i + 1) (all_meant is)) =
-    ap (spelling i) (drop-meant is i x lt at) in
+    let here : encoding i (drop i (all_meant is)) ≡ instruction_encoding i (meant x) (drop (i + 1) (all_meant is)) ++ encoding (i + 1) (drop (i + 1) (all_meant is)) =
+    ap (encoding i) (drop-meant is i x lt at) in
     record { same = rw pushed (append_assoc code _ _ ∙ ap (λ r. code ++ r) (sym here) ∙ w.same) }
 
 pub write_ends : (is : List Instruction) (i : ℕ) (code all : List ℕ) → length is ≤ i → WritesOn code i (drop i (all_meant is)) all → code ≡ all
-unfolding spelling
+unfolding encoding
 write_ends is i code all ge w =
-    let none : spelling i (drop i (all_meant is)) ≡ [] = ap (spelling i) (drop_all i (all_meant is) (omega (arith, length-meant is))) in
+    let none : encoding i (drop i (all_meant is)) ≡ [] = ap (encoding i) (drop_all i (all_meant is) (omega (arith, length-meant is))) in
     sym (append-nil code) ∙ ap (λ r. code ++ r) (sym none) ∙ w.same
 
 -- ---- how long a program is
 
-size-spelling : (n : ℕ) (i : Meant) (rest : List Meant) → length (instruction_spelling n i rest) ≡ size i
-size-spelling n (Straight o immediates) rest = refl
-size-spelling n (Branch o target) rest = refl
+size-encoding : (n : ℕ) (i : Meant) (rest : List Meant) → length (instruction_encoding n i rest) ≡ size i
+size-encoding n (Straight o immediates) rest = refl
+size-encoding n (Branch o target) rest = refl
 
-pub length-spelling : (n : ℕ) (is : List Meant) → length (spelling n is) ≡ total_size is
-unfolding spelling
-length-spelling n [] = refl
-length-spelling n (i ∷ is) = omega (arith, length-append (instruction_spelling n i is) (spelling (n + 1) is), size-spelling n i is, length-spelling (n + 1) is)
+pub length-encoding : (n : ℕ) (is : List Meant) → length (encoding n is) ≡ total_size is
+unfolding encoding
+length-encoding n [] = refl
+length-encoding n (i ∷ is) = omega (arith, length-append (instruction_encoding n i is) (encoding (n + 1) is), size-encoding n i is, length-encoding (n + 1) is)
 
 -- instructions of at most 1023 bytes make a program that is short enough
-pub fits : (line : ℕ) (code : List ℕ) (v : ℕ) (is : List Meant) → total_size is ≤ 1023 → code ≡ v ∷ spelling 0 is → short_program line (v ∷ spelling 0 is) ≡ Ok code
+pub fits : (line : ℕ) (code : List ℕ) (v : ℕ) (is : List Meant) → total_size is ≤ 1023 → code ≡ v ∷ encoding 0 is → short_program line (v ∷ encoding 0 is) ≡ Ok code
 fits line code v is small e =
-    let test : ltb most_program_bytes (length (v ∷ spelling 0 is)) ≡ false = le-ltb most_program_bytes (length (v ∷ spelling 0 is)) (omega (arith, length-spelling 0 is)) in
+    let test : ltb most_program_bytes (length (v ∷ encoding 0 is)) ≡ false = le-ltb most_program_bytes (length (v ∷ encoding 0 is)) (omega (arith, length-encoding 0 is)) in
     rw test (ap (λ bytes. Ok bytes) (sym e))
 
 -- instructions of more than 1023 bytes make a program that is refused as too long
-pub is_too_long : (line v : ℕ) (is : List Meant) → 1023 < total_size is → short_program line (v ∷ spelling 0 is) ≡ Err (record { line = line; kind = kind.TooLong })
+pub is_too_long : (line v : ℕ) (is : List Meant) → 1023 < total_size is → short_program line (v ∷ encoding 0 is) ≡ Err (record { line = line; kind = kind.TooLong })
 is_too_long line v is large =
-    let test : ltb most_program_bytes (length (v ∷ spelling 0 is)) ≡ true = lt-ltb most_program_bytes (length (v ∷ spelling 0 is)) (omega (arith, length-spelling 0 is)) in
+    let test : ltb most_program_bytes (length (v ∷ encoding 0 is)) ≡ true = lt-ltb most_program_bytes (length (v ∷ encoding 0 is)) (omega (arith, length-encoding 0 is)) in
     rw test refl

@@ -13,7 +13,7 @@ use Rattle.teal_source.specs.declared.fault.AsmFaultKind.{AsmFaultKind}
 use Rattle.teal_source.specs.Operands.{Word}
 use Rattle.teal_source.specs.Statements.{Words, appended, on_line, statement, statements, words_of_line, words_on}
 use Rattle.teal_asm.specs.Meaning.{Meaning}
-use Rattle.teal_asm.specs.Program.{program, short_program, spelling, version_byte}
+use Rattle.teal_asm.specs.Program.{program, short_program, encoding, version_byte}
 use Rattle.teal_asm.specs.Reading.{IsLater, unread_statements}
 use Rattle.teal_asm.specs.Thinned.{AreSameOrLong, IsSameOrLong, Thins}
 use Rattle.teal_asm.proofs.Emitting.{is_too_long}
@@ -86,5 +86,5 @@ same_program line m n e = at_instructions e.instructions
   where
     at_instructions : AreSameOrLong m.instructions n.instructions → short_program line (program m) ≡ short_program line (program n)
     at_instructions (inl same) =
-        ap (λ v. short_program line (version_byte v ∷ spelling 0 m.instructions)) e.version ∙ ap (λ is. short_program line (version_byte n.version ∷ spelling 0 is)) same
+        ap (λ v. short_program line (version_byte v ∷ encoding 0 m.instructions)) e.version ∙ ap (λ is. short_program line (version_byte n.version ∷ encoding 0 is)) same
     at_instructions (inr long) = is_too_long line (version_byte m.version) m.instructions long.0 ∙ sym (is_too_long line (version_byte n.version) n.instructions long.1)

@@ -1,11 +1,11 @@
--- The program that a text spells: its version and its instructions, each varuint as short as it can be.
+-- The program that a text means: its version and its instructions, each varuint as short as it can be.
 use Rattle.std.specs.Prelude.{ℕ, ◌+◌, ◌-◌, nat_lt, if◌then◌else◌, List, [], ◌∷◌, ◌++◌, length, take, Result, Ok}
 use Rattle.std.specs.Result.{result_unwrap_or}
 use Rattle.teal_value.specs.Answer.{◌>>=◌}
 use Rattle.teal_table.specs.declared.shape.Version.{Version}
 use Rattle.teal_table.specs.declared.shape.Version.TheVariants.{Two, Three}
 use Rattle.teal_code.specs.declared.instr.Immediates.TheVariants as is
-use Rattle.teal_code.specs.Spelling.{instr_spelling}
+use Rattle.teal_code.specs.Encoding.{instr_encoding}
 use Rattle.teal_code.specs.Limits.{most_program_bytes}
 use Rattle.teal_text.specs.Lines.{lines_of}
 use Rattle.teal_source.specs.declared.fault.AsmFaultKind.TheVariants as kind
@@ -15,7 +15,7 @@ use Rattle.teal_asm.specs.Meaning.{Meant, Straight, Branch, Meaning, meaning}
 
 -- how many bytes an instruction takes
 abbrev pub size : Meant → ℕ
-size (Straight o immediates) = length (instr_spelling (record { opcode = o; immediates = immediates }))
+size (Straight o immediates) = length (instr_encoding (record { opcode = o; immediates = immediates }))
 size (Branch o target) = 3
 
 abbrev pub total_size : List Meant → ℕ
@@ -23,21 +23,21 @@ total_size [] = 0
 total_size (i ∷ is) = size i + total_size is
 
 -- An instruction with a number, before others: a branch leads forward, over the instructions up to its target.
-abbrev pub instruction_spelling : ℕ → Meant → List Meant → List ℕ
-instruction_spelling number (Straight o immediates) rest = instr_spelling (record { opcode = o; immediates = immediates })
-instruction_spelling number (Branch o target) rest =
-    instr_spelling (record { opcode = o; immediates = is.Offset (total_size (take (target - (number + 1)) rest)) })
+abbrev pub instruction_encoding : ℕ → Meant → List Meant → List ℕ
+instruction_encoding number (Straight o immediates) rest = instr_encoding (record { opcode = o; immediates = immediates })
+instruction_encoding number (Branch o target) rest =
+    instr_encoding (record { opcode = o; immediates = is.Offset (total_size (take (target - (number + 1)) rest)) })
 
-unfoldable pub spelling : ℕ → List Meant → List ℕ
-spelling number [] = []
-spelling number (i ∷ is) = instruction_spelling number i is ++ spelling (number + 1) is
+unfoldable pub encoding : ℕ → List Meant → List ℕ
+encoding number [] = []
+encoding number (i ∷ is) = instruction_encoding number i is ++ encoding (number + 1) is
 
 abbrev pub version_byte : Version → ℕ
 version_byte Two = 2
 version_byte Three = 3
 
 unfoldable pub program : Meaning → List ℕ
-program m = version_byte m.version ∷ spelling 0 m.instructions
+program m = version_byte m.version ∷ encoding 0 m.instructions
 
 -- a program of at most 1024 bytes
 abbrev pub short_program : ℕ → List ℕ → Result (List ℕ) AsmFault

@@ -9,7 +9,7 @@ use std::alloc::Global;
 use teal_source::AsmError;
 use teal_text::Lines;
 
-/// The bytes of the program that a source text spells.
+/// The bytes of the program that a source text means.
 ///
 /// The answer is the text's alone: the version of its pragma, in the first line with a token; integers and byte strings
 /// gathered once each into blocks in front, in the order in which they are first used; branches as distances forward;

@@ -2,9 +2,9 @@
 
 ghost use Rattle.std.specs.Prelude.{◌≡◌, ◌+◌, ◌-◌, ◌^◌, ◌<◌, ◌≤◌, ◌∷◌, ◌++◌, ℕ, min, length, slice_index_or, IfOk, OnOk, MatchOption};
 ghost use Rattle.teal_value.specs.Answer.{Gives};
-ghost use Rattle.teal_code.specs.Spelling.{instr_spelling};
+ghost use Rattle.teal_code.specs.Encoding.{instr_encoding};
 ghost use Rattle.teal_code.specs.declared.instr.Immediates.TheVariants as is;
-ghost use Rattle.teal_asm.specs.Program.{size, total_size, spelling, version_byte, program, short_program};
+ghost use Rattle.teal_asm.specs.Program.{size, total_size, encoding, version_byte, program, short_program};
 ghost use Rattle.teal_asm.specs.Instructions.{meant, all_meant, ArePlaces};
 
 use std::alloc::{AllocError, Global};
@@ -36,7 +36,7 @@ pub(crate) fn short_program(
         (program (record { version = version; instructions = all_meant instructions.now }))) }
 {
     match places_of(alloc, instructions)? {
-        Some(places) => Ok(spelled(alloc, version, instructions, &places)?),
+        Some(places) => Ok(encoded(alloc, version, instructions, &places)?),
         None => Err(Failure::Fault(AsmFault {
             line: last_line,
             kind: AsmFaultKind::TooLong,
@@ -78,7 +78,7 @@ fn size_of(instruction: &Instruction, bytes: &mut Vec<u8>) -> Result<usize, Allo
     }
 }
 
-fn spelled(
+fn encoded(
     alloc: Global,
     version: Version,
     instructions: &[Instruction],
@@ -86,7 +86,7 @@ fn spelled(
 ) -> Result<Vec<u8>, AllocError>
     requires { ArePlaces (all_meant instructions.now) places.now }
     ensures { IfOk result
-        (λ code. code.items ≡ version_byte version ∷ spelling 0 (all_meant instructions.now)) }
+        (λ code. code.items ≡ version_byte version ∷ encoding 0 (all_meant instructions.now)) }
 {
     let mut code = Vec::new(alloc);
     code.push(version_byte(version))?;
@@ -115,7 +115,7 @@ fn offset_to(target: usize, number: usize, places: &[usize]) -> u16
 
 fn push_branch(opcode: Opcode, offset: u16, code: &mut Vec<u8>) -> Result<(), AllocError>
     ensures { OnOk result (code.new.items ≡ code.old.items
-        ++ instr_spelling (record { opcode = opcode; immediates = is.Offset offset })) }
+        ++ instr_encoding (record { opcode = opcode; immediates = is.Offset offset })) }
 {
     let instr = Instr {
         opcode,

@@ -1,7 +1,7 @@
 //! The assembler: source text becomes the bytes of a program, or its first fault (TEAL specification, "Assembler syntax").
 //!
 //! `specs/Meaning.antt` is the meaning of a whole text: its instructions, or the first fault of the first of three rounds
-//! that has one; `specs/Program.antt` spells the instructions. What one line says stands in `teal_source`.
+//! that has one; `specs/Program.antt` encodes the instructions. What one line says stands in `teal_source`.
 #![tactic(auto)]
 
 mod assembler;

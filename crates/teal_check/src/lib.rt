@@ -9,5 +9,5 @@ mod program;
 mod rules;
 
 pub use fault::{CheckError, CheckFault};
-pub use program::{Placed, Program};
+pub use program::{PlacedInstr, Program};
 pub use rules::check;

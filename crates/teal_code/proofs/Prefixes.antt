@@ -122,7 +122,7 @@ byte_reader = record {
 grows_so : {A : Type 0} (read : List ℕ → Read A) (P : List ℕ → A → Type 0) → IsSound read P → IsComplete read P → (bytes more : List ℕ) (x : A) (rest : List ℕ) → read bytes ≡ Ok (x, rest) → read (bytes ++ more) ≡ Ok (x, rest ++ more)
 grows_so read P sound complete bytes more x rest e =
     let t = sound bytes x rest e in
-    ap read (ap (λ b. b ++ more) t.parts ∙ append_assoc t.front rest more) ∙ complete t.front x (rest ++ more) t.spelled
+    ap read (ap (λ b. b ++ more) t.parts ∙ append_assoc t.front rest more) ∙ complete t.front x (rest ++ more) t.encoded
 
 -- a digit, and the number behind it where the digit isn't the last
 abbrev with_digit : Bool → ℕ → List ℕ → Read ℕ → Read ℕ

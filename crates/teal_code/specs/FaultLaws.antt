@@ -6,7 +6,7 @@ use Rattle.teal_code.specs.Grammar.{Faults}
 use Rattle.teal_code.specs.Reader.{read_at}
 
 -- The reader answers a fault exactly where the grammar has it, at any place, also past the end: the byte is no opcode of
--- the version; or no instruction is spelled there, and one is in some longer input that begins so; or one is in none.
+-- the version; or no instruction is encoded there, and one is in some longer input that begins so; or one is in none.
 abbrev pub FaultsAreTheGrammars : Type 0
 FaultsAreTheGrammars =
     (version : Version) (bytes : List ℕ) (place : ℕ) (f : CodeFault) → All (λ b. b < 256) bytes

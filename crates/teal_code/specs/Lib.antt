@@ -2,6 +2,6 @@ pub mod Varuint
 pub mod Grammar
 pub mod Limits
 pub mod Reader
-pub mod Spelling
+pub mod Encoding
 pub mod FaultLaws
 pub mod FaultNames

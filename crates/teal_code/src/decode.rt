@@ -42,7 +42,7 @@ pub type CodeError = Failure<CodeFault>;
 
 /// The instruction at a place of a program's bytes, and the place behind it.
 ///
-/// A varuint may be spelled longer than needed, in at most ten bytes (AVM specification, program encoding). Nothing grows
+/// A varuint may be encoded longer than needed, in at most ten bytes (AVM specification, program encoding). Nothing grows
 /// by a count or a length that the bytes do not back.
 pub fn decode_at(
     alloc: Global,

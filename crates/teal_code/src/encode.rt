@@ -3,16 +3,16 @@
 ghost use Rattle.std.specs.Prelude.{◌≡◌, ◌++◌, ◌≤◌, length, OnOk, OnErr};
 ghost use Rattle.std.specs.List.{flat_map};
 ghost use Rattle.teal_code.specs.Varuint.{varuint};
-ghost use Rattle.teal_code.specs.Spelling.{Continues, prefixed, immediates_spelling, instr_spelling};
+ghost use Rattle.teal_code.specs.Encoding.{Continues, prefixed, immediates_encoding, instr_encoding};
 
 use crate::instr::{Immediates, Instr};
 use arrayvec::ArrayVec;
 use std::alloc::AllocError;
 use teal_value::ByteString;
 
-/// Appends an instruction's spelling, each varuint as short as it can be.
+/// Appends an instruction's encoding, each varuint as short as it can be.
 pub fn encode_into(instr: &Instr, code: &mut Vec<u8>) -> Result<(), AllocError>
-    ensures written { OnOk result (code.new.items ≡ code.old.items ++ instr_spelling instr.now) }
+    ensures written { OnOk result (code.new.items ≡ code.old.items ++ instr_encoding instr.now) }
     ensures unchanged { OnErr result (code.new.items ≡ code.old.items) }
 {
     let start = code.len();
@@ -23,7 +23,7 @@ pub fn encode_into(instr: &Instr, code: &mut Vec<u8>) -> Result<(), AllocError>
     Ok(())
 }
 
-/// The shortest spelling of a number in base 128: seven bits a byte, the low ones first, the top bit of a byte saying
+/// The shortest encoding of a number in base 128: seven bits a byte, the low ones first, the top bit of a byte saying
 /// that more follow.
 pub fn varuint_bytes(number: u64) -> ArrayVec<u8, 10>
     ensures { result.items ≡ varuint number }
@@ -38,9 +38,9 @@ pub fn varuint_bytes(number: u64) -> ArrayVec<u8, 10>
     bytes
 }
 
-// Where memory is refused, a part of the spelling may stand behind what was there. So it is with all that follow.
+// Where memory is refused, a part of the encoding may stand behind what was there. So it is with all that follow.
 fn push_instr(instr: &Instr, code: &mut Vec<u8>) -> Result<(), AllocError>
-    ensures written { OnOk result (code.new.items ≡ code.old.items ++ instr_spelling instr.now) }
+    ensures written { OnOk result (code.new.items ≡ code.old.items ++ instr_encoding instr.now) }
     ensures kept { Continues code.old.items code.new.items }
 {
     code.push(instr.code())?;
@@ -49,7 +49,7 @@ fn push_instr(instr: &Instr, code: &mut Vec<u8>) -> Result<(), AllocError>
 
 fn push_immediates(immediates: &Immediates, code: &mut Vec<u8>) -> Result<(), AllocError>
     ensures written { OnOk result
-        (code.new.items ≡ code.old.items ++ immediates_spelling immediates.now) }
+        (code.new.items ≡ code.old.items ++ immediates_encoding immediates.now) }
     ensures kept { Continues code.old.items code.new.items }
 {
     match immediates {

@@ -4,16 +4,16 @@ ghost use Rattle.std.specs.Prelude.{◌≡◌, ℕ, List, ◌∷◌, ◌++◌, [
 ghost use Rattle.teal_table.specs.declared.opcode.Opcode.TheVariants as op;
 ghost use Rattle.teal_table.specs.declared.shape.Version.{Version};
 ghost use Rattle.teal_table.specs.declared.shape.Version.TheVariants.{Two};
-ghost use Rattle.teal_code.specs.Grammar.{Spells, Reads};
+ghost use Rattle.teal_code.specs.Grammar.{Encodes, Reads};
 ghost use Rattle.teal_code.specs.Reader.{read_at};
 ghost use Rattle.teal_code.specs.declared.instr.Instr.{Instr};
 ghost use Rattle.teal_code.specs.declared.instr.Immediates.TheVariants as is;
 ghost use Rattle.teal_code.specs.declared.decode.CodeFault.TheVariants.{UnknownOp, Truncated, BadVaruint};
 
-/// No spelling of an instruction begins another.
-pub fn no_spelling_begins_another()
+/// No encoding of an instruction begins another.
+pub fn no_encoding_begins_another()
     ensures { (version : Version) (a b x y : List ℕ) (i j : Instr)
-        → Spells version a i → Spells version b j → a ++ x ≡ b ++ y → (a ≡ b) × (i ≡ j) }
+        → Encodes version a i → Encodes version b j → a ++ x ≡ b ++ y → (a ≡ b) × (i ≡ j) }
 {}
 
 /// Reading is what the grammar says.
@@ -29,7 +29,7 @@ pub fn reading_is_the_grammar()
 pub fn worked_reads()
     ensures count_beyond_the_end { read_at Two (0x02 ∷ 0x20 ∷ 0x80 ∷ 0x01 ∷ 0x01 ∷ 0x22 ∷ []) 1
         ≡ Err Truncated }
-    ensures longer_spelling { read_at Two (0x02 ∷ 0x20 ∷ 0x81 ∷ 0x00 ∷ 0x01 ∷ 0x22 ∷ []) 1
+    ensures longer_encoding { read_at Two (0x02 ∷ 0x20 ∷ 0x81 ∷ 0x00 ∷ 0x01 ∷ 0x22 ∷ []) 1
         ≡ Ok (record { opcode = op.Intcblock; immediates = is.UintBlock (1 ∷ []) }, 5) }
     ensures short_constant { read_at Two (0x02 ∷ 0x20 ∷ 0x81 ∷ 0x00 ∷ 0x01 ∷ 0x22 ∷ []) 5
         ≡ Ok (record { opcode = op.Intc0; immediates = is.Nothing }, 6) }

@@ -1,5 +1,5 @@
 //! Instructions and their bytes: an instruction is read at a place of a program and written back (AVM specification,
-//! program encoding). `specs/Grammar.antt` says which bytes spell which instruction, `specs/Reader.antt` computes it.
+//! program encoding). `specs/Grammar.antt` says which bytes encode which instruction, `specs/Reader.antt` computes it.
 #![tactic(auto)]
 
 mod decode;

@@ -5,7 +5,7 @@ use Rattle.std.proofs.lemmas.List.{drop_more, drop_all, get_or_default}
 use Rattle.std.proofs.lemmas.Bool.Decides.{nat_tests}
 use Rattle.std.proofs.lemmas.List.Folds.{list_any_at}
 use Rattle.std.proofs.lemmas.Option.{slice_get_within, get_or_from_slice_get}
-use Rattle.teal_check.specs.declared.program.Placed.{Placed}
+use Rattle.teal_check.specs.declared.program.PlacedInstr.{PlacedInstr}
 use Rattle.teal_check.specs.WellFormed.{WellFormed}
 use Rattle.teal_text.specs.PlainWords.{text_of_lines}
 use Rattle.teal_dis.specs.Listing.{Word, leads_to, is_target, targets_before, label_of, label_line, pragma_line, target_word, words_of, instruction_line, listing_from, listing}
@@ -21,7 +21,7 @@ pub text-append : (a b : List (List Word)) → text_of_lines (a ++ b) ≡ text_o
 text-append [] b = refl
 text-append (words ∷ lines) b = rw (text-append lines b) (simp append_assoc)
 
-label_line_of : (placed : List Placed) (n : ℕ) → lines_of_label (label_before placed n) ≡ label_line placed n
+label_line_of : (placed : List PlacedInstr) (n : ℕ) → lines_of_label (label_before placed n) ≡ label_line placed n
 label_line_of placed n = by_test (is_target placed n)
   where
     by_test : (b : Bool) → lines_of_label (cond b (Some (targets_before placed n + 1)) None) ≡ cond b (((label_of placed n ++ codes ":") ∷ []) ∷ []) []
@@ -29,21 +29,21 @@ label_line_of placed n = by_test (is_target placed n)
     by_test false = refl
 
 -- the line of a label by its number is the line before the instruction
-pub label_there : (placed : List Placed) (labels : List (Option ℕ)) (n : ℕ) (label : Option ℕ) → AreLabels placed labels → n ≤ length placed → label ≡ get_or labels n label → lines_of_label label ≡ label_line placed n
+pub label_there : (placed : List PlacedInstr) (labels : List (Option ℕ)) (n : ℕ) (label : Option ℕ) → AreLabels placed labels → n ≤ length placed → label ≡ get_or labels n label → lines_of_label label ≡ label_line placed n
 label_there placed labels n found l le at =
     ap lines_of_label (at ∙ get_or_default labels n found None (omega (arith, l.count)) ∙ l.each n le) ∙ label_line_of placed n
 
 -- the label of a branch's target
-label_word : (placed : List Placed) (n : ℕ) → is_target placed n ≡ true → label (label_before placed n) ≡ label_of placed n
+label_word : (placed : List PlacedInstr) (n : ℕ) → is_target placed n ≡ true → label (label_before placed n) ≡ label_of placed n
 label_word placed n e = rw e refl
 
 same_number : (n : ℕ) → eqb n n ≡ true
 same_number n = grind (arith, nat_tests)
 
-leads_there : (target : ℕ) (p : Placed) → p.target ≡ Some target → leads_to target p ≡ true
+leads_there : (target : ℕ) (p : PlacedInstr) → p.target ≡ Some target → leads_to target p ≡ true
 leads_there target p e = rw e (same_number target)
 
-target_there : (placed : List Placed) (labels : List (Option ℕ)) (number : ℕ) (p : Placed) (target : Option ℕ) → AreLabels placed labels → slice_get placed number ≡ Some p → p.target ≡ target
+target_there : (placed : List PlacedInstr) (labels : List (Option ℕ)) (number : ℕ) (p : PlacedInstr) (target : Option ℕ) → AreLabels placed labels → slice_get placed number ≡ Some p → p.target ≡ target
     → ((t : ℕ) → target ≡ Some t → t ≤ length placed) → label_in labels target ≡ target_word placed target
 target_there placed labels number p None l at e within = refl
 target_there placed labels number p (Some t) l at e within =
@@ -52,13 +52,13 @@ target_there placed labels number p (Some t) l at e within =
     ap label (l.each t (within t refl)) ∙ label_word placed t is
 
 -- the instructions that are left begin with the next one
-front : (placed : List Placed) (number : ℕ) (p : Placed) → slice_get placed number ≡ Some p → drop number placed ≡ p ∷ drop (number + 1) placed
+front : (placed : List PlacedInstr) (number : ℕ) (p : PlacedInstr) → slice_get placed number ≡ Some p → drop number placed ≡ p ∷ drop (number + 1) placed
 front placed number p at = drop_more placed number p (slice_get_within placed number p at) ∙ ap (λ q. q ∷ drop (number + 1) placed) (get_or_from_slice_get placed number p p at)
 
 one_line : (words : List Word) (rest : List (List Word)) → text_of_lines (words ∷ rest) ≡ text_of_lines (words ∷ []) ++ text_of_lines rest
 one_line words rest = text-append (words ∷ []) rest
 
-next_text : (placed : List Placed) (number : ℕ) (p : Placed) (text : List ℕ) → slice_get placed number ≡ Some p
+next_text : (placed : List PlacedInstr) (number : ℕ) (p : PlacedInstr) (text : List ℕ) → slice_get placed number ≡ Some p
     → ((text ++ text_of_lines (label_line placed number)) ++ text_of_lines (instruction_line placed p ∷ [])) ++ text_of_lines (listing_from placed (number + 1) (drop (number + 1) placed))
     ≡ text ++ text_of_lines (listing_from placed number (drop number placed))
 next_text placed number p text at =
@@ -73,7 +73,7 @@ next_text placed number p text at =
     four a b c d = simp append_assoc
 
 -- the next instruction is written, behind the line of its label
-pub goes_on : (program : WellFormed) (labels : List (Option ℕ)) (text labelled now : List ℕ) (number : ℕ) (p : Placed) (label : Option ℕ) → ListedOn program text number → AreLabels program.placed labels → slice_get program.placed number ≡ Some p
+pub goes_on : (program : WellFormed) (labels : List (Option ℕ)) (text labelled now : List ℕ) (number : ℕ) (p : PlacedInstr) (label : Option ℕ) → ListedOn program text number → AreLabels program.placed labels → slice_get program.placed number ≡ Some p
     → ((t : ℕ) → p.target ≡ Some t → t ≤ length program.placed) → label ≡ get_or labels number label → labelled ≡ text ++ text_of_lines (lines_of_label label)
     → now ≡ labelled ++ text_of_lines (words_of (label_in labels p.target) p.instr ∷ []) → ListedOn program now (number + 1)
 goes_on program labels text labelled now number p label on l at within is first line =

@@ -52,6 +52,6 @@ crossed_listed : listed (0x03 ∷ 0x42 ∷ 0x00 ∷ 0x04 ∷ 0x42 ∷ 0x00 ∷ 0
 unfolding row_of digits opcodes opcode_at checked placed_at placed_from with_targets targets_before left_out_at listed
 crossed_listed = refl
 
-spelled_longer : listed (0x02 ∷ 0x20 ∷ 0x81 ∷ 0x00 ∷ 0x01 ∷ 0x22 ∷ []) ≡ Ok (codes "#pragma version 2\n" ++ codes "intcblock 1\n" ++ codes "intc_0\n")
+encoded_longer : listed (0x02 ∷ 0x20 ∷ 0x81 ∷ 0x00 ∷ 0x01 ∷ 0x22 ∷ []) ≡ Ok (codes "#pragma version 2\n" ++ codes "intcblock 1\n" ++ codes "intc_0\n")
 unfolding row_of digits opcodes opcode_at checked placed_at placed_from with_targets targets_before left_out_at listed
-spelled_longer = refl
+encoded_longer = refl

@@ -8,7 +8,7 @@ use Rattle.teal_code.specs.declared.instr.Immediates.{Immediates}
 use Rattle.teal_code.specs.declared.instr.Immediates.TheVariants as is
 use Rattle.teal_check.specs.declared.fault.CheckFault.{CheckFault}
 use Rattle.teal_check.specs.declared.fault.CheckFault.TheVariants as fault
-use Rattle.teal_check.specs.declared.program.Placed.{Placed}
+use Rattle.teal_check.specs.declared.program.PlacedInstr.{PlacedInstr}
 use Rattle.teal_check.specs.WellFormed.{WellFormed, places, first_index, number_of_place, resolved_target, immediates_target, target_of, with_targets, checked}
 use Rattle.teal_check.proofs.CheckedPrograms.{is_checked, length-places}
 
@@ -46,29 +46,29 @@ immediates_within : (starts : List ℕ) (end place next : ℕ) (i : Immediates) 
 immediates_within starts end place next (is.Offset n) t e = branch_within starts end place next n t e
 immediates_within starts end place next _ t e = absurd cc
 
-front_within : (starts : List ℕ) (end : ℕ) (p q : Placed) (target : Option ℕ) (t : ℕ) → target_of starts end p ≡ Ok target → record p { target = target } ≡ q → q.target ≡ Some t → t ≤ length starts
-front_within starts end p q target t first one is = immediates_within starts end p.place p.next p.instr.immediates t (first ∙ ap (λ o. Ok o) (ap (λ (x : Placed). x.target) one ∙ is))
+front_within : (starts : List ℕ) (end : ℕ) (p q : PlacedInstr) (target : Option ℕ) (t : ℕ) → target_of starts end p ≡ Ok target → record p { target = target } ≡ q → q.target ≡ Some t → t ≤ length starts
+front_within starts end p q target t first one is = immediates_within starts end p.place p.next p.instr.immediates t (first ∙ ap (λ o. Ok o) (ap (λ (x : PlacedInstr). x.target) one ∙ is))
 
-in_list : (starts : List ℕ) (end : ℕ) (ps qs : List Placed) → with_targets starts end ps ≡ Ok qs → (k : ℕ) (q : Placed) → slice_get qs k ≡ Some q → (t : ℕ) → q.target ≡ Some t → t ≤ length starts
+in_list : (starts : List ℕ) (end : ℕ) (ps qs : List PlacedInstr) → with_targets starts end ps ≡ Ok qs → (k : ℕ) (q : PlacedInstr) → slice_get qs k ≡ Some q → (t : ℕ) → q.target ≡ Some t → t ≤ length starts
 unfolding with_targets
 in_list starts end [] qs e k q at t is =
     let none : [] ≡ qs = cc in
-    let nothing : None ≡ Some q = ap (λ (xs : List Placed). slice_get xs k) none ∙ at in absurd cc
+    let nothing : None ≡ Some q = ap (λ (xs : List PlacedInstr). slice_get xs k) none ∙ at in absurd cc
 in_list starts end (p ∷ ps) qs e zero q at t is =
     let (target, first, others) = bind_ok (target_of starts end p) _ _ e in
     let (rs, rest, last) = bind_ok (with_targets starts end ps) _ _ others in
     let same : record p { target = target } ∷ rs ≡ qs = cc in
-    let found : Some (record p { target = target }) ≡ Some q = ap (λ (xs : List Placed). slice_get xs zero) same ∙ at in
+    let found : Some (record p { target = target }) ≡ Some q = ap (λ (xs : List PlacedInstr). slice_get xs zero) same ∙ at in
     let one : record p { target = target } ≡ q = cc in
     front_within starts end p q target t first one is
 in_list starts end (p ∷ ps) qs e (suc k) q at t is =
     let (target, first, others) = bind_ok (target_of starts end p) _ _ e in
     let (rs, rest, last) = bind_ok (with_targets starts end ps) _ _ others in
     let same : record p { target = target } ∷ rs ≡ qs = cc in
-    in_list starts end ps rs rest k q (ap (λ (xs : List Placed). slice_get xs (suc k)) same ∙ at) t is
+    in_list starts end ps rs rest k q (ap (λ (xs : List PlacedInstr). slice_get xs (suc k)) same ∙ at) t is
 
 -- a branch of a checked program leads to an instruction or to the end
-pub targets_within : (bytes : List ℕ) (w : WellFormed) → checked bytes ≡ Ok w → (k : ℕ) (p : Placed) → slice_get w.placed k ≡ Some p → (t : ℕ) → p.target ≡ Some t → t ≤ length w.placed
+pub targets_within : (bytes : List ℕ) (w : WellFormed) → checked bytes ≡ Ok w → (k : ℕ) (p : PlacedInstr) → slice_get w.placed k ≡ Some p → (t : ℕ) → p.target ≡ Some t → t ≤ length w.placed
 targets_within bytes w e k p at t is =
     let c = is_checked bytes w e in
     let le = in_list (places c.bare) (length bytes) c.bare w.placed c.targets k p at t is in

@@ -14,7 +14,7 @@ use Rattle.teal_table.specs.Fields.{txn_name, txn_field_at, global_name, global_
 use Rattle.teal_code.specs.declared.instr.Immediates.{Immediates}
 use Rattle.teal_code.specs.declared.instr.Immediates.TheVariants as is
 use Rattle.teal_code.specs.declared.instr.Instr.{Instr}
-use Rattle.teal_check.specs.declared.program.Placed.{Placed}
+use Rattle.teal_check.specs.declared.program.PlacedInstr.{PlacedInstr}
 use Rattle.teal_check.specs.WellFormed.{WellFormed}
 use Rattle.teal_text.specs.PlainWords.{line_of_words, text_of_lines}
 
@@ -73,35 +73,35 @@ line_of place i = line_of_words (words_of (decimal (place + 3 + offset_of i.imme
 
 -- ---- labels: the targets of branches, numbered from 1 in the order of their places
 
-abbrev pub leads_to : ℕ → Placed → Bool
+abbrev pub leads_to : ℕ → PlacedInstr → Bool
 leads_to n p = option_map_or (λ target. target == n) p.target false
 
-abbrev pub is_target : List Placed → ℕ → Bool
+abbrev pub is_target : List PlacedInstr → ℕ → Bool
 is_target placed n = list_any (leads_to n) placed
 
 -- how many of the instructions before the one with this number are targets
-unfoldable pub targets_before : List Placed → ℕ → ℕ
+unfoldable pub targets_before : List PlacedInstr → ℕ → ℕ
 targets_before placed zero = 0
 targets_before placed (suc n) = targets_before placed n + (if is_target placed n then 1 else 0)
 
-abbrev pub label_of : List Placed → ℕ → Word
+abbrev pub label_of : List PlacedInstr → ℕ → Word
 label_of placed n = codes "label" ++ decimal (targets_before placed n + 1)
 
 -- the line before an instruction, or before the end, where a branch leads there
-abbrev pub label_line : List Placed → ℕ → List (List Word)
+abbrev pub label_line : List PlacedInstr → ℕ → List (List Word)
 label_line placed n = if is_target placed n then ((label_of placed n ++ codes ":") ∷ []) ∷ [] else []
 
 -- ---- a program
 
-abbrev pub target_word : List Placed → Option ℕ → Word
+abbrev pub target_word : List PlacedInstr → Option ℕ → Word
 target_word placed None = []
 target_word placed (Some n) = label_of placed n
 
-abbrev pub instruction_line : List Placed → Placed → List Word
+abbrev pub instruction_line : List PlacedInstr → PlacedInstr → List Word
 instruction_line placed p = words_of (target_word placed p.target) p.instr
 
 -- the lines of the instructions from the one with a number on
-abbrev pub listing_from : List Placed → ℕ → List Placed → List (List Word)
+abbrev pub listing_from : List PlacedInstr → ℕ → List PlacedInstr → List (List Word)
 listing_from placed n [] = label_line placed n
 listing_from placed n (p ∷ ps) = label_line placed n ++ instruction_line placed p ∷ listing_from placed (n + 1) ps
 
@@ -121,5 +121,5 @@ listing p = text_of_lines (listing_lines p)
 -- ---- lines, counted from 0: the version stands on the first, and a label on a line of its own
 
 -- the line of the instruction with a number; behind the last one, how many lines there are
-abbrev pub line_number : List Placed → ℕ → ℕ
+abbrev pub line_number : List PlacedInstr → ℕ → ℕ
 line_number placed n = 1 + n + targets_before placed (n + 1)

@@ -8,7 +8,7 @@ ghost use Rattle.teal_dis.specs.Shown.{label_in};
 use crate::labels::{labels_of, push_label, target_label};
 use crate::lines::push_line;
 use std::alloc::{AllocError, Global};
-use teal_check::{Placed, Program};
+use teal_check::{PlacedInstr, Program};
 use teal_table::Version;
 
 /// The listing of a program: its version, then an instruction a line, and a line for each label.
@@ -44,7 +44,7 @@ fn push_instruction(
     alloc: Global,
     text: &mut String,
     labels: &[Option<u16>],
-    placed: &Placed,
+    placed: &PlacedInstr,
 ) -> Result<(), AllocError>
     ensures { OnOk result (string_bytes text.new ≡ string_bytes text.old
         ++ text_of_lines (words_of (label_in labels.now placed.now.target) placed.now.instr ∷ [])) }

@@ -7,12 +7,12 @@ use Rattle.std.proofs.lemmas.Slice.Eq.{bytes_eq-Decides}
 use Rattle.teal_code.specs.Limits.{most_program_bytes}
 use Rattle.teal_text.specs.Numbers.{number_of}
 use Rattle.teal_text.proofs.ReadBack.{decimal_back}
-use Rattle.teal_check.specs.declared.program.Placed.{Placed}
+use Rattle.teal_check.specs.declared.program.PlacedInstr.{PlacedInstr}
 use Rattle.teal_dis.specs.Listing.{is_target, targets_before, label_of}
 use Rattle.teal_laws.proofs.PlainListing.{few_targets}
 
 -- a target has fewer targets before it than any instruction behind it
-pub more_targets : (placed : List Placed) (m n : ℕ) → m < n → is_target placed m ≡ true → targets_before placed m < targets_before placed n
+pub more_targets : (placed : List PlacedInstr) (m n : ℕ) → m < n → is_target placed m ≡ true → targets_before placed m < targets_before placed n
 unfolding targets_before
 more_targets placed m zero lt t = absurd (omega arith)
 more_targets placed m (suc n) lt t =
@@ -35,7 +35,7 @@ pub bytes_same : (a : List ℕ) → bytes_eq a a ≡ true
 bytes_same a = (bytes_eq-Decides a a).1 refl
 
 -- the label of a target is not that of an instruction behind it
-pub labels_differ : (placed : List Placed) (m n : ℕ) → m < n → n ≤ most_program_bytes → is_target placed m ≡ true → bytes_eq (label_of placed n) (label_of placed m) ≡ false
+pub labels_differ : (placed : List PlacedInstr) (m n : ℕ) → m < n → n ≤ most_program_bytes → is_target placed m ≡ true → bytes_eq (label_of placed n) (label_of placed m) ≡ false
 labels_differ placed m n lt le t =
     elim (bytes_eq (label_of placed n) (label_of placed m)) as (λ x. bytes_eq (label_of placed n) (label_of placed m) ≡ x → x ≡ false) [
       | true ↦ λ e.

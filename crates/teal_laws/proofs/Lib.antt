@@ -8,13 +8,13 @@ pub mod Labels
 pub mod ListedStatements
 pub mod ListedInstructions
 pub mod ListingMeaning
-pub mod Spellings
-pub mod SpelledPrograms
+pub mod Encodings
+pub mod EncodedPrograms
 pub mod AssembledListing
 pub mod Forms
 pub mod TextCommands
 pub mod TextMeaning
-pub mod ShortestSpellings
+pub mod ShortestEncodings
 pub mod ProgramRules
 pub mod TextRelation
 pub mod TextRules

@@ -13,7 +13,7 @@ use Rattle.teal_table.specs.Table.{row_of, name_of}
 use Rattle.teal_code.specs.declared.instr.Immediates.{Immediates}
 use Rattle.teal_code.specs.declared.instr.Immediates.TheVariants as is
 use Rattle.teal_code.specs.Limits.{most_program_bytes}
-use Rattle.teal_check.specs.declared.program.Placed.{Placed}
+use Rattle.teal_check.specs.declared.program.PlacedInstr.{PlacedInstr}
 use Rattle.teal_dis.specs.Listing.{Word, operands, is_target, label_of, target_word, instruction_line, listing_from}
 use Rattle.teal_source.specs.declared.statement.Statement.{Statement}
 use Rattle.teal_source.specs.Statements.{Words, words_on, gathered_uint, gathered_string, gathered_uints, gathered_strings, has_label, behind, label_name, statement, statements}
@@ -28,21 +28,21 @@ numbered line [] = []
 numbered line (ws ∷ lines) = words_on line ws ++ numbered (line + 1) lines
 
 -- a label, where there is one, as lines and as statements
-abbrev pub lines_if : Bool → List Placed → ℕ → List (List Word)
+abbrev pub lines_if : Bool → List PlacedInstr → ℕ → List (List Word)
 lines_if b placed n = if b then ((label_of placed n ++ codes ":") ∷ []) ∷ [] else []
 
-abbrev pub statements_if : Bool → List Placed → ℕ → ℕ → List Statement
+abbrev pub statements_if : Bool → List PlacedInstr → ℕ → ℕ → List Statement
 statements_if b placed line n = if b then record { line = line; label = Some (label_of placed n); command = None } ∷ [] else []
 
 -- the line of an instruction, behind that of its label where it has one
-abbrev pub line_behind : List Placed → ℕ → ℕ → ℕ
+abbrev pub line_behind : List PlacedInstr → ℕ → ℕ → ℕ
 line_behind placed line n = line + length (lines_if (is_target placed n) placed n)
 
-abbrev pub instruction_statement : List Placed → ℕ → Placed → Statement
+abbrev pub instruction_statement : List PlacedInstr → ℕ → PlacedInstr → Statement
 instruction_statement placed line p = record { line = line; label = None; command = Some (command_of p.instr.opcode (target_word placed p.target) p.instr.immediates) }
 
 -- the statements of the instructions from one with a number on, from a line on
-abbrev pub listed : List Placed → ℕ → ℕ → List Placed → List Statement
+abbrev pub listed : List PlacedInstr → ℕ → ℕ → List PlacedInstr → List Statement
 listed placed line n [] = statements_if (is_target placed n) placed line n
 listed placed line n (p ∷ ps) =
     statements_if (is_target placed n) placed line n
@@ -89,11 +89,11 @@ command_is_quiet o target (is.ByteBlock ss) = (refl, refl)
 command_is_quiet o target (is.Uint n) = (refl, refl)
 command_is_quiet o target (is.Bytes s) = (refl, refl)
 
-if_is_quiet : (b : Bool) (placed : List Placed) (line n : ℕ) → AreQuiet (statements_if b placed line n)
+if_is_quiet : (b : Bool) (placed : List PlacedInstr) (line n : ℕ) → AreQuiet (statements_if b placed line n)
 if_is_quiet true placed line n = (refl, refl, tt)
 if_is_quiet false placed line n = tt
 
-pub listed_is_quiet : (placed : List Placed) (line n : ℕ) (ps : List Placed) → AreQuiet (listed placed line n ps)
+pub listed_is_quiet : (placed : List PlacedInstr) (line n : ℕ) (ps : List PlacedInstr) → AreQuiet (listed placed line n ps)
 listed_is_quiet placed line n [] = if_is_quiet (is_target placed n) placed line n
 listed_is_quiet placed line n (p ∷ ps) =
     let c = command_is_quiet p.instr.opcode (target_word placed p.target) p.instr.immediates in
@@ -102,36 +102,36 @@ listed_is_quiet placed line n (p ∷ ps) =
 -- ---- labels so far
 
 -- a label of an instruction before the one with a number
-abbrev HasEarlier : List Placed → ℕ → Option Word → Type 0
+abbrev HasEarlier : List PlacedInstr → ℕ → Option Word → Type 0
 HasEarlier placed n None = Unit {0}
 HasEarlier placed n (Some name) = (m : ℕ) × (m < n) × (is_target placed m ≡ true) × (name ≡ label_of placed m)
 
 -- each label is that of a target before the instruction with this number
-abbrev pub AreEarlier : List Placed → ℕ → List Statement → Type 0
+abbrev pub AreEarlier : List PlacedInstr → ℕ → List Statement → Type 0
 AreEarlier placed n [] = Unit {0}
 AreEarlier placed n (s ∷ ss) = HasEarlier placed n s.label × AreEarlier placed n ss
 
-earlier-append : (placed : List Placed) (n : ℕ) (a b : List Statement) → AreEarlier placed n a → AreEarlier placed n b → AreEarlier placed n (a ++ b)
+earlier-append : (placed : List PlacedInstr) (n : ℕ) (a b : List Statement) → AreEarlier placed n a → AreEarlier placed n b → AreEarlier placed n (a ++ b)
 earlier-append placed n [] b h k = k
 earlier-append placed n (s ∷ a) b h k = (h.0, earlier-append placed n a b h.1 k)
 
-still_earlier : (placed : List Placed) (n : ℕ) (label : Option Word) → HasEarlier placed n label → HasEarlier placed (n + 1) label
+still_earlier : (placed : List PlacedInstr) (n : ℕ) (label : Option Word) → HasEarlier placed n label → HasEarlier placed (n + 1) label
 still_earlier placed n None h = tt
 still_earlier placed n (Some name) h = (h.0, omega (arith, h.1), h.2, h.3)
 
-all_still_earlier : (placed : List Placed) (n : ℕ) (ss : List Statement) → AreEarlier placed n ss → AreEarlier placed (n + 1) ss
+all_still_earlier : (placed : List PlacedInstr) (n : ℕ) (ss : List Statement) → AreEarlier placed n ss → AreEarlier placed (n + 1) ss
 all_still_earlier placed n [] h = tt
 all_still_earlier placed n (s ∷ ss) h = (still_earlier placed n s.label h.0, all_still_earlier placed n ss h.1)
 
-one_is_new : (placed : List Placed) (n : ℕ) (label : Option Word) → n ≤ most_program_bytes → HasEarlier placed n label → option_map_or (λ (l : Word). bytes_eq (label_of placed n) l) label false ≡ false
+one_is_new : (placed : List PlacedInstr) (n : ℕ) (label : Option Word) → n ≤ most_program_bytes → HasEarlier placed n label → option_map_or (λ (l : Word). bytes_eq (label_of placed n) l) label false ≡ false
 one_is_new placed n None le h = refl
 one_is_new placed n (Some name) le h = rw (h.3) (labels_differ placed h.0 n h.1 le h.2)
 
-label_is_new : (placed : List Placed) (n : ℕ) (before : List Statement) → n ≤ most_program_bytes → AreEarlier placed n before → list_any (has_label (label_of placed n)) before ≡ false
+label_is_new : (placed : List PlacedInstr) (n : ℕ) (before : List Statement) → n ≤ most_program_bytes → AreEarlier placed n before → list_any (has_label (label_of placed n)) before ≡ false
 label_is_new placed n [] le h = refl
 label_is_new placed n (s ∷ before) le h = rw (one_is_new placed n s.label le h.0) (label_is_new placed n before le h.1)
 
-if_is_earlier : (b : Bool) (placed : List Placed) (line n : ℕ) → is_target placed n ≡ b → AreEarlier placed (n + 1) (statements_if b placed line n)
+if_is_earlier : (b : Bool) (placed : List PlacedInstr) (line n : ℕ) → is_target placed n ≡ b → AreEarlier placed (n + 1) (statements_if b placed line n)
 if_is_earlier true placed line n t = ((n, omega arith, t, refl), tt)
 if_is_earlier false placed line n t = tt
 
@@ -148,7 +148,7 @@ label_name_of name some =
     let front : length (name ++ codes ":") - 1 ≡ length name = omega (arith, len) in
     rw (long, front, last_byte name, take-append_seam name (codes ":")) refl
 
-label_statement : (version : Version) (placed : List Placed) (line n : ℕ) (before : List Statement) → n ≤ most_program_bytes → AreQuiet before → AreEarlier placed n before
+label_statement : (version : Version) (placed : List PlacedInstr) (line n : ℕ) (before : List Statement) → n ≤ most_program_bytes → AreQuiet before → AreEarlier placed n before
     → statement version before (record { line = line; first = label_of placed n ++ codes ":"; more = [] }) ≡ Ok (record { line = line; label = Some (label_of placed n); command = None })
 unfolding statement
 label_statement version placed line n before le quiet earlier =
@@ -156,7 +156,7 @@ label_statement version placed line n before le quiet earlier =
     let whole = quiet_behind before s (quiet-append before (s ∷ []) quiet (refl, refl, tt)) in
     rw (label_name_of (label_of placed n) (omega arith), label_is_new placed n before le earlier) whole
 
-line_statement : (version : Version) (placed : List Placed) (line : ℕ) (p : Placed) (before : List Statement) → IsOfVersion version p.instr → AreQuiet before
+line_statement : (version : Version) (placed : List PlacedInstr) (line : ℕ) (p : PlacedInstr) (before : List Statement) → IsOfVersion version p.instr → AreQuiet before
     → statement version before (record { line = line; first = name_of p.instr.opcode; more = operands (row_of p.instr.opcode).immediates (target_word placed p.target) p.instr.immediates }) ≡ Ok (instruction_statement placed line p)
 unfolding statement
 line_statement version placed line p before of quiet =
@@ -176,7 +176,7 @@ one_more : (version : Version) (before : List Statement) (l : Words) (ls : List 
 unfolding statements
 one_more version before l ls s e = rw e refl
 
-label_step : (b : Bool) (version : Version) (placed : List Placed) (line n : ℕ) (before : List Statement) (rest : List (List Word)) → n ≤ most_program_bytes → AreQuiet before → AreEarlier placed n before
+label_step : (b : Bool) (version : Version) (placed : List PlacedInstr) (line n : ℕ) (before : List Statement) (rest : List (List Word)) → n ≤ most_program_bytes → AreQuiet before → AreEarlier placed n before
     → statements version before (numbered line (lines_if b placed n ++ rest)) ≡ statements version (before ++ statements_if b placed line n) (numbered (line + length (lines_if b placed n)) rest)
 label_step true version placed line n before rest le quiet earlier =
     one_more version before (record { line = line; first = label_of placed n ++ codes ":"; more = [] }) (numbered (line + 1) rest) _ (label_statement version placed line n before le quiet earlier)
@@ -185,7 +185,7 @@ label_step false version placed line n before rest le quiet earlier =
     rw (append-nil before, same) refl
 
 -- the lines of a listing are read as its statements
-pub statements_are : (version : Version) (placed : List Placed) (line n : ℕ) (ps : List Placed) (before : List Statement) → n + length ps ≤ most_program_bytes → AreOf version ps → AreQuiet before → AreEarlier placed n before
+pub statements_are : (version : Version) (placed : List PlacedInstr) (line n : ℕ) (ps : List PlacedInstr) (before : List Statement) → n + length ps ≤ most_program_bytes → AreOf version ps → AreQuiet before → AreEarlier placed n before
     → statements version before (numbered line (listing_from placed n ps)) ≡ Ok (before ++ listed placed line n ps)
 statements_are version placed line n [] before le of quiet earlier =
     ap (λ ls. statements version before (numbered line ls)) (sym (append-nil (lines_if (is_target placed n) placed n)))

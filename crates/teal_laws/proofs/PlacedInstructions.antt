@@ -17,7 +17,7 @@ use Rattle.teal_code.specs.Reader.{byte_at, varuint_at, string_at, counted_at, i
 use Rattle.teal_code.proofs.Reading.{same_value}
 use Rattle.teal_check.specs.declared.fault.CheckFault.{CheckFault}
 use Rattle.teal_check.specs.declared.fault.CheckFault.TheVariants as fault
-use Rattle.teal_check.specs.declared.program.Placed.{Placed}
+use Rattle.teal_check.specs.declared.program.PlacedInstr.{PlacedInstr}
 use Rattle.teal_check.specs.WellFormed.{WellFormed, has_field, placed_at, placed_from, places, first_index, number_of_place, RisesFrom, resolved_target, immediates_target, target_of, with_targets, checked}
 use Rattle.teal_check.proofs.CheckedPrograms.{is_checked, is_kept, is_placed, length-places, placed_forward}
 use Rattle.teal_check.proofs.Starts.{rises}
@@ -110,7 +110,7 @@ instr_read version [] i rest e h known = absurd cc
 instr_read version (code ∷ bytes) i rest e h known = behind_code version (opcode_in version code) bytes i rest (λ o found. brought version (opcode_at code) o found) e h.1 known
 
 -- an instruction that the checker places is one of the version
-pub placed_is_of : (version : Version) (bytes : List ℕ) (place : ℕ) (p : Placed) → AreBytes bytes → placed_at version bytes place ≡ Ok p → IsOfVersion version p.instr
+pub placed_is_of : (version : Version) (bytes : List ℕ) (place : ℕ) (p : PlacedInstr) → AreBytes bytes → placed_at version bytes place ≡ Ok p → IsOfVersion version p.instr
 placed_is_of version bytes place p h e =
     let is = is_placed version bytes place p e in
     let (i, instr, next) = bind_ok (instr_at version (drop place bytes)) _ _ is.read in
@@ -120,11 +120,11 @@ placed_is_of version bytes place p h e =
 -- ---- instructions one behind another
 
 -- each ends behind its place
-abbrev AreForward : List Placed → Type 0
+abbrev AreForward : List PlacedInstr → Type 0
 AreForward [] = Unit {0}
 AreForward (p ∷ ps) = (p.place < p.next) × AreForward ps
 
-placed_are_of : (n : ℕ) (version : Version) (bytes : List ℕ) (place : ℕ) (ps : List Placed) → AreBytes bytes → place ≤ length bytes → placed_from n version bytes place ≡ Ok ps → AreOf version ps × AreForward ps
+placed_are_of : (n : ℕ) (version : Version) (bytes : List ℕ) (place : ℕ) (ps : List PlacedInstr) → AreBytes bytes → place ≤ length bytes → placed_from n version bytes place ≡ Ok ps → AreOf version ps × AreForward ps
 unfolding placed_from
 placed_are_of zero version bytes place ps h within e = let none : [] ≡ ps = cc in subst (λ qs. AreOf version qs × AreForward qs) none (tt, tt)
 placed_are_of (suc n) version bytes place ps h within e =
@@ -205,19 +205,19 @@ aimed starts end number place next (is.Uint n) t r within stands forward e = no_
 aimed starts end number place next (is.Bytes s) t r within stands forward e = no_target e
 
 -- the instructions from one with a number on stand at these places
-abbrev StandAt : List ℕ → ℕ → List Placed → Type 0
+abbrev StandAt : List ℕ → ℕ → List PlacedInstr → Type 0
 StandAt starts number [] = Unit {0}
 StandAt starts number (p ∷ ps) = (number < length starts) × (get_or starts number 0 ≡ p.place) × (p.place < p.next) × StandAt starts (suc number) ps
 
-one_later : (place : ℕ) (starts : List ℕ) (number : ℕ) (ps : List Placed) → StandAt starts number ps → StandAt (place ∷ starts) (suc number) ps
+one_later : (place : ℕ) (starts : List ℕ) (number : ℕ) (ps : List PlacedInstr) → StandAt starts number ps → StandAt (place ∷ starts) (suc number) ps
 one_later place starts number [] h = tt
 one_later place starts number (p ∷ ps) h = (omega (arith, h.0), h.1, h.2, one_later place starts (suc number) ps h.3)
 
-stand_at : (ps : List Placed) → AreForward ps → StandAt (places ps) 0 ps
+stand_at : (ps : List PlacedInstr) → AreForward ps → StandAt (places ps) 0 ps
 stand_at [] h = tt
 stand_at (p ∷ ps) h = (omega arith, refl, h.0, one_later p.place (places ps) 0 ps (stand_at ps h.1))
 
-all_aimed : (starts : List ℕ) (end number : ℕ) (version : Version) (ps qs : List Placed) → RisesFrom 0 starts → StandAt starts number ps → AreOf version ps → with_targets starts end ps ≡ Ok qs → AreAimed (length starts) number qs × AreOf version qs
+all_aimed : (starts : List ℕ) (end number : ℕ) (version : Version) (ps qs : List PlacedInstr) → RisesFrom 0 starts → StandAt starts number ps → AreOf version ps → with_targets starts end ps ≡ Ok qs → AreAimed (length starts) number qs × AreOf version qs
 unfolding with_targets
 all_aimed starts end number version [] qs r h are e = let none : [] ≡ qs = cc in subst (λ rs. AreAimed (length starts) number rs × AreOf version rs) none (tt, tt)
 all_aimed starts end number version (p ∷ ps) qs r h are e =

@@ -14,7 +14,7 @@ use Rattle.teal_code.specs.declared.instr.Immediates.{Immediates}
 use Rattle.teal_code.specs.declared.instr.Immediates.TheVariants as is
 use Rattle.teal_code.specs.declared.instr.Instr.{Instr}
 use Rattle.teal_code.specs.Limits.{most_program_bytes}
-use Rattle.teal_check.specs.declared.program.Placed.{Placed}
+use Rattle.teal_check.specs.declared.program.PlacedInstr.{PlacedInstr}
 use Rattle.teal_check.specs.WellFormed.{WellFormed}
 use Rattle.teal_text.specs.PlainWords.{is_plain_byte, is_plain_word, is_plain_line, has_comment}
 use Rattle.teal_dis.specs.Listing.{constant, operands, words_of, targets_before, is_target, label_of, label_line, target_word, instruction_line, listing_from, pragma_line, listing_lines}
@@ -128,7 +128,7 @@ line_is_plain version target i is-of t = rw ((name_is_plain i.opcode).0) (operan
 -- ---- labels
 
 -- at most n of the first n instructions are targets
-pub few_targets : (placed : List Placed) (n : ℕ) → targets_before placed n ≤ n
+pub few_targets : (placed : List PlacedInstr) (n : ℕ) → targets_before placed n ≤ n
 unfolding targets_before
 few_targets placed zero = omega arith
 few_targets placed (suc n) = elim (is_target placed n) as (λ b. targets_before placed n + (if b then 1 else 0) ≤ suc n) [
@@ -136,17 +136,17 @@ few_targets placed (suc n) = elim (is_target placed n) as (λ b. targets_before 
   | false ↦ omega (arith, few_targets placed n)
 ]
 
-label_bytes : (placed : List Placed) (n : ℕ) → n ≤ most_program_bytes → list_all is_word_byte (label_of placed n) ≡ true
+label_bytes : (placed : List PlacedInstr) (n : ℕ) → n ≤ most_program_bytes → list_all is_word_byte (label_of placed n) ≡ true
 label_bytes placed n le = (decimal_bytes (targets_before placed n + 1) (omega (arith, le, few_targets placed n))).1
 
-label_is_plain : (placed : List Placed) (n : ℕ) → n ≤ most_program_bytes → is_plain_word (label_of placed n) ≡ true
+label_is_plain : (placed : List PlacedInstr) (n : ℕ) → n ≤ most_program_bytes → is_plain_word (label_of placed n) ≡ true
 label_is_plain placed n le = word_is_plain (label_of placed n) (omega arith) (label_bytes placed n le)
 
-label_word_is_plain : (placed : List Placed) (n : ℕ) → n ≤ most_program_bytes → is_plain_word (label_of placed n ++ codes ":") ≡ true
+label_word_is_plain : (placed : List PlacedInstr) (n : ℕ) → n ≤ most_program_bytes → is_plain_word (label_of placed n ++ codes ":") ≡ true
 label_word_is_plain placed n le =
     word_is_plain (label_of placed n ++ codes ":") (omega arith) (rw (list_all-append is_word_byte (label_of placed n) (codes ":"), label_bytes placed n le) refl)
 
-label_line_is_plain : (placed : List Placed) (n : ℕ) → n ≤ most_program_bytes → list_all is_plain_line (label_line placed n) ≡ true
+label_line_is_plain : (placed : List PlacedInstr) (n : ℕ) → n ≤ most_program_bytes → list_all is_plain_line (label_line placed n) ≡ true
 label_line_is_plain placed n le = elim (is_target placed n) as (λ b. list_all is_plain_line (if b then ((label_of placed n ++ codes ":") ∷ []) ∷ [] else []) ≡ true) [
   | true ↦ rw (label_word_is_plain placed n le) refl
   | false ↦ refl
@@ -154,7 +154,7 @@ label_line_is_plain placed n le = elim (is_target placed n) as (λ b. list_all i
 
 -- ---- all lines
 
-target_is_plain : (placed : List Placed) (count number : ℕ) (m : Immediates) (t : Option ℕ) → count ≤ most_program_bytes → IsAimed count number m t → IsTargetWord m (target_word placed t)
+target_is_plain : (placed : List PlacedInstr) (count number : ℕ) (m : Immediates) (t : Option ℕ) → count ≤ most_program_bytes → IsAimed count number m t → IsTargetWord m (target_word placed t)
 target_is_plain placed count number (is.Offset n) None few a = absurd a
 target_is_plain placed count number (is.Offset n) (Some t) few a = label_is_plain placed t (omega (arith, a.1, few))
 target_is_plain placed count number is.Nothing t few a = tt
@@ -169,7 +169,7 @@ target_is_plain placed count number (is.ByteBlock ss) t few a = tt
 target_is_plain placed count number (is.Uint n) t few a = tt
 target_is_plain placed count number (is.Bytes s) t few a = tt
 
-lines_are_plain : (version : Version) (placed : List Placed) (count n : ℕ) (ps : List Placed) → count ≤ most_program_bytes → n + length ps ≤ most_program_bytes → AreOf version ps → AreAimed count n ps → list_all is_plain_line (listing_from placed n ps) ≡ true
+lines_are_plain : (version : Version) (placed : List PlacedInstr) (count n : ℕ) (ps : List PlacedInstr) → count ≤ most_program_bytes → n + length ps ≤ most_program_bytes → AreOf version ps → AreAimed count n ps → list_all is_plain_line (listing_from placed n ps) ≡ true
 lines_are_plain version placed count n [] few within of aim = label_line_is_plain placed n (omega (arith, within))
 lines_are_plain version placed count n (p ∷ ps) few within of aim =
     let line = line_is_plain version (target_word placed p.target) p.instr of.0 (target_is_plain placed count n p.instr.immediates p.target few aim.0) in

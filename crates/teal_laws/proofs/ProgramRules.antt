@@ -14,19 +14,19 @@ use Rattle.teal_code.specs.declared.instr.Immediates.{Immediates}
 use Rattle.teal_code.specs.declared.instr.Immediates.TheVariants as is
 use Rattle.teal_code.specs.declared.instr.Instr.{Instr}
 use Rattle.teal_code.specs.Varuint.{IsBase128, IsVaruint}
-use Rattle.teal_code.specs.Grammar.{Reads, Spells}
+use Rattle.teal_code.specs.Grammar.{Reads, Encodes}
 use Rattle.teal_code.specs.Reader.{varuint_at}
 use Rattle.teal_code.proofs.Reading.{is_read, varuint_sound, varuint_complete}
 use Rattle.teal_code.specs.Limits.{most_program_bytes, most_cost}
 use Rattle.teal_check.specs.declared.fault.CheckFault.{CheckFault}
-use Rattle.teal_check.specs.declared.program.Placed.{Placed}
+use Rattle.teal_check.specs.declared.program.PlacedInstr.{PlacedInstr}
 use Rattle.teal_check.specs.WellFormed.{WellFormed, on_code, version_of, version_at, placed_at, placed_from, places, number_of_place, RisesFrom, resolved_target, immediates_target, target_of, with_targets, cost_of, checked}
 use Rattle.teal_check.proofs.CheckedPrograms.{coded_ok, is_checked, is_placed, placed_forward, weaken}
 use Rattle.teal_check.proofs.Starts.{index_of-there}
 use Rattle.teal_laws.specs.ProgramRules.{version_number, BeginsWithVersion, StandsAt, StandFrom, Leads, AllLead, IsProgram}
 use Rattle.teal_laws.proofs.Names.{not_left_out}
 use Rattle.teal_laws.proofs.PlacedInstructions.{index_is, some_number}
-use Rattle.teal_laws.proofs.SpelledPrograms.{first_of}
+use Rattle.teal_laws.proofs.EncodedPrograms.{first_of}
 use Rattle.teal_laws.proofs.AssembledListing.{placed_reads}
 use Rattle.teal_laws.proofs.TextCommands.{ok_same}
 
@@ -56,13 +56,13 @@ begins bytes v e =
       front = t.front;
       rest = n.1;
       parts = t.parts;
-      spelled = subst (IsVaruint t.front) (version_is n.0 version numbered ∙ ap (λ (p : Version × ℕ). version_number p.0) same) t.spelled;
+      encoded = subst (IsVaruint t.front) (version_is n.0 version numbered ∙ ap (λ (p : Version × ℕ). version_number p.0) same) t.encoded;
       starts = omega (arith, ap (λ (p : Version × ℕ). p.1) same, ap length t.parts, length-append t.front n.1);
     }
 
 version_there : (bytes : List ℕ) (v : Version) (start : ℕ) → BeginsWithVersion bytes v start → version_at bytes ≡ Ok (v, start)
 version_there bytes v start b =
-    let read : varuint_at bytes ≡ Ok (version_number v, b.rest) = ap varuint_at b.parts ∙ varuint_complete b.front (version_number v) b.rest b.spelled in
+    let read : varuint_at bytes ≡ Ok (version_number v, b.rest) = ap varuint_at b.parts ∙ varuint_complete b.front (version_number v) b.rest b.encoded in
     let reach : length bytes - length b.rest ≡ start = omega (arith, ap length b.parts, length-append b.front b.rest, b.starts) in
     rw (read, version_back v) (ap (λ n. Ok (v, n)) reach)
 
@@ -72,17 +72,17 @@ some_digits (b ∷ front) n h = omega arith
 
 starts_within : (bytes : List ℕ) (v : Version) (start : ℕ) → BeginsWithVersion bytes v start → (0 < length bytes) × (start ≤ length bytes)
 starts_within bytes v start b =
-    let some = some_digits b.front (version_number v) b.spelled.digits in
+    let some = some_digits b.front (version_number v) b.encoded.digits in
     (omega (arith, some, ap length b.parts, length-append b.front b.rest), omega (arith, ap length b.parts, length-append b.front b.rest, b.starts))
 
 -- ---- instructions
 
-stands_at : (version : Version) (bytes : List ℕ) (place : ℕ) (p : Placed) → place ≤ length bytes → placed_at version bytes place ≡ Ok p → StandsAt version bytes place p
+stands_at : (version : Version) (bytes : List ℕ) (place : ℕ) (p : PlacedInstr) → place ≤ length bytes → placed_at version bytes place ≡ Ok p → StandsAt version bytes place p
 stands_at version bytes place p within e =
     let is = is_placed version bytes place p e in
     record { here = is.here; reads = placed_reads version bytes place p within e; field = is.field }
 
-stand_from : (n : ℕ) (version : Version) (bytes : List ℕ) (place : ℕ) (ps : List Placed) → place ≤ length bytes → length bytes ≤ place + n → placed_from n version bytes place ≡ Ok ps → StandFrom version bytes place ps
+stand_from : (n : ℕ) (version : Version) (bytes : List ℕ) (place : ℕ) (ps : List PlacedInstr) → place ≤ length bytes → length bytes ≤ place + n → placed_from n version bytes place ≡ Ok ps → StandFrom version bytes place ps
 unfolding placed_from
 stand_from zero version bytes place ps within enough e =
     let none : [] ≡ ps = cc in
@@ -100,13 +100,13 @@ stand_from (suc n) version bytes place ps within enough e =
           subst (StandFrom version bytes place) same (stands_at version bytes place p within first, later)
     ]
 
-spelled_some : (version : Version) (text : List ℕ) (i : Instr) → Spells version text i → 0 < length text
-spelled_some version [] i h = absurd h
-spelled_some version (code ∷ text) i h = omega arith
+encoded_some : (version : Version) (text : List ℕ) (i : Instr) → Encodes version text i → 0 < length text
+encoded_some version [] i h = absurd h
+encoded_some version (code ∷ text) i h = omega arith
 
 reads_forward : (version : Version) (bytes : List ℕ) (place : ℕ) (i : Instr) (next : ℕ) → Reads version bytes place i next → (place < next) × (next ≤ length bytes)
-reads_forward version bytes place i next (text, rest, parts, spells, reach) =
-    let some = spelled_some version text i spells in
+reads_forward version bytes place i next (text, rest, parts, encodes, reach) =
+    let some = encoded_some version text i encodes in
     (omega (arith, some, reach), omega (arith, some, reach, ap length parts, length-append text rest, length-drop place bytes))
 
 found_at : (version : Version) (found : Option Opcode) (o : Opcode) → only_in version found ≡ Some o → found ≡ Some o
@@ -118,16 +118,16 @@ found_at version (Some q) o e =
     ]
 
 in_profile : (version : Version) (bytes : List ℕ) (place : ℕ) (i : Instr) (next : ℕ) → Reads version bytes place i next → is_some (left_out_at (get_or bytes place 0)) ≡ false
-in_profile version bytes place i next ([], rest, parts, spells, reach) = absurd spells
-in_profile version bytes place i next (code ∷ text, rest, parts, spells, reach) =
-    let code_is = code_of-opcode_at code i.opcode (found_at version (opcode_at code) i.opcode spells.0) in
+in_profile version bytes place i next ([], rest, parts, encodes, reach) = absurd encodes
+in_profile version bytes place i next (code ∷ text, rest, parts, encodes, reach) =
+    let code_is = code_of-opcode_at code i.opcode (found_at version (opcode_at code) i.opcode encodes.0) in
     ap (λ c. is_some (left_out_at c)) (first_of place bytes code (text ++ rest) parts ∙ sym code_is) ∙ not_left_out i.opcode
 
 -- an instruction before its target is found
-abbrev bare : Placed → Placed
+abbrev bare : PlacedInstr → PlacedInstr
 bare p = record p { target = None }
 
-placed_there : (version : Version) (bytes : List ℕ) (place : ℕ) (p : Placed) → StandsAt version bytes place p → placed_at version bytes place ≡ Ok (bare p)
+placed_there : (version : Version) (bytes : List ℕ) (place : ℕ) (p : PlacedInstr) → StandsAt version bytes place p → placed_at version bytes place ≡ Ok (bare p)
 unfolding placed_at
 placed_there version bytes place p s =
     let inside = in_profile version bytes place p.instr p.next s.reads in
@@ -135,7 +135,7 @@ placed_there version bytes place p s =
     let field = s.field in
     rw (inside, read, field) (ap (λ n. Ok (record { place = n; next = p.next; instr = p.instr; target = None })) (sym s.here))
 
-placed_from_there : (n : ℕ) (version : Version) (bytes : List ℕ) (place : ℕ) (ps : List Placed) → length bytes ≤ place + n → StandFrom version bytes place ps → placed_from n version bytes place ≡ Ok (map bare ps)
+placed_from_there : (n : ℕ) (version : Version) (bytes : List ℕ) (place : ℕ) (ps : List PlacedInstr) → length bytes ≤ place + n → StandFrom version bytes place ps → placed_from n version bytes place ≡ Ok (map bare ps)
 unfolding placed_from
 placed_from_there zero version bytes place [] enough h = refl
 placed_from_there (suc n) version bytes place [] enough h =
@@ -152,18 +152,18 @@ placed_from_there (suc n) version bytes place (p ∷ ps) enough h =
     let more = placed_from_there n version bytes p.next ps (omega (arith, enough, forward.0)) h.1 in
     rw (test, first, more) refl
 
-places_bare : (ps : List Placed) → places (map bare ps) ≡ places ps
+places_bare : (ps : List PlacedInstr) → places (map bare ps) ≡ places ps
 places_bare [] = refl
 places_bare (p ∷ ps) = ap (λ xs. p.place ∷ xs) (places_bare ps)
 
 -- the places rise, and all are before the end
-rising : (version : Version) (bytes : List ℕ) (place : ℕ) (ps : List Placed) → StandFrom version bytes place ps → RisesFrom place (places ps)
+rising : (version : Version) (bytes : List ℕ) (place : ℕ) (ps : List PlacedInstr) → StandFrom version bytes place ps → RisesFrom place (places ps)
 rising version bytes place [] h = tt
 rising version bytes place (p ∷ ps) h =
     let forward = reads_forward version bytes place p.instr p.next h.0.reads in
     (omega (arith, h.0.here), weaken (p.place + 1) p.next (places ps) (omega (arith, forward.0, h.0.here)) (rising version bytes p.next ps h.1))
 
-before_end : (version : Version) (bytes : List ℕ) (place : ℕ) (ps : List Placed) (k : ℕ) → StandFrom version bytes place ps → k < length (places ps) → get_or (places ps) k 0 < length bytes
+before_end : (version : Version) (bytes : List ℕ) (place : ℕ) (ps : List PlacedInstr) (k : ℕ) → StandFrom version bytes place ps → k < length (places ps) → get_or (places ps) k 0 < length bytes
 before_end version bytes place [] k h lt = absurd (omega (arith, lt))
 before_end version bytes place (p ∷ ps) zero h lt =
     let forward = reads_forward version bytes place p.instr p.next h.0.reads in
@@ -223,7 +223,7 @@ leads starts end place next (is.Uint n) t e = no_target e
 leads starts end place next (is.Bytes s) t e = no_target e
 
 -- with their targets, instructions stand where they stood
-all_lead : (starts : List ℕ) (end : ℕ) (version : Version) (bytes : List ℕ) (place : ℕ) (ps qs : List Placed) → with_targets starts end ps ≡ Ok qs → StandFrom version bytes place ps → AllLead starts end qs × StandFrom version bytes place qs
+all_lead : (starts : List ℕ) (end : ℕ) (version : Version) (bytes : List ℕ) (place : ℕ) (ps qs : List PlacedInstr) → with_targets starts end ps ≡ Ok qs → StandFrom version bytes place ps → AllLead starts end qs × StandFrom version bytes place qs
 unfolding with_targets
 all_lead starts end version bytes place [] qs e h = let none : [] ≡ qs = cc in subst (λ rs. AllLead starts end rs × StandFrom version bytes place rs) none (tt, h)
 all_lead starts end version bytes place (p ∷ ps) qs e h =
@@ -274,7 +274,7 @@ target_there starts end place next (is.ByteBlock ss) t rises before h = some_tar
 target_there starts end place next (is.Uint n) t rises before h = some_target h
 target_there starts end place next (is.Bytes s) t rises before h = some_target h
 
-targets_there : (starts : List ℕ) (end : ℕ) (ps : List Placed) → RisesFrom 0 starts → AreBefore starts end → AllLead starts end ps → with_targets starts end (map bare ps) ≡ Ok ps
+targets_there : (starts : List ℕ) (end : ℕ) (ps : List PlacedInstr) → RisesFrom 0 starts → AreBefore starts end → AllLead starts end ps → with_targets starts end (map bare ps) ≡ Ok ps
 unfolding with_targets
 targets_there starts end [] rises before h = refl
 targets_there starts end (p ∷ ps) rises before h =

@@ -19,7 +19,7 @@ use Rattle.teal_table.specs.Fields.{txn_field_at}
 use Rattle.teal_code.specs.declared.instr.Immediates.{Immediates}
 use Rattle.teal_code.specs.declared.instr.Immediates.TheVariants as is
 use Rattle.teal_code.specs.Varuint.{varuint}
-use Rattle.teal_code.specs.Spelling.{prefixed, immediates_spelling}
+use Rattle.teal_code.specs.Encoding.{prefixed, immediates_encoding}
 use Rattle.teal_check.specs.WellFormed.{is_scalar, is_array_field}
 use Rattle.teal_text.specs.Numbers.{base_of, digits_of, is_numeral, numeral_value}
 use Rattle.teal_source.specs.declared.command.Command.{Command}
@@ -36,7 +36,7 @@ use Rattle.teal_laws.proofs.Forms as form
 use Rattle.teal_laws.proofs.FieldNames.{scalar_asked, array_asked, global_asked}
 use Rattle.teal_laws.proofs.Names.{Alone, alone}
 use Rattle.teal_laws.proofs.PlacedInstructions.{brought}
-use Rattle.teal_laws.proofs.Spellings.{front_bytes}
+use Rattle.teal_laws.proofs.Encodings.{front_bytes}
 
 -- ---- a form with bytes is a shape
 
@@ -46,8 +46,8 @@ strings_are (s ∷ ss) h =
     let both = front_bytes (prefixed s) (flat_map prefixed ss) h in
     (each_is s (front_bytes (varuint (length s)) s both.0).1, strings_are ss both.1)
 
--- immediates whose spelling is bytes have their numbers in range
-pub shape_of : (version : Version) {s : Shape} {m : Immediates} → HasForm version s m → AreBytes (immediates_spelling m) → HasShape version s m
+-- immediates whose encoding is bytes have their numbers in range
+pub shape_of : (version : Version) {s : Shape} {m : Immediates} → HasForm version s m → AreBytes (immediates_encoding m) → HasShape version s m
 shape_of version form.nothing h = listed.nothing
 shape_of version form.index h = listed.index (omega (arith, h.0))
 shape_of version (form.txn k) h = listed.txn k

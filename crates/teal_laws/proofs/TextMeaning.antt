@@ -1,4 +1,4 @@
--- What a text means is instructions of its version, and a program that it spells means the same.
+-- What a text means is instructions of its version, and a program that it encodes means the same.
 use Rattle.std.proofs.Common.{◌≡◌, ◌∙◌, refl, sym, ap, subst, ℕ, suc, ◌+◌, ◌<◌, ◌≤◌, ◌^◌, Bool, true, false, cond, eqb, ltb, List, [], ◌∷◌, ◌++◌, length, length-append, Option, Some, None, Result, Ok, Err, inl, inr, arith}
 use Rattle.std.specs.Prelude.{◌↔◌, IfErr, nat_le, nat_eq}
 use Rattle.std.specs.List.{list_any, flat_map, position_or_len}
@@ -17,7 +17,7 @@ use Rattle.teal_code.specs.declared.instr.Immediates.TheVariants as is
 use Rattle.teal_code.specs.Limits.{most_program_bytes, most_cost}
 use Rattle.teal_check.specs.declared.fault.CheckFault.{CheckFault}
 use Rattle.teal_check.specs.declared.fault.CheckFault.TheVariants as fault
-use Rattle.teal_check.specs.declared.program.Placed.{Placed}
+use Rattle.teal_check.specs.declared.program.PlacedInstr.{PlacedInstr}
 use Rattle.teal_check.specs.WellFormed.{WellFormed, cost_of, affordable, checked}
 use Rattle.teal_dis.specs.Listing.{listing}
 use Rattle.teal_text.specs.Lines.{lines_of}
@@ -30,7 +30,7 @@ use Rattle.teal_source.specs.Commands.{command}
 use Rattle.teal_source.specs.Statements.{Words, on_line, on_text, words_of_lines, pragma_version, is_pragma, gathered_uint, gathered_uints, gathered_strings, with_new, distinct, mixes_blocks, gathers_too_many, behind, has_label, label_name, optional_command, labelled, statement, statements}
 use Rattle.teal_asm.specs.Thinned.{command_count}
 use Rattle.teal_asm.specs.Meaning.{Meant, Straight, Branch, Meaning, commands_in, label_entry, labels_from, label_number, uint_block_in_front, byte_block_in_front, gathered_blocks, read_uint_constant, read_byte_constant, branch, instruction, optional_instruction, instructions, all_instructions, meaning_of_lines, meaning}
-use Rattle.teal_asm.specs.Program.{total_size, instruction_spelling, spelling, program, short_program, line_count, assembled}
+use Rattle.teal_asm.specs.Program.{total_size, instruction_encoding, encoding, program, short_program, line_count, assembled}
 use Rattle.teal_laws.specs.Listed.{AreUints, HasShape}
 use Rattle.teal_laws.specs.Listed as listed
 use Rattle.teal_laws.specs.ListedMeaning.{IsNoOffset, program_meaning, IsMeant, AreMeant}
@@ -40,8 +40,8 @@ use Rattle.teal_laws.proofs.Forms.{HasForm}
 use Rattle.teal_laws.proofs.Forms as form
 use Rattle.teal_laws.proofs.TextCommands.{IsAsked, command_asked, ok_same, shape_of, two_has}
 use Rattle.teal_laws.proofs.PlacedInstructions.{is_listed}
-use Rattle.teal_laws.proofs.Spellings.{front_bytes}
-use Rattle.teal_laws.proofs.SpelledPrograms.{aimed_at, program_checks, meant_back}
+use Rattle.teal_laws.proofs.Encodings.{front_bytes}
+use Rattle.teal_laws.proofs.EncodedPrograms.{aimed_at, program_checks, meant_back}
 use Rattle.teal_laws.proofs.AssembledListing.{placed_cost, program_length}
 use Rattle.teal_laws.proofs.ListingMeaning.{listing_means}
 
@@ -262,20 +262,20 @@ meaning_loose text m e =
 
 -- ---- with bytes
 
-one_meant : (version : Version) (count number : ℕ) (m : Meant) (rest : List Meant) → IsLoose version count number m → AreBytes (instruction_spelling number m rest) → IsMeant version count number m
+one_meant : (version : Version) (count number : ℕ) (m : Meant) (rest : List Meant) → IsLoose version count number m → AreBytes (instruction_encoding number m rest) → IsMeant version count number m
 one_meant version count number (Straight o m) rest h bytes = (record { opcode = h.0; immediates = shape_of version h.1 bytes.1 }, h.2)
 one_meant version count number (Branch o t) rest h bytes = (λ n. record { opcode = h.0; immediates = subst (λ s. HasShape version s (is.Offset n)) (sym h.1) listed.offset }, h.2, h.3)
 
-all_meant : (version : Version) (count number : ℕ) (ms : List Meant) → AreLoose version count number ms → AreBytes (spelling number ms) → AreMeant version count number ms
-unfolding spelling
+all_meant : (version : Version) (count number : ℕ) (ms : List Meant) → AreLoose version count number ms → AreBytes (encoding number ms) → AreMeant version count number ms
+unfolding encoding
 all_meant version count number [] h bytes = tt
 all_meant version count number (m ∷ ms) h bytes =
-    let both = front_bytes (instruction_spelling number m ms) (spelling (number + 1) ms) bytes in
+    let both = front_bytes (instruction_encoding number m ms) (encoding (number + 1) ms) bytes in
     (one_meant version count number m ms h.0 both.0, all_meant version count (number + 1) ms h.1 both.1)
 
-spelled_bytes : (m : Meaning) → AreBytes (program m) → AreBytes (spelling 0 m.instructions)
+encoded_bytes : (m : Meaning) → AreBytes (program m) → AreBytes (encoding 0 m.instructions)
 unfolding program
-spelled_bytes m h = h.1
+encoded_bytes m h = h.1
 
 -- ---- the law
 
@@ -300,7 +300,7 @@ assembled_checks text bytes are e =
     let (m, means, last) = bind_ok (meaning text) _ _ e in
     let s = short_is (line_count text) (program m) bytes last in
     let in_bytes : AreBytes (program m) = subst AreBytes (sym s.0) (are_each bytes are) in
-    let meant = all_meant m.version (length m.instructions) 0 m.instructions (meaning_loose text m means) (spelled_bytes m in_bytes) in
+    let meant = all_meant m.version (length m.instructions) 0 m.instructions (meaning_loose text m means) (encoded_bytes m in_bytes) in
     let short : 1 + total_size m.instructions ≤ most_program_bytes = omega (arith, program_length m, s.1) in
     (m, means, ap checked (sym s.0) ∙ program_checks m meant short)
 
@@ -319,7 +319,7 @@ same_meaning text bytes w are e c = listing_means w (is_listed bytes w are c) �
 aimed_cost : (m : Meaning) → cost_of (aimed_at 1 0 m.instructions) ≡ meant_cost m.instructions
 aimed_cost m = sym (placed_cost (aimed_at 1 0 m.instructions)) ∙ ap meant_cost (meant_back 1 0 m.instructions)
 
-only_dear : (version : Version) (bytes : List ℕ) (ps : List Placed) → IfErr (affordable version bytes ps) (λ f. f ≡ fault.Cost)
+only_dear : (version : Version) (bytes : List ℕ) (ps : List PlacedInstr) → IfErr (affordable version bytes ps) (λ f. f ≡ fault.Cost)
 only_dear version bytes ps = elim (ltb most_cost (cost_of ps)) as (λ b. IfErr {T = WellFormed} {E = CheckFault} (cond b (Err fault.Cost) (Ok (record { version = version; bytes = bytes; placed = ps; cost = cost_of ps }))) (λ f. f ≡ fault.Cost)) [ true ↦ refl | false ↦ tt ]
 
 -- the checker refuses the program of a text only for its cost
@@ -328,7 +328,7 @@ only_cost text bytes are e =
     let (m, means, checks) = assembled_checks text bytes are e in
     subst (λ (r : Result WellFormed CheckFault). IfErr r (λ f. f ≡ fault.Cost)) (sym checks) (only_dear m.version (program m) (aimed_at 1 0 m.instructions))
 
-dear_is : (version : Version) (bytes : List ℕ) (ps : List Placed) → (affordable version bytes ps ≡ Err fault.Cost) ↔ (most_cost < cost_of ps)
+dear_is : (version : Version) (bytes : List ℕ) (ps : List PlacedInstr) → (affordable version bytes ps ≡ Err fault.Cost) ↔ (most_cost < cost_of ps)
 dear_is version bytes ps = (
   λ e. elim (chosen (ltb most_cost (cost_of ps)) _ _ _ e) [ inl (more, bad) ↦ ltb-true most_cost (cost_of ps) more | inr (fits, one) ↦ absurd cc ],
   λ more. let test : ltb most_cost (cost_of ps) ≡ true = lt-ltb most_cost (cost_of ps) more in rw test refl,

@@ -1,7 +1,7 @@
 pub mod Listed
 pub mod ListedMeaning
 pub mod AssembledListing
-pub mod ShortestSpelling
+pub mod ShortestEncoding
 pub mod TextCost
 pub mod ProgramRules
 pub mod TextRelation

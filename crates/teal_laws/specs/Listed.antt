@@ -11,7 +11,7 @@ use Rattle.teal_code.specs.declared.instr.Immediates.{Immediates}
 use Rattle.teal_code.specs.declared.instr.Immediates.TheVariants as is
 use Rattle.teal_code.specs.declared.instr.Instr.{Instr}
 use Rattle.teal_code.specs.Limits.{most_program_bytes}
-use Rattle.teal_check.specs.declared.program.Placed.{Placed}
+use Rattle.teal_check.specs.declared.program.PlacedInstr.{PlacedInstr}
 use Rattle.teal_check.specs.WellFormed.{WellFormed, is_scalar, is_array_field, is_global}
 use Rattle.teal_source.specs.declared.command.Command.{Command}
 use Rattle.teal_source.specs.declared.command.Command.TheVariants.{Jump, Plain}
@@ -52,7 +52,7 @@ abbrev pub command_of : Opcode → List ℕ → Immediates → Command
 command_of o target (is.Offset n) = Jump o target
 command_of o target immediates = Plain o immediates
 
-abbrev pub AreOf : Version → List Placed → Type 0
+abbrev pub AreOf : Version → List PlacedInstr → Type 0
 AreOf version [] = Unit {0}
 AreOf version (p ∷ ps) = IsOfVersion version p.instr × AreOf version ps
 
@@ -63,7 +63,7 @@ IsAimed count number (is.Offset n) None = ⊥
 IsAimed count number _ target = target ≡ None
 
 -- instructions from the one with a number on
-abbrev pub AreAimed : ℕ → ℕ → List Placed → Type 0
+abbrev pub AreAimed : ℕ → ℕ → List PlacedInstr → Type 0
 AreAimed count number [] = Unit {0}
 AreAimed count number (p ∷ ps) = IsAimed count number p.instr.immediates p.target × AreAimed count (number + 1) ps
 

@@ -4,7 +4,7 @@ use Rattle.teal_table.specs.declared.opcode.Opcode.{Opcode}
 use Rattle.teal_table.specs.declared.shape.Version.{Version}
 use Rattle.teal_code.specs.declared.instr.Immediates.{Immediates}
 use Rattle.teal_code.specs.declared.instr.Immediates.TheVariants as is
-use Rattle.teal_check.specs.declared.program.Placed.{Placed}
+use Rattle.teal_check.specs.declared.program.PlacedInstr.{PlacedInstr}
 use Rattle.teal_check.specs.WellFormed.{WellFormed}
 use Rattle.teal_laws.specs.Listed.{IsOfVersion}
 use Rattle.teal_asm.specs.Meaning.{Meant, Straight, Branch, Meaning}
@@ -18,7 +18,7 @@ abbrev pub meant_with : Option ℕ → Opcode → Immediates → Meant
 meant_with None o immediates = Straight o immediates
 meant_with (Some target) o immediates = Branch o target
 
-abbrev pub meant_of : Placed → Meant
+abbrev pub meant_of : PlacedInstr → Meant
 meant_of p = meant_with p.target p.instr.opcode p.instr.immediates
 
 abbrev pub program_meaning : WellFormed → Meaning
@@ -34,7 +34,7 @@ abbrev pub AreMeant : Version → ℕ → ℕ → List Meant → Type 0
 AreMeant version count number [] = Unit {0}
 AreMeant version count number (m ∷ ms) = IsMeant version count number m × AreMeant version count (number + 1) ms
 
--- Two programs have the same instructions where their opcodes and immediates are equal one by one, whatever their spelling,
+-- Two programs have the same instructions where their opcodes and immediates are equal one by one, whatever their encoding,
 -- and branches lead to instructions of the same number.
 abbrev pub SameInstructions : WellFormed → WellFormed → Type 0
 SameInstructions p q = map meant_of p.placed ≡ map meant_of q.placed

@@ -8,7 +8,7 @@ use Rattle.teal_code.specs.declared.instr.Immediates.TheVariants as is
 use Rattle.teal_code.specs.Varuint.{IsVaruint}
 use Rattle.teal_code.specs.Grammar.{Reads}
 use Rattle.teal_code.specs.Limits.{most_program_bytes, most_cost}
-use Rattle.teal_check.specs.declared.program.Placed.{Placed}
+use Rattle.teal_check.specs.declared.program.PlacedInstr.{PlacedInstr}
 use Rattle.teal_check.specs.WellFormed.{WellFormed, has_field, places, cost_of}
 
 abbrev pub version_number : Version → ℕ
@@ -20,17 +20,17 @@ pub record BeginsWithVersion (bytes : List ℕ) (version : Version) (start : ℕ
   pub front : List ℕ
   pub rest : List ℕ
   pub parts : bytes ≡ front ++ rest
-  pub spelled : IsVaruint front (version_number version)
+  pub encoded : IsVaruint front (version_number version)
   pub starts : start ≡ length front
 
 -- the grammar has the instruction at the place, and its opcode reads the field
-pub record StandsAt (version : Version) (bytes : List ℕ) (place : ℕ) (p : Placed) : Type 0 where
+pub record StandsAt (version : Version) (bytes : List ℕ) (place : ℕ) (p : PlacedInstr) : Type 0 where
   pub here : p.place ≡ place
   pub reads : Reads version bytes place p.instr p.next
   pub field : has_field version (row_of p.instr.opcode).immediates p.instr.immediates ≡ true
 
 -- instructions one behind another, from a place to the end
-abbrev pub StandFrom : Version → List ℕ → ℕ → List Placed → Type 0
+abbrev pub StandFrom : Version → List ℕ → ℕ → List PlacedInstr → Type 0
 StandFrom version bytes place [] = place ≡ length bytes
 StandFrom version bytes place (p ∷ ps) = StandsAt version bytes place p × StandFrom version bytes p.next ps
 
@@ -40,7 +40,7 @@ Leads starts end next (is.Offset n) None = ⊥
 Leads starts end next (is.Offset n) (Some target) = (n ≤ 32767) × (target ≤ length starts) × (slice_index_or starts target end ≡ next + n)
 Leads starts end next _ target = target ≡ None
 
-abbrev pub AllLead : List ℕ → ℕ → List Placed → Type 0
+abbrev pub AllLead : List ℕ → ℕ → List PlacedInstr → Type 0
 AllLead starts end [] = Unit {0}
 AllLead starts end (p ∷ ps) = Leads starts end p.next p.instr.immediates p.target × AllLead starts end ps
 

@@ -5,9 +5,9 @@ ghost use Rattle.base64.specs.GeneralPurpose.{IsBytes};
 ghost use Rattle.teal_table.specs.declared.shape.Version.{Version};
 ghost use Rattle.teal_table.specs.Table.{name_of, row_of};
 ghost use Rattle.teal_code.specs.declared.instr.Instr.{Instr};
-ghost use Rattle.teal_code.specs.Grammar.{Spells};
+ghost use Rattle.teal_code.specs.Grammar.{Encodes};
 ghost use Rattle.teal_code.specs.Reader.{read_at};
-ghost use Rattle.teal_code.specs.Spelling.{instr_spelling};
+ghost use Rattle.teal_code.specs.Encoding.{instr_encoding};
 ghost use Rattle.teal_code.specs.Limits.{most_cost};
 ghost use Rattle.teal_check.specs.declared.fault.CheckFault.TheVariants.{Cost};
 ghost use Rattle.teal_check.specs.WellFormed.{WellFormed, checked};
@@ -21,22 +21,22 @@ ghost use Rattle.teal_laws.specs.AssembledListing.{AssemblesBack};
 ghost use Rattle.teal_laws.specs.Listed.{IsListed, IsOfVersion, command_of};
 ghost use Rattle.teal_laws.specs.ListedMeaning.{program_meaning};
 ghost use Rattle.teal_laws.specs.ProgramRules.{IsProgram};
-ghost use Rattle.teal_laws.specs.ShortestSpelling.{IsShortOffset, IsShortest};
+ghost use Rattle.teal_laws.specs.ShortestEncoding.{IsShortOffset, IsShortest};
 ghost use Rattle.teal_laws.specs.TextCost.{meant_cost};
 ghost use Rattle.teal_laws.specs.TextRelation.{IsWhatItSays};
 ghost use Rattle.teal_laws.specs.TextRules.{AreSaidIn, FitTogether, IsFirstFault};
 
-/// What `encode_into` writes of an instruction is its shortest spelling, where bytes spell it at all: so it is for one that
+/// What `encode_into` writes of an instruction is its shortest encoding, where bytes encode it at all: so it is for one that
 /// was read, and for one of the version whose numbers are in their range.
 pub fn encodings_are_shortest()
-    ensures spelled { (version : Version) (text : List ℕ) (i : Instr)
-        → IsBytes text → Spells version text i → IsShortest version i (instr_spelling i) }
+    ensures encoded { (version : Version) (text : List ℕ) (i : Instr)
+        → IsBytes text → Encodes version text i → IsShortest version i (instr_encoding i) }
     ensures read { (version : Version) (bytes : List ℕ) (place : ℕ) (i : Instr) (next : ℕ)
         → IsBytes bytes
-        → read_at version bytes place ≡ Ok (i, next) → IsShortest version i (instr_spelling i) }
+        → read_at version bytes place ≡ Ok (i, next) → IsShortest version i (instr_encoding i) }
     ensures of_version { (version : Version) (i : Instr)
         → IsOfVersion version i → IsShortOffset i.immediates
-        → length (instr_spelling i) < 2 ^ 64 → IsShortest version i (instr_spelling i) }
+        → length (instr_encoding i) < 2 ^ 64 → IsShortest version i (instr_encoding i) }
 {}
 
 /// Bytes are accepted exactly where the rules of programs hold of them and a program: the version's number in front, then

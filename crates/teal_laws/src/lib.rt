@@ -3,7 +3,7 @@
 //!
 //! `specs/Listed.antt` says what a program's instructions have in common, and `specs/ListedMeaning.antt` what a program
 //! means, in the words in which `teal_asm` says what a text means. `specs/AssembledListing.antt` says what it is for a
-//! listing to assemble back, `specs/ShortestSpelling.antt` for a spelling to be the shortest.
+//! listing to assemble back, `specs/ShortestEncoding.antt` for an encoding to be the shortest.
 //! `specs/ProgramRules.antt` has the rules of programs as a relation, `specs/TextRelation.antt` what a text means as one, and
 //! `specs/TextRules.antt` which texts have a meaning, and what the first fault of the others is.
 #![tactic(auto)]

@@ -16,7 +16,7 @@ use Rattle.teal_text.specs.Strings.{string_value}
 abbrev pub IsBase64 : List ℕ → List ℕ → Type 0
 IsBase64 text bytes = (text ≡ base64.encode_of standard bytes) ⊎ (text ≡ base64.encode_of standard_no_pad bytes)
 
--- the bytes of which a text is such a spelling
+-- the bytes of which a text is such an encoding
 unfoldable pub base64_bytes : List ℕ → Option (List ℕ)
 base64_bytes text = or_else (result_ok (base64.decode_of standard text)) (result_ok (base64.decode_of standard_no_pad text))
 
@@ -27,7 +27,7 @@ is_base32_name word = bytes_eq word (codes "base32") || bytes_eq word (codes "b3
 unfoldable pub names_encoding : List ℕ → Bool
 names_encoding word = is_base64_name word || is_base32_name word
 
--- the bytes that a text spells in the encoding of this name
+-- the bytes that a text is in the encoding of this name
 unfoldable pub encoded_bytes : List ℕ → List ℕ → Option (List ℕ)
 encoded_bytes name text =
     if is_base64_name name then base64_bytes text

@@ -65,7 +65,7 @@ pub fn token_bytes(alloc: Global, token: &[u8]) -> Result<Option<Vec<u8>>, Alloc
     }
 }
 
-/// The bytes that a text spells in the encoding of this name.
+/// The bytes that a text is in the encoding of this name.
 #[tactic(auto, unfolding(crate::specs::Literals::encoded_bytes))]
 pub fn encoded_bytes(alloc: Global, name: &[u8], text: &[u8]) -> Result<Option<Vec<u8>>, AllocError>
     ensures { IfOk result (λ o. option_map (λ v. v.items) o ≡ encoded_bytes name.now text.now) }
@@ -79,7 +79,7 @@ pub fn encoded_bytes(alloc: Global, name: &[u8], text: &[u8]) -> Result<Option<V
     }
 }
 
-/// The bytes that a text spells in base64 of the standard alphabet (RFC 4648, section 4), with its padding complete or
+/// The bytes that a text is in base64 of the standard alphabet (RFC 4648, section 4), with its padding complete or
 /// absent and its spare bits 0.
 #[tactic(auto, unfolding(crate::specs::Literals::base64_bytes))]
 pub fn base64_bytes(alloc: Global, text: &[u8]) -> Result<Option<Vec<u8>>, AllocError>

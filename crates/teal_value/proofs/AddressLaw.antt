@@ -8,7 +8,7 @@ use Rattle.std.proofs.lemmas.Slice.Eq.{bytes_eq-Decides}
 use Rattle.std.proofs.lemmas.Bool.{cases_lt, and_parts}
 use Rattle.std.proofs.lemmas.Bool.Decides.{nat_tests}
 use Rattle.teal_value.specs.declared.address.Address.{Address}
-use Rattle.teal_value.specs.declared.address_spelling.AddressFault.{AddressFault}
+use Rattle.teal_value.specs.declared.address_encoding.AddressFault.{AddressFault}
 use Rattle.teal_value.specs.declared.base32.BadText.{BadText}
 use Rattle.teal_value.specs.Base32.{symbol, groups, base32, padding, IsBytes, base32_decoded}
 use Rattle.teal_value.specs.AddressText.{checksum, address_text, address_before_checksum, address_in, address_of}
@@ -55,7 +55,7 @@ reads key sum key_len sum_len key_bytes sum_bytes e =
     rw (← e, read, text_len bytes len, len) (address_of_parts key sum bytes front back e)
 
 -- what the bytes of a text that reads as an address are
-record IsSpelled (n : ℕ) (r : Result (List ℕ) BadText) (a : Address) : Type 0 where
+record IsEncoded (n : ℕ) (r : Result (List ℕ) BadText) (a : Address) : Type 0 where
   bytes : List ℕ
   read : r ≡ Ok bytes
   symbols : n ≡ 58
@@ -70,9 +70,9 @@ abbrev key_of : Result Address AddressFault → List ℕ
 key_of (Ok a) = a.0
 key_of (Err f) = []
 
-spelled : (n : ℕ) (r : Result (List ℕ) BadText) (a : Address) → address_in n r ≡ Ok a → IsSpelled n r a
-spelled n (Err f) a e = absurd cc
-spelled n (Ok bytes) a e =
+encoded : (n : ℕ) (r : Result (List ℕ) BadText) (a : Address) → address_in n r ≡ Ok a → IsEncoded n r a
+encoded n (Err f) a e = absurd cc
+encoded n (Ok bytes) a e =
     let lens = passed _ _ _ a e in
     let two = and_parts (eqb n 58) (eqb (length bytes) 36) lens.0 in
     let sums = passed _ _ _ a lens.1 in
@@ -89,7 +89,7 @@ spelled n (Ok bytes) a e =
 pub only : (text : List ℕ) (a : Address) → address_of text ≡ Ok a → text ≡ address_text a
 unfolding address_text address_of
 only text a e =
-    let s = spelled (length text) (base32_decoded text) a e in
+    let s = encoded (length text) (base32_decoded text) a e in
     let len = text_len s.bytes s.count in
     elim (base32_law.reads_back text s.bytes s.read).1 [
       | inl bare ↦ bare ∙ ap base32 (sym s.same)

@@ -1,4 +1,4 @@
--- A text reads as bytes exactly where it is a spelling of them.
+-- A text reads as bytes exactly where it is an encoding of them.
 use Rattle.std.proofs.Common.{◌≡◌, ◌⊎◌, ℕ, zero, suc, ◌<◌, Bool, true, false, cond, eqb, List, [], ◌∷◌, ◌++◌, length, map, take, drop, codes, Ok, Err, refl, sym, ap, ◌∙◌, inl, inr, arith, rules}
 use Rattle.std.specs.List.{AllByRecursion}
 use Rattle.std.specs.Str.{bytes_eq}
@@ -49,21 +49,21 @@ equal xs = (bytes_eq-Decides xs xs).1 refl
 read : (text front rest bytes : List ℕ) (n : ℕ) → symbol_count text ≡ n → take n text ≡ front → drop n text ≡ rest → bytes_of_digits (map group_of front) ≡ bytes → base32 bytes ≡ front → is_tail n rest ≡ true
     → base32_decoded text ≡ Ok bytes
 unfolding base32_decoded
-read text front rest bytes n count before behind back spelled tail = rw (count, before, behind, back, spelled, equal front, tail) refl
+read text front rest bytes n count before behind back encoded tail = rw (count, before, behind, back, encoded, equal front, tail) refl
 
-read_spelling : (bytes rest : List ℕ) → IsBytes bytes → symbol_count rest ≡ 0 → is_tail (length (base32 bytes)) rest ≡ true → base32_decoded (base32 bytes ++ rest) ≡ Ok bytes
+read_encoding : (bytes rest : List ℕ) → IsBytes bytes → symbol_count rest ≡ 0 → is_tail (length (base32 bytes)) rest ≡ true → base32_decoded (base32 bytes ++ rest) ≡ Ok bytes
 unfolding base32
-read_spelling bytes rest small none tail =
+read_encoding bytes rest small none tail =
     let each = groups_each bytes small in
     let text = map symbol (groups bytes) in
     read (text ++ rest) text rest bytes (length text) (count_symbols (groups bytes) rest each none) (take-append_seam text rest) (drop-append_seam text rest) (ap bytes_of_digits (groups_back (groups bytes) each) ∙ bytes_of-groups bytes small) refl tail
 
 -- a base32 text of bytes decodes to those bytes
 pub reads : (text bytes : List ℕ) → IsBytes bytes × IsBase32 text bytes → base32_decoded text ≡ Ok bytes
-reads text bytes (small, spelled) =
-    elim spelled [
-      | inl bare ↦ rw (bare, ← append-nil (base32 bytes)) (read_spelling bytes [] small refl refl)
-      | inr padded ↦ rw padded (read_spelling bytes (padding (length (base32 bytes))) small (padding_count (padding_len (length (base32 bytes)))) (rw (equal (padding (length (base32 bytes)))) (or-true _)))
+reads text bytes (small, encoded) =
+    elim encoded [
+      | inl bare ↦ rw (bare, ← append-nil (base32 bytes)) (read_encoding bytes [] small refl refl)
+      | inr padded ↦ rw padded (read_encoding bytes (padding (length (base32 bytes))) small (padding_count (padding_len (length (base32 bytes)))) (rw (equal (padding (length (base32 bytes)))) (or-true _)))
     ]
 
 found : (b : Bool) (x bytes : List ℕ) (f : BadText) → cond b (Ok x) (Err f) ≡ Ok bytes → (b ≡ true) × (x ≡ bytes)

@@ -1,7 +1,7 @@
 -- Rows worked from the definitions: the test vectors of RFC 4648, section 10, and the zero address.
 use Rattle.std.proofs.Common.{◌≡◌, [], codes, replicate, Ok, Err, refl}
 use Rattle.sha2.specs.Sha512.{first_words, schedule, rounds, compress, hash_after, digest_bytes, sha512_256}
-use Rattle.teal_value.specs.declared.address_spelling.AddressFault.TheVariants.{BadText, BadChecksum}
+use Rattle.teal_value.specs.declared.address_encoding.AddressFault.TheVariants.{BadText, BadChecksum}
 use Rattle.teal_value.specs.Base32.{groups, base32, bytes_of_digits, base32_decoded}
 use Rattle.teal_value.specs.AddressText.{address_text, address_of}
 

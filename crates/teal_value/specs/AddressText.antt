@@ -3,8 +3,8 @@ use Rattle.std.specs.Prelude.{ℕ, ◌==◌, ◌&&◌, if◌then◌else◌, List
 use Rattle.std.specs.Str.{bytes_eq}
 use Rattle.sha2.specs.Sha512.{sha512_256}
 use Rattle.teal_value.specs.declared.address.Address.{Address}
-use Rattle.teal_value.specs.declared.address_spelling.AddressFault.{AddressFault}
-use Rattle.teal_value.specs.declared.address_spelling.AddressFault.TheVariants as fault
+use Rattle.teal_value.specs.declared.address_encoding.AddressFault.{AddressFault}
+use Rattle.teal_value.specs.declared.address_encoding.AddressFault.TheVariants as fault
 use Rattle.teal_value.specs.declared.base32.BadText.{BadText}
 use Rattle.teal_value.specs.Base32.{base32, base32_decoded}
 

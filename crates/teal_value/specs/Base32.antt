@@ -55,7 +55,7 @@ bytes_of_digits other = []
 abbrev pub symbol_count : List ℕ → ℕ
 symbol_count text = prefix_len is_symbol text
 
--- the bytes of the characters in front, which are the text's if it is one of their spellings
+-- the bytes of the characters in front, which are the text's if it is one of their encodings
 abbrev pub candidate : List ℕ → List ℕ
 candidate text = bytes_of_digits (map group_of (take (symbol_count text) text))
 
@@ -63,7 +63,7 @@ candidate text = bytes_of_digits (map group_of (take (symbol_count text) text))
 abbrev pub is_tail : ℕ → List ℕ → Bool
 is_tail symbols rest = length rest == 0 || bytes_eq rest (padding symbols)
 
--- what a text reads as: bytes of which it is a spelling, or none
+-- what a text reads as: bytes of which it is an encoding, or none
 unfoldable pub base32_decoded : List ℕ → Result (List ℕ) BadText
 base32_decoded text =
     if bytes_eq (take (symbol_count text) text) (base32 (candidate text)) && is_tail (symbol_count text) (drop (symbol_count text) text)

@@ -2,8 +2,8 @@
 use Rattle.std.specs.Prelude.{ℕ, List, codes}
 use Rattle.teal_value.specs.declared.fault.Fault.{Fault}
 use Rattle.teal_value.specs.declared.fault.Fault.TheVariants as fault
-use Rattle.teal_value.specs.declared.address_spelling.AddressFault.{AddressFault}
-use Rattle.teal_value.specs.declared.address_spelling.AddressFault.TheVariants as address
+use Rattle.teal_value.specs.declared.address_encoding.AddressFault.{AddressFault}
+use Rattle.teal_value.specs.declared.address_encoding.AddressFault.TheVariants as address
 
 abbrev pub fault_name : Fault → List ℕ
 fault_name fault.Err = codes "Err"

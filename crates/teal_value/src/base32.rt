@@ -38,16 +38,16 @@ pub fn base32_decode_bytes(alloc: Global, text: &[u8]) -> Result<Vec<u8>, Failur
     let (symbols, rest) = text.split_at(symbol_count(text));
     let groups = groups_of_symbols(alloc, symbols)?;
     let bytes = bytes_of(alloc, &groups)?;
-    let spelling = base32_encode(alloc, &bytes)?;
-    if symbols == spelling.as_bytes() && is_tail(symbols.len(), rest) {
+    let encoding = base32_encode(alloc, &bytes)?;
+    if symbols == encoding.as_bytes() && is_tail(symbols.len(), rest) {
         Ok(bytes)
     } else {
         Err(Failure::Fault(BadText))
     }
 }
 
-/// The law of `base32_decode`: a text reads as bytes exactly where it is one of their two spellings.
-pub fn base32_has_two_spellings()
+/// The law of `base32_decode`: a text reads as bytes exactly where it is one of their two encodings.
+pub fn base32_has_two_encodings()
     ensures { (text bytes : List ℕ)
         → (base32_decoded text ≡ Ok bytes) ↔ (IsBytes bytes × IsBase32 text bytes) }
 {}

@@ -3,7 +3,7 @@
 #![tactic(auto)]
 
 mod address;
-mod address_spelling;
+mod address_encoding;
 mod base32;
 mod byte_string;
 mod failure;
@@ -14,11 +14,11 @@ mod thin_bytes;
 mod value;
 
 pub use address::Address;
-pub use address_spelling::{
+pub use address_encoding::{
     AddressFault, address_has_one_text, address_of_bytes, address_of_text, address_text,
 };
 pub use base32::{
-    BadText, base32_decode, base32_decode_bytes, base32_encode, base32_has_two_spellings,
+    BadText, base32_decode, base32_decode_bytes, base32_encode, base32_has_two_encodings,
 };
 pub use byte_string::{ByteString, ByteStrings, Uints};
 pub use failure::Failure;

@@ -1,6 +1,6 @@
 use Rattle.std.proofs.Common.{◌≡◌, ◌++◌, drop}
 use Rattle.std.specs.List.{flat_map}
-use Rattle.avm_block.specs.BlockSpelling.{block_entry_bytes}
+use Rattle.avm_block.specs.BlockEncoding.{block_entry_bytes}
 use Rattle.avm_block.proofs.front.put_entries.Given as goal
 
 -- what is written, and the entries that are left, are all of them

@@ -1,8 +1,8 @@
 use Rattle.std.proofs.Common.{◌++◌}
-use Rattle.avm_ledger.specs.Spellings.{u64_bytes}
-use Rattle.avm_call_codec.specs.CallSpelling.{call_bytes}
+use Rattle.avm_ledger.specs.Encodings.{u64_bytes}
+use Rattle.avm_call_codec.specs.CallEncoding.{call_bytes}
 use Rattle.avm_items.proofs.Appending.{more, more_as}
-use Rattle.avm_call.specs.OutcomeSpelling.{outcome_bytes}
+use Rattle.avm_call.specs.OutcomeEncoding.{outcome_bytes}
 use Rattle.avm_block.proofs.front.put_entry.Goals as goal
 
 pub returns : goal.returns

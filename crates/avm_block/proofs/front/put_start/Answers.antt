@@ -1,7 +1,7 @@
 use Rattle.std.proofs.Common.{◌++◌}
-use Rattle.avm_ledger.specs.Spellings.{header_bytes, u32_bytes}
+use Rattle.avm_ledger.specs.Encodings.{header_bytes, u32_bytes}
 use Rattle.avm_items.proofs.Appending.{more}
-use Rattle.avm_block.specs.BlockSpelling.{format_bytes, magic}
+use Rattle.avm_block.specs.BlockEncoding.{format_bytes, magic}
 use Rattle.avm_block.proofs.front.put_start.Goals as goal
 
 pub returns : goal.returns

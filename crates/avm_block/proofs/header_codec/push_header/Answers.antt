@@ -1,5 +1,5 @@
 use Rattle.std.proofs.Common.{◌++◌}
-use Rattle.avm_ledger.specs.Spellings.{u64_bytes}
+use Rattle.avm_ledger.specs.Encodings.{u64_bytes}
 use Rattle.avm_items.proofs.Appending.{more}
 use Rattle.avm_block.proofs.header_codec.push_header.Goals as goal
 

@@ -1,5 +1,5 @@
 use Rattle.std.proofs.Common.{◌≡◌, ◌∙◌, ℕ, List, ◌++◌}
-use Rattle.avm_call_codec.specs.CallSpelling.{lists_bytes, programs_bytes, target_bytes, terms_bytes}
+use Rattle.avm_call_codec.specs.CallEncoding.{lists_bytes, programs_bytes, target_bytes, terms_bytes}
 use Rattle.teal_code.proofs.Appended.{at_first, goes_on}
 use Rattle.avm_call_codec.proofs.writing.push_call.Goals as goal
 

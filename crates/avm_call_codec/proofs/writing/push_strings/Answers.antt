@@ -1,7 +1,7 @@
 use Rattle.std.proofs.Common.{◌<◌, ◌++◌, [], length, sym, ap, ◌∙◌, arith}
 use Rattle.std.specs.List.{flat_map}
 use Rattle.std.proofs.lemmas.List.{append-nil}
-use Rattle.avm_ledger.specs.Spellings.{string_bytes, u8_bytes}
+use Rattle.avm_ledger.specs.Encodings.{string_bytes, u8_bytes}
 use Rattle.teal_code.proofs.Appended.{at_first, goes_on, none_left, one_more}
 use Rattle.avm_call_codec.proofs.writing.push_strings.Goals as goal
 

@@ -1,7 +1,7 @@
 use Rattle.std.proofs.Common.{◌≡◌, ◌++◌, drop}
 use Rattle.std.specs.List.{flat_map}
-use Rattle.teal_code.specs.Spelling.{Continues}
-use Rattle.avm_ledger.specs.Spellings.{counted_bytes, string_bytes, u8_bytes}
+use Rattle.teal_code.specs.Encoding.{Continues}
+use Rattle.avm_ledger.specs.Encodings.{counted_bytes, string_bytes, u8_bytes}
 use Rattle.avm_call_codec.proofs.writing.push_strings.Given as goal
 
 -- what is written, and what is left, are all of them

@@ -1,6 +1,6 @@
 use Rattle.std.proofs.Common.{◌≡◌, ◌%◌, ◌∙◌, ℕ, List, [], ◌∷◌, ◌++◌, sym, ap, arith}
 use Rattle.std.proofs.lemmas.List.{append-nil}
-use Rattle.avm_ledger.specs.Spellings.{u64_bytes}
+use Rattle.avm_ledger.specs.Encodings.{u64_bytes}
 use Rattle.teal_code.proofs.Appended.{at_first}
 use Rattle.avm_items.specs.declared.call_data.CallData.{CallData}
 use Rattle.avm_call_codec.proofs.writing.push_target.Goals as goal

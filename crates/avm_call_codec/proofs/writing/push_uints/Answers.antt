@@ -1,7 +1,7 @@
 use Rattle.std.proofs.Common.{◌<◌, [], length, get_or, sym, ◌∙◌, arith}
 use Rattle.std.specs.List.{flat_map}
 use Rattle.std.proofs.lemmas.List.{append-nil, get_or_default}
-use Rattle.avm_ledger.specs.Spellings.{u64_bytes, u8_bytes}
+use Rattle.avm_ledger.specs.Encodings.{u64_bytes, u8_bytes}
 use Rattle.teal_code.proofs.Appended.{at_first, goes_on, none_left, one_more}
 use Rattle.avm_call_codec.proofs.writing.push_uints.Goals as goal
 

@@ -1,7 +1,7 @@
 use Rattle.std.proofs.Common.{◌<◌, length, arith}
 use Rattle.std.specs.List.{flat_map}
-use Rattle.avm_ledger.specs.Spellings.{u32_bytes}
-use Rattle.avm_item_codec.specs.ItemSpelling.{item_entry_bytes}
+use Rattle.avm_ledger.specs.Encodings.{u32_bytes}
+use Rattle.avm_item_codec.specs.ItemEncoding.{item_entry_bytes}
 use Rattle.teal_code.proofs.Appended.{at_first, none_left, one_more}
 use Rattle.avm_item_codec.proofs.writing.put_items.Goals as goal
 

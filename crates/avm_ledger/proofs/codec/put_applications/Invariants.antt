@@ -1,6 +1,6 @@
 use Rattle.std.proofs.Common.{◌≡◌, ◌++◌}
 use Rattle.std.specs.List.{flat_map}
-use Rattle.avm_ledger.specs.Spellings.{application_bytes, counted_bytes, u32_bytes}
+use Rattle.avm_ledger.specs.Encodings.{application_bytes, counted_bytes, u32_bytes}
 use Rattle.avm_ledger.proofs.codec.put_applications.Given as goal
 
 -- what is written, and the applications that are left, are all of them

@@ -1,6 +1,6 @@
 use Rattle.std.proofs.Common.{◌≡◌, ◌++◌}
 use Rattle.std.specs.List.{flat_map}
-use Rattle.avm_ledger.specs.Spellings.{counted_bytes, local_state_bytes, u32_bytes}
+use Rattle.avm_ledger.specs.Encodings.{counted_bytes, local_state_bytes, u32_bytes}
 use Rattle.avm_ledger.proofs.codec.put_local_states.Given as goal
 
 -- what is written, and the local states that are left, are all of them

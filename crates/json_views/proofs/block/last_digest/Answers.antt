@@ -1,5 +1,5 @@
 use Rattle.std.proofs.Common.{◌∙◌}
-use Rattle.avm_block.specs.BlockSpelling.{body_bytes}
+use Rattle.avm_block.specs.BlockEncoding.{body_bytes}
 use Rattle.json_views.proofs.BlockEnds.{digest_at_end}
 use Rattle.json_views.proofs.block.last_digest.Goals as goal
 

@@ -3,9 +3,9 @@ use Rattle.teal_asm.specs.Instructions.{all_meant}
 use Rattle.teal_asm.proofs.Emitting.{fits, is_too_long}
 use Rattle.teal_asm.proofs.emit.short_program.Goals as goal
 
-pub returns-in_ok-spelled-in-Some : goal.returns-in_ok-spelled-in-Some
+pub returns-in_ok-encoded-in-Some : goal.returns-in_ok-encoded-in-Some
 unfolding program
-returns-in_ok-spelled-in-Some c = fits c.args.last_line _ (version_byte c.args.version) (all_meant c.args.instructions.now) (rw c.in-Some.is at c.in_ok-places.ensures).small c.in_ok-spelled-in-Some.ensures
+returns-in_ok-encoded-in-Some c = fits c.args.last_line _ (version_byte c.args.version) (all_meant c.args.instructions.now) (rw c.in-Some.is at c.in_ok-places.ensures).small c.in_ok-encoded-in-Some.ensures
 
 pub returns-in-None : goal.returns-in-None
 unfolding program

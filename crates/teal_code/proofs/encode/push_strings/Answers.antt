@@ -1,7 +1,7 @@
 use Rattle.std.proofs.Common.{◌<◌, ◌++◌, length, ap, ◌∙◌, arith}
 use Rattle.std.specs.List.{flat_map}
 use Rattle.teal_code.specs.Varuint.{varuint}
-use Rattle.teal_code.specs.Spelling.{prefixed}
+use Rattle.teal_code.specs.Encoding.{prefixed}
 use Rattle.teal_code.proofs.Appended.{at_first, goes_on, none_left, one_more}
 use Rattle.teal_code.proofs.encode.push_strings.Goals as goal
 

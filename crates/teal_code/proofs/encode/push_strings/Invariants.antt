@@ -1,7 +1,7 @@
 use Rattle.std.proofs.Common.{◌≡◌, ◌++◌, length, drop}
 use Rattle.std.specs.List.{flat_map}
 use Rattle.teal_code.specs.Varuint.{varuint}
-use Rattle.teal_code.specs.Spelling.{Continues, prefixed}
+use Rattle.teal_code.specs.Encoding.{Continues, prefixed}
 use Rattle.teal_code.proofs.encode.push_strings.Given as goal
 
 -- what is written, and the strings that are left, are the block

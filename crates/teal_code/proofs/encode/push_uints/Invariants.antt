@@ -1,7 +1,7 @@
 use Rattle.std.proofs.Common.{◌≡◌, ◌++◌, length, drop}
 use Rattle.std.specs.List.{flat_map}
 use Rattle.teal_code.specs.Varuint.{varuint}
-use Rattle.teal_code.specs.Spelling.{Continues}
+use Rattle.teal_code.specs.Encoding.{Continues}
 use Rattle.teal_code.proofs.encode.push_uints.Given as goal
 
 -- what is written, and the numbers that are left, are the block

@@ -1,8 +1,8 @@
-use Rattle.teal_laws.proofs.ShortestSpellings.{shortest_of_spelled, shortest_of_read, shortest_of_version}
+use Rattle.teal_laws.proofs.ShortestEncodings.{shortest_of_encoded, shortest_of_read, shortest_of_version}
 use Rattle.teal_laws.proofs.laws.encodings_are_shortest.Goals as goal
 
-pub returns-clause-spelled : goal.returns-clause-spelled
-returns-clause-spelled c = shortest_of_spelled
+pub returns-clause-encoded : goal.returns-clause-encoded
+returns-clause-encoded c = shortest_of_encoded
 
 pub returns-clause-read : goal.returns-clause-read
 returns-clause-read c = shortest_of_read

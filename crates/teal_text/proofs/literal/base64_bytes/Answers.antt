@@ -13,8 +13,8 @@ padded : (text bytes : List ℕ) → decode_of standard text ≡ Ok bytes → So
 unfolding base64_bytes
 padded text bytes e = ap (λ r. or_else (result_ok r) (result_ok (decode_of standard_no_pad text))) (sym e)
 
-not_spelled : (e : GeneralPurpose) (text bytes : List ℕ) (d : DecodeError) → IsConsistent e → decode_of e text ≡ Err d → IsBytes bytes → text ≡ encode_of e bytes → ⊥
-not_spelled e text bytes d consistent failed fits is =
+not_encoded : (e : GeneralPurpose) (text bytes : List ℕ) (d : DecodeError) → IsConsistent e → decode_of e text ≡ Err d → IsBytes bytes → text ≡ encode_of e bytes → ⊥
+not_encoded e text bytes d consistent failed fits is =
     let back = decode_of-encode_of e bytes consistent fits in
     let same = ap (decode_of e) is in
     cc
@@ -29,8 +29,8 @@ module _ (text : List ℕ) (d : DecodeError) (failed : decode_of standard text �
   neither f e = ap result_ok (sym e) ∙ ap (λ r. or_else (result_ok r) (result_ok (decode_of standard_no_pad text))) (sym failed)
 
   no_bytes : (f : DecodeError) → decode_of standard_no_pad text ≡ Err f → (bytes : List ℕ) → IsBytes bytes → IsBase64 text bytes → ⊥
-  no_bytes f e bytes fits (inl is) = not_spelled standard text bytes d refl failed fits is
-  no_bytes f e bytes fits (inr is) = not_spelled standard_no_pad text bytes f refl e fits is
+  no_bytes f e bytes fits (inl is) = not_encoded standard text bytes d refl failed fits is
+  no_bytes f e bytes fits (inr is) = not_encoded standard_no_pad text bytes f refl e fits is
 
 pub returns-in-Ok-clause-value : goal.returns-in-Ok-clause-value
 returns-in-Ok-clause-value c = padded c.args.text.now c.in-Ok.bytes.items c.in-Ok.ensures.ok

@@ -1,5 +1,5 @@
 use Rattle.std.proofs.Common.{◌∙◌, ap, arith, map}
-use Rattle.avm_ledger.specs.Spellings.{ledger_digest}
+use Rattle.avm_ledger.specs.Encodings.{ledger_digest}
 use Rattle.mv_parts.specs.CallHistory.{CallEntry}
 use Rattle.mv_parts.proofs.Seals.{all_accepted, count_same, have_places, made_on, none_too_many, replays_as_made, rise, sealed_of}
 use Rattle.mv_parts.proofs.journal.Journal.block_with.Goals as goal

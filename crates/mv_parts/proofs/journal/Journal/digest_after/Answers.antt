@@ -1,6 +1,6 @@
 use Rattle.std.proofs.Common.{◌≡◌, ◌∙◌, ap, subst}
 use Rattle.std.specs.List.{AllByRecursion}
-use Rattle.avm_ledger.specs.Spellings.{ledger_digest}
+use Rattle.avm_ledger.specs.Encodings.{ledger_digest}
 use Rattle.avm_call.specs.Places.{HasPlace}
 use Rattle.mv_parts.specs.CallHistory.{CallEntry}
 use Rattle.mv_parts.specs.EntryWrites.{ledger_with}

@@ -1,9 +1,0 @@
-use Rattle.avm_ledger.proofs.LedgerSpelled.{ledger_spelled}
-use Rattle.avm_ledger.proofs.LedgerKept.{ledger_kept}
-use Rattle.avm_ledger.proofs.reading_laws.spells_back.Goals as goal
-
-pub returns-clause-bytes : goal.returns-clause-bytes
-returns-clause-bytes c = ledger_spelled
-
-pub returns-clause-rules : goal.returns-clause-rules
-returns-clause-rules c = ledger_kept
