@@ -11,4 +11,4 @@ pub mod worked;
 
 pub use call::Call;
 pub use call_fault::{CallError, CallFault};
-pub use outcome::{Cause, Ended, Outcome, Why};
+pub use outcome::{Cause, Ended, Outcome, Why, is_same_outcome};

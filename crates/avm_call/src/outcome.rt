@@ -1,6 +1,6 @@
 //! How programs and calls end.
 
-ghost use Rattle.std.specs.Prelude.{◌≡◌};
+ghost use Rattle.std.specs.Prelude.{◌≡◌, ◌↔◌, IsTrue};
 ghost use Rattle.teal_value.specs.FaultNumbers.{numbered};
 ghost use Rattle.avm_call.specs.FaultNames.{why_name};
 ghost use Rattle.avm_call.specs.OutcomeEncoding.{why_number, whys};
@@ -89,4 +89,11 @@ pub enum Outcome {
     Refused(Why),
     /// The sender's local state was removed, and nothing else changed.
     ClearedAnyway(Cause),
+}
+
+/// Whether two calls ended alike.
+pub fn is_same_outcome(outcome: Outcome, other: Outcome) -> bool
+    ensures { IsTrue result ↔ (outcome ≡ other) }
+{
+    outcome == other
 }

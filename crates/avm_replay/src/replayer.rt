@@ -1,12 +1,12 @@
 //! Replaying a block.
 
-ghost use Rattle.std.specs.Prelude.{◌≡◌, ◌≤◌, ◌↔◌, IfOk, IsTrue, length};
+ghost use Rattle.std.specs.Prelude.{◌≡◌, ◌≤◌, IfOk, length};
 ghost use Rattle.avm_replay.specs.Verdicts.{Compares, Judges, OneVerdict};
 
 use crate::base::Base;
 use crate::verdict::Verdict;
 use avm_block::{Block, Entry, MAX_ENTRIES};
-use avm_call::Outcome;
+use avm_call::{Outcome, is_same_outcome};
 use avm_ledger::Ledger;
 use avm_ops::Op;
 use avm_run::{Executions, FullOps, RunContext, call_on};
@@ -77,17 +77,11 @@ fn first_wrong<L: ledger::Ledger, O: Op>(
     for entry in entries {
         number += 1;
         let found = call_on(context, ledger, &entry.call, &mut spare, &mut executions)?;
-        if !are_same(found, entry.outcome) {
+        if !is_same_outcome(found, entry.outcome) {
             return Ok(Some((number, found)));
         }
     }
     Ok(None)
-}
-
-fn are_same(outcome: Outcome, other: Outcome) -> bool
-    ensures { IsTrue result ↔ (outcome ≡ other) }
-{
-    outcome == other
 }
 
 /// A block has one verdict over a ledger; so it is found to agree exactly where it replays.
