@@ -32,7 +32,7 @@ from typing import Any, Callable, Dict, Iterable, List, Optional, Sequence, Tupl
 from avm_types import (
     ABSENT, Answer, AsmFault, Attempt, AvmError, Block, BlockFault, Call, CallFault, Calls, CodeFault, Completion, Difference, End, Ended,
     Ending, Fault, Given, Header, Items, Ledger, LedgerFault, NeedsThreads, NoBlock, NoCall, NoEntry, NoHeader, NoItems, NoLedger,
-    NoProgram, NoRun, NoText, NotAssembled, Program, Rule, Spelled, Status, TooLong, TROUBLES, Verdict, View, Why, WrongBase,
+    NoProgram, NoRun, NoText, NotAssembled, Program, Rule, Encoded, Status, TooLong, TROUBLES, Verdict, View, Why, WrongBase,
     WrongOutcome, WrongState, bytes_of, differs, refusal, trouble, words_of,
 )  # fmt: skip
 
@@ -40,7 +40,7 @@ __all__ = [
     "ABSENT", "Answer", "AsmFault", "Attempt", "Avm", "AvmError", "Block", "BlockFault", "Call", "CallFault", "Calls", "CodeFault",
     "Completion", "Difference", "End", "Ended", "Ending", "Fault", "Given", "Header", "Items", "Ledger", "LedgerFault", "NeedsThreads",
     "NoBlock", "NoCall", "NoEntry", "NoHeader", "NoItems", "NoLedger", "NoProgram", "NoRun", "NoText", "NotAssembled", "Program", "Rule",
-    "Spelled", "Status", "TooLong", "Verdict", "View", "Why", "WrongBase", "WrongOutcome", "WrongState",
+    "Encoded", "Status", "TooLong", "Verdict", "View", "Why", "WrongBase", "WrongOutcome", "WrongState",
 ]  # fmt: skip
 
 
@@ -203,7 +203,7 @@ class Avm:
     def propose(self, ledger: Given, header: Given, calls: Union[Given, Iterable[Given]]) -> Block:
         """The block of calls that are made one after another, in their order; they are given one by one or as a list's bytes. A call
         that is refused or faults stands in it with that outcome. Else `NoLedger`, `NoHeader` or `NoCall`."""
-        listed = calls if isinstance(calls, (bytes, bytearray, memoryview, Spelled)) else Calls.of(calls)
+        listed = calls if isinstance(calls, (bytes, bytearray, memoryview, Encoded)) else Calls.of(calls)
         size = len(bytes_of(listed)) * 5 // 4 + 256
         return Block(self._told("propose", (ledger, header, listed), guess=size, behind=_Trouble()))
 

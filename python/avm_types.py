@@ -199,18 +199,18 @@ class Completion(Named):
     DeleteApplication = 5
 
 
-# ---- fields, read and spelled as docs/FORMATS.md says
+# ---- fields, read and encoded as docs/FORMATS.md says
 
 #: What is taken for bytes.
-Given = Union[bytes, bytearray, memoryview, "Spelled"]
+Given = Union[bytes, bytearray, memoryview, "Encoded"]
 #: The value of an item that is not there.
 ABSENT = b"\0"
 _NEXT_ID, _ROW, _COUNTS, _KEY, _LOCAL_STATE = (bytes([kind]) for kind in range(5))
 
 
 def bytes_of(given: Given) -> bytes:
-    if isinstance(given, Spelled):
-        return given.spelled
+    if isinstance(given, Encoded):
+        return given.encoded
     return given if isinstance(given, bytes) else bytes(memoryview(given))
 
 
@@ -236,17 +236,17 @@ def _listed(parts: Sequence[bytes], size: int = 4) -> bytes:
 
 
 class _Reader:
-    """Takes fields from bytes, one behind another, each as it is spelled. Where the bytes end early, it is a `ValueError`."""
+    """Takes fields from bytes, one behind another, each as it is encoded. Where the bytes end early, it is a `ValueError`."""
 
-    def __init__(self, spelled: bytes) -> None:
-        self.spelled = spelled
+    def __init__(self, encoded: bytes) -> None:
+        self.encoded = encoded
         self.place = 0
 
     def take(self, count: int) -> bytes:
         begin, self.place = self.place, self.place + count
-        if self.place > len(self.spelled):
+        if self.place > len(self.encoded):
             raise ValueError("the bytes end inside a field")
-        return self.spelled[begin : self.place]
+        return self.encoded[begin : self.place]
 
     def number(self, size: int) -> int:
         return int.from_bytes(self.take(size), "big")
@@ -307,14 +307,14 @@ def _item_and_value(read: _Reader) -> Tuple[bytes, bytes]:
 
 # ---- what is given and answered
 
-_S = TypeVar("_S", bound="Spelled")
+_S = TypeVar("_S", bound="Encoded")
 
 
 @dataclass(frozen=True)
-class Spelled:
+class Encoded:
     """Something by its bytes. Which bytes are one is for the machine to say: nothing is tested here."""
 
-    spelled: bytes
+    encoded: bytes
 
     @classmethod
     def from_hex(cls: Type[_S], digits: str) -> _S:
@@ -325,20 +325,20 @@ class Spelled:
 
     def hex(self) -> str:
         """Its lower-case hexadecimal digits."""
-        return self.spelled.hex()
+        return self.encoded.hex()
 
     def __bytes__(self) -> bytes:
-        return self.spelled
+        return self.encoded
 
     def __len__(self) -> int:
-        return len(self.spelled)
+        return len(self.encoded)
 
 
-class Program(Spelled):
+class Program(Encoded):
     """An approval program or a clear state program."""
 
 
-class Ledger(Spelled):
+class Ledger(Encoded):
     """A ledger."""
 
     @classmethod
@@ -348,7 +348,7 @@ class Ledger(Spelled):
 
     def items(self) -> Dict[bytes, bytes]:
         """Its items with their values. The bytes have to be a ledger: where they end early, it is a `ValueError`."""
-        return dict(_items_of(_Reader(self.spelled)))
+        return dict(_items_of(_Reader(self.encoded)))
 
     def global_state(self, application: int) -> Dict[bytes, Union[int, bytes]]:
         """The keys of an application with their values, by rising key; none where there is no such application."""
@@ -365,17 +365,17 @@ class Ledger(Spelled):
             if item[:1] == _KEY:
                 # A key stands behind its length, by which a ledger does not order keys.
                 keys.setdefault(item[1:9], []).append((item[10:], item[9:] + value))
-        states = {app: _listed([spelled for _, spelled in sorted(of)], 1) for app, of in keys.items()}
+        states = {app: _listed([encoded for _, encoded in sorted(of)], 1) for app, of in keys.items()}
         apps = [item[1:] + value + states.get(item[1:], b"\0") for item, value in there if item[:1] == _ROW]
         local_states = [item[1:] + value for item, value in there if item[:1] == _LOCAL_STATE]
         return cls(values[_NEXT_ID] + _listed(apps) + _listed(local_states))
 
 
-class Block(Spelled):
+class Block(Encoded):
     """A block."""
 
 
-class Header(Spelled):
+class Header(Encoded):
     """The round of a block."""
 
     @classmethod
@@ -384,7 +384,7 @@ class Header(Spelled):
         return cls(b"".join(map(_number, (round, latest_timestamp, min_fee, min_balance, max_life))))
 
 
-class Call(Spelled):
+class Call(Encoded):
     """A call."""
 
     @classmethod
@@ -420,7 +420,7 @@ class Call(Spelled):
     def parties(self) -> Tuple[int, List[bytes]]:
         """The application, and the accounts: the sender's and those beside it. The bytes have to be a call: where they end early, it
         is a `ValueError`."""
-        read = _Reader(self.spelled)
+        read = _Reader(self.encoded)
         sender = read.take(32)
         read.take(3 * 8)
         read.string(2)
@@ -432,7 +432,7 @@ class Call(Spelled):
         return application, [sender, *(read.take(32) for _ in range(read.number(1)))]
 
 
-class Calls(Spelled):
+class Calls(Encoded):
     """A list of calls."""
 
     @classmethod
@@ -441,7 +441,7 @@ class Calls(Spelled):
         return cls(_listed([bytes_of(call) for call in calls]))
 
 
-class Items(Spelled):
+class Items(Encoded):
     """Items with their values, each by its bytes."""
 
     @classmethod
@@ -451,7 +451,7 @@ class Items(Spelled):
 
     def values(self) -> Dict[bytes, bytes]:
         """Each item and its value, in the order in which they stand. Where the bytes end early, it is a `ValueError`."""
-        read = _Reader(self.spelled)
+        read = _Reader(self.encoded)
         return dict(_item_and_value(read) for _ in range(read.number(4)))
 
 

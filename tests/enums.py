@@ -1,5 +1,5 @@
 """The numbers of statuses, endings, faults, reasons and rules, wherever they stand for callers: in include/avm.h, in python/avm.py and
-in examples/spell.py, compared with the code."""
+in examples/encode.py, compared with the code."""
 
 import ast
 import re
@@ -83,14 +83,14 @@ def compare():
     if in_header("avm_ending", "AVM_") != {member.name: member.value for member in avm.Ending}:
         wrong.append("python/avm.py has other endings than include/avm.h")
     for name, python in (("FAULTS", avm.Fault), ("REFUSALS", avm.Why)):
-        if spelled(name) != [member.name for member in python]:
-            wrong.append(f"examples/spell.py has other {name} than the code")
+        if encoded(name) != [member.name for member in python]:
+            wrong.append(f"examples/encode.py has other {name} than the code")
     return count + len(avm.Ending), wrong
 
 
-def spelled(name):
-    """A list of examples/spell.py, which numbers names from 1."""
-    for node in ast.parse((TOP / "examples/spell.py").read_text()).body:
+def encoded(name):
+    """A list of examples/encode.py, which numbers names from 1."""
+    for node in ast.parse((TOP / "examples/encode.py").read_text()).body:
         if isinstance(node, ast.Assign) and node.targets[0].id == name:
             return ast.literal_eval(node.value)
     return None

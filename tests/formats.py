@@ -68,16 +68,16 @@ EDGES = (
 
 
 class Fault(Exception):
-    """The bytes have another spelling than the tables'."""
+    """The bytes have another encoding than the tables'."""
 
 
 class Row:
-    """A row of a table: a field, how it is spelled, when it is there, and its bounds."""
+    """A row of a table: a field, how it is encoded, when it is there, and its bounds."""
 
     def __init__(self, line):
         cells = [cell.strip() for cell in line.strip("|").split("|")]
         self.field, self.limits = cells[0].strip("`"), cells[2]
-        self.spelled, _, conditions = cells[1].partition(", of ")
+        self.encoded, _, conditions = cells[1].partition(", of ")
         self.conditions = [tuple(words.rsplit(" ", 1)) for words in conditions.split(" or of ")] if conditions else []
         self.found_bounds = list(self.read_bounds())
 
@@ -235,8 +235,8 @@ class Reader:
         self.place += count
         return self.data[self.place - count : self.place]
 
-    def tell(self, name, spelled, shown):
-        self.told.append(f"{' '.join(part.hex() for part in spelled if part)}  # {name} {shown}")
+    def tell(self, name, encoded, shown):
+        self.told.append(f"{' '.join(part.hex() for part in encoded if part)}  # {name} {shown}")
 
     def shown(self, value):
         if isinstance(value, int):
@@ -247,31 +247,31 @@ class Reader:
             return f"32 x {value[:1].hex()}" if len(set(value)) == 1 else value.hex()
         return f'"{value.decode()}"' if value.isascii() and value.decode().isprintable() else value.hex()
 
-    def simple(self, name, spelled):
+    def simple(self, name, encoded):
         """A number, bytes, or a byte string."""
         length = b""
-        if spelled.endswith(" + n"):
-            length = self.take(int(spelled[0]))
+        if encoded.endswith(" + n"):
+            length = self.take(int(encoded[0]))
             value = self.take(int.from_bytes(length, "big"))
         else:
-            value = self.take(int(spelled.split()[0]))
-        known = int.from_bytes(value, "big") if spelled in "1248" else value
+            value = self.take(int(encoded.split()[0]))
+        known = int.from_bytes(value, "big") if encoded in "1248" else value
         self.tell(name, (length, value), self.shown(known))
         return known
 
     def list_of(self, layout, row, record):
-        size, _, one = row.spelled.partition(" + each ")
+        size, _, one = row.encoded.partition(" + each ")
         self.judge(layout, row, record, count := self.simple(row.field, size))
         items = record[row.field] = []
         for number in range(1, count + 1):
             try:
-                items.append(self.spelled("each", one, around=record, before=items[-1] if items else None))
+                items.append(self.encoded("each", one, around=record, before=items[-1] if items else None))
             except Fault as fault:
                 raise Fault(f"{number} {fault}") if layout == "calls" else fault
 
-    def spelled(self, name, spelled, **near):
-        link = re.match(r"\[(.*?)\]", spelled)
-        return self.layout(link[1], **near) if link else self.simple(name, spelled)
+    def encoded(self, name, encoded, **near):
+        link = re.match(r"\[(.*?)\]", encoded)
+        return self.layout(link[1], **near) if link else self.simple(name, encoded)
 
     def judge(self, layout, row, record, value):
         """A field's bounds, but for those that are rules of calls, and the rule between it and others."""
@@ -283,10 +283,10 @@ class Reader:
     def layout(self, name, **near):
         begun, first = self.place, len(self.told)
         record = self.record(name, near)
-        spelled = self.data[begun : self.place]
-        if near and spelled in self.known:
+        encoded = self.data[begun : self.place]
+        if near and encoded in self.known:
             fields = " ".join(line.split("  #")[0] for line in self.told[first:])
-            self.told[first:] = [f"{fields}  # {name} {self.known[spelled]}"]
+            self.told[first:] = [f"{fields}  # {name} {self.known[encoded]}"]
         return record
 
     def record(self, name, near):
@@ -296,10 +296,10 @@ class Reader:
                 continue
             if (name, row.field) == ("block", "digest"):
                 self.seal(record, row)
-            elif " + each " in row.spelled:
+            elif " + each " in row.encoded:
                 self.list_of(name, row, record)
             else:
-                record[row.field] = self.spelled(row.field, row.spelled, around=record, before=None)
+                record[row.field] = self.encoded(row.field, row.encoded, around=record, before=None)
                 self.judge(name, row, record, record[row.field])
         if name == "call" and near:
             self.accept(record)
@@ -322,7 +322,7 @@ class Reader:
     def seal(self, block, row):
         digest = hashlib.sha256(self.data[: self.place]).digest()
         self.known = {**self.known, digest: "the SHA-256 of all before"}
-        block["digest"] = self.simple(row.field, row.spelled)
+        block["digest"] = self.simple(row.field, row.encoded)
         if self.place < len(self.data):
             raise Fault("Rest")
         if block["digest"] != digest:
@@ -393,10 +393,10 @@ def bounds(layouts):
         shown = [most for _, most, _, _ in row.bounds()]
         if shown != defined:
             wrong.append(f"docs/FORMATS.md has bounds {shown} of {layout}, {field}; the definitions have {defined}")
-    for name, spelled, fault in EDGES:
-        found = fault_of(layouts, name, bytes.fromhex(spelled))
+    for name, encoded, fault in EDGES:
+        found = fault_of(layouts, name, bytes.fromhex(encoded))
         if found != fault:
-            wrong.append(f"docs/FORMATS.md: the {name} {spelled} is {found}, and not {fault}")
+            wrong.append(f"docs/FORMATS.md: the {name} {encoded} is {found}, and not {fault}")
     return wrong
 
 

@@ -102,7 +102,7 @@ def response(elements):
 def ledger_of(program, next_id):
     """A ledger with an application that has the program, in bytes and as it is shown."""
     programs = string(program) + string(APPROVES)
-    spelled = number(next_id, 8) + number(1, 4) + number(1, 8) + bytes(32) + programs + bytes(5) + bytes(4)
+    encoded = number(next_id, 8) + number(1, 4) + number(1, 8) + bytes(32) + programs + bytes(5) + bytes(4)
     schema = {"num-byte-slice": 0, "num-uint": 0}
     params = {
         "approval-program": base64.b64encode(program).decode(),
@@ -112,8 +112,8 @@ def ledger_of(program, next_id):
         "global-state-schema": schema,
         "local-state-schema": schema,
     }
-    digests = {"ledger": hashlib.sha256(spelled).hexdigest()}
-    return spelled, {"accounts": [], "apps": [{"id": 1, "params": params}], "digests": digests, "next-id": next_id}
+    digests = {"ledger": hashlib.sha256(encoded).hexdigest()}
+    return encoded, {"accounts": [], "apps": [{"id": 1, "params": params}], "digests": digests, "next-id": next_id}
 
 
 def block_lines(program, place):

@@ -101,8 +101,8 @@ class State:
     def ledger(self) -> bytes:
         """The ledger that has the items of the file."""
         ledger = Ledger.of_items(dict(self.database.execute("SELECT item, value FROM items")))
-        test(self.machine, ledger.spelled)
-        return ledger.spelled
+        test(self.machine, ledger.encoded)
+        return ledger.encoded
 
     def make(self, number: int, header: bytes, call: bytes) -> None:
         """Makes the call of this number. Where another process has made it meanwhile, that is an error, and nothing is written."""

@@ -28,7 +28,7 @@ static size_t without_end(const char *line, size_t count) {
     return count > 1 && line[count - 2] == '\r' ? count - 2 : count - 1;
 }
 
-/* The bytes that digits spell. Of none the pointer is not null either: room for one byte more is asked for. */
+/* The bytes that digits encode. Of none the pointer is not null either: room for one byte more is asked for. */
 static struct bytes bytes_of(const char *digits, size_t count) {
     struct bytes read = {malloc(count / 2 + 1), 0, count % 2 != 0};
     for (; read.at && !read.refused && read.length < count / 2; read.length++) {
@@ -39,7 +39,7 @@ static struct bytes bytes_of(const char *digits, size_t count) {
     return read;
 }
 
-/* The bytes that the next line spells; the pointer is null where there is no such line. */
+/* The bytes that the next line encodes; the pointer is null where there is no such line. */
 static struct bytes next_line(FILE *file) {
     struct bytes read = {NULL, 0, false};
     char *line = NULL;

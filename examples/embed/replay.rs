@@ -74,7 +74,7 @@ fn words_of(difference: &Difference) -> String {
     format!("wrong outcome {} {ending}", difference.entry)
 }
 
-/// The bytes that a line spells. None has another character, or an odd count of digits.
+/// The bytes that a line encodes. None has another character, or an odd count of digits.
 fn bytes_of(line: &[u8]) -> Option<Vec<u8>> {
     let value = |digit: &u8| char::from(*digit).to_digit(16);
     let pairs = line.chunks(2).map(|pair| match pair {

@@ -5,7 +5,7 @@
        valgrind --tool=callgrind --toggle-collect=avm_c_apply ./applied apply FILE
        callgrind_annotate --inclusive=yes callgrind.out.* | grep -e 'PROGRAM TOTALS' -e canonical
 
-   What avm_c_apply takes beyond avm_c_replay is the spelling of the ledger, `canonical`. */
+   What avm_c_apply takes beyond avm_c_replay is the encoding of the ledger, `canonical`. */
 #include "avm.h"
 
 #include <stdio.h>

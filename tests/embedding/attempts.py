@@ -21,32 +21,32 @@ LAYOUTS = formats.tables(formats.PAGE.read_text())
 ABSENT = b"\0"
 
 
-def spelled_as(spelling, value):
-    link = re.match(r"\[(.*?)\]", spelling)
+def encoded_as(encoding, value):
+    link = re.match(r"\[(.*?)\]", encoding)
     if link:
-        return spell(link[1], value)
-    if spelling.endswith(" + n"):
-        return len(value).to_bytes(int(spelling[0]), "big") + value
-    return value if isinstance(value, bytes) else value.to_bytes(int(spelling), "big")
+        return encode(link[1], value)
+    if encoding.endswith(" + n"):
+        return len(value).to_bytes(int(encoding[0]), "big") + value
+    return value if isinstance(value, bytes) else value.to_bytes(int(encoding), "big")
 
 
-def spell(name, record):
+def encode(name, record):
     """The bytes of a record, by its table."""
     parts = []
     for row in LAYOUTS[name]:
         if not row.is_there(record):
             continue
-        size, _, one = row.spelled.partition(" + each ")
+        size, _, one = row.encoded.partition(" + each ")
         values = record[row.field] if one else [record[row.field]]
         parts += [len(values).to_bytes(int(size), "big")] if one else []
-        parts += [spelled_as(one or row.spelled, value) for value in values]
+        parts += [encoded_as(one or row.encoded, value) for value in values]
     return b"".join(parts)
 
 
 def entry_of(item, **value):
     """The bytes of an item and those of its value."""
-    name = spell("item", item)
-    return name, spell("entry of items", {"item": item, **{field.replace("_", " "): of for field, of in value.items()}})[len(name) :]
+    name = encode("item", item)
+    return name, encode("entry of items", {"item": item, **{field.replace("_", " "): of for field, of in value.items()}})[len(name) :]
 
 
 def table_of(ledger):
@@ -106,15 +106,15 @@ def replay(machine, path):
     """Makes the calls of a block; how many calls there are, and how many items they asked for."""
     ledger, block = (bytes.fromhex(line) for line in path.read_text().split())
     record, _ = formats.read(LAYOUTS, "block", block)
-    header, table, asked = spell("header", record["header"]), table_of(ledger), 0
+    header, table, asked = encode("header", record["header"]), table_of(ledger), 0
     for entry in record["entries"]:
-        call = spell("call", entry["call"])
+        call = encode("call", entry["call"])
         attempt, known = attempted(machine, header, call, table)
         assert ends_as(attempt.end, entry["outcome"]), f"{path}, {entry['timestamp']}: ends {attempt.end}"
         for more in (known, {**table, **known}):
             assert machine.attempt(header, call, items(more)) == attempt, f"{path}, {entry['timestamp']}: another end over more items"
         put(table, bytes(attempt.writes))
-        after = machine.state(ledger, block, entry["timestamp"]).spelled
+        after = machine.state(ledger, block, entry["timestamp"]).encoded
         assert table == table_of(after), f"{path}, {entry['timestamp']}: the table is not the ledger after the call"
         asked += len(known)
     return len(record["entries"]), asked
@@ -157,7 +157,7 @@ def refusals(machine):
     page = formats.examples(formats.PAGE.read_text())
     header, call, known = (page[name][0] for name in ("header", "call", "items"))
     record, _ = formats.read(LAYOUTS, "call", call)
-    many = spell("call", {**record, "accounts": [bytes(32)] * 5})
+    many = encode("call", {**record, "accounts": [bytes(32)] * 5})
     of_call, of_items = avm.CallFault, avm.LedgerFault
     for given, wanted in (
         ((header[1:], call, known), avm.Status.NO_HEADER), ((header + b"\0", call[1:], known), avm.Status.NO_HEADER),
@@ -171,10 +171,10 @@ def refusals(machine):
         (known, of_items.Truncated, lambda part: (header, call, part)),
     ):  # fmt: skip
         assert all(refusal(machine, *given(data[:end])) is wanted for end in range(len(data))), f"a beginning is not {wanted!r}"
-    for name, spelled, fault in formats.EDGES:
+    for name, encoded, fault in formats.EDGES:
         if name == "items":
-            found = refusal(machine, header, call, bytes.fromhex(spelled))
-            assert found is (fault and of_items[fault]), f"items {spelled} are {found!r}, and by docs/FORMATS.md {fault}"
+            found = refusal(machine, header, call, bytes.fromhex(encoded))
+            assert found is (fault and of_items[fault]), f"items {encoded} are {found!r}, and by docs/FORMATS.md {fault}"
     for number, (entry, are_items) in enumerate(bounds()):
         found = refusal(machine, header, call, items(dict([entry])))
         assert found is (None if are_items else of_items.Malformed), f"bound {number}: {found!r}"

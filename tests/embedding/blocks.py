@@ -27,7 +27,7 @@ def parts_of(block):
         record, _ = formats.read(attempts.LAYOUTS, "block", block)
     except formats.Fault:
         return None
-    return attempts.spell("header", record["header"]), [attempts.spell("call", entry["call"]) for entry in record["entries"]]
+    return attempts.encode("header", record["header"]), [attempts.encode("call", entry["call"]) for entry in record["entries"]]
 
 
 def run(words, given):

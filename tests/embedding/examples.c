@@ -29,7 +29,7 @@ static struct bytes file_of(const char *name) {
     return copy_of(text, length);
 }
 
-/* The bytes that a line of digits spells, and what stands behind it. */
+/* The bytes that a line of digits encodes, and what stands behind it. */
 static struct bytes line_of(struct bytes text, size_t *place) {
     size_t count = strspn((char *)text.at + *place, "0123456789abcdef") / 2;
     struct bytes line = copy_of(text.at, count);

@@ -4,7 +4,7 @@ out, byte by byte, and avm_c_replay finds that it agrees.
 
 So it is for the calls of examples/, of each stored block over its ledger, of creations and deletions, for 4,096 transfers, and for
 the inputs of tests/answers, with the answers that stand there; each but the transfers with every kind of room. Bytes that are no
-ledger, no header or no calls are rows of data, worked out from docs/FORMATS.md. `Call.of` spells each stored call.
+ledger, no header or no calls are rows of data, worked out from docs/FORMATS.md. `Call.of` encodes each stored call.
 """
 
 import runpy
@@ -72,22 +72,22 @@ def answered(proposals):
 
 
 def stored(proposals):
-    """The calls of each stored block, over its ledger; each is spelled by its fields."""
+    """The calls of each stored block, over its ledger; each is encoded by its fields."""
     for ledger, over in blocks.stored_pairs():
         parts = blocks.parts_of(over)
         if parts:
             proposals.compare(over.hex()[:200], ledger, *parts)
             for entry in formats.read(attempts.LAYOUTS, "block", over)[0]["entries"]:
-                look_at_spelling(entry["call"])
+                look_at_encoding(entry["call"])
 
 
-def look_at_spelling(record):
+def look_at_encoding(record):
     """A call by `Call.of`, of what the reader of docs/FORMATS.md finds in it."""
     others = {field.replace(" ", "_"): value for field, value in record.items() if field not in FRONT}
     for kind in ("global_schema", "local_schema"):
         others[kind] = others[kind]["uints"], others[kind]["byte strings"]
     front = record["sender"], record["application"], avm.Completion(record["completion"]), record["arguments"]
-    assert bytes(avm.Call.of(*front, **others)) == attempts.spell("call", record), "a call is spelled otherwise"
+    assert bytes(avm.Call.of(*front, **others)) == attempts.encode("call", record), "a call is encoded otherwise"
 
 
 def many(proposals, programs):
@@ -95,7 +95,7 @@ def many(proposals, programs):
     listed_calls = states.transfers(programs, 4096)
     given = listed_calls.ledger, listed_calls.header
     found = proposals.compare("4,096 transfers", *given, listed_calls.calls, proposals.machine)
-    assert found and found.spelled == listed_calls.block
+    assert found and found.encoded == listed_calls.block
     first = listed_calls.calls[0]
     return [("4,097 calls", *given, listed(*listed_calls.calls, first), STATUS.NO_CALL, OF_CALL.TooMany, None)]
 
@@ -157,7 +157,7 @@ def main(library, program):
     proposals, programs = Proposals(library, program), states.Programs(library, program)
     for each in [*states.examples(programs), states.departures(programs)]:
         found = proposals.compare("the calls of a list", each.ledger, each.header, each.calls)
-        assert found and found.spelled == each.block
+        assert found and found.encoded == each.block
     documented(proposals)
     answered(proposals)
     stored(proposals)

@@ -1,5 +1,5 @@
 """The stored rows of commands, asked of the shared object LIBRARY: by avm_c_answer with the words of the row, and by the function that
-does what the command does, with the bytes that the row's digits spell; and the cases of tests/json_cases by avm_c_json. What is wanted
+does what the command does, with the bytes that the row's digits encode; and the cases of tests/json_cases by avm_c_json. What is wanted
 was worked out outside the programs.
 
     python3 tests/embedding/rows.py LIBRARY
@@ -91,9 +91,9 @@ def reason(function, *given):
 
 
 def names():
-    """The names of faults and of reasons, in the order of their numbers, as examples/spell.py lists them."""
+    """The names of faults and of reasons, in the order of their numbers, as examples/encode.py lists them."""
     lists = {}
-    for node in ast.parse((TOP / "examples/spell.py").read_text()).body:
+    for node in ast.parse((TOP / "examples/encode.py").read_text()).body:
         if isinstance(node, ast.Assign) and node.targets[0].id in ("FAULTS", "REFUSALS"):
             lists[node.targets[0].id] = ast.literal_eval(node.value)
     return lists["FAULTS"], lists["REFUSALS"]
@@ -123,7 +123,7 @@ def status_of(text):
 
 
 def parts_of(given, count):
-    """The bytes of so many lines of digits, or None where the input is spelled otherwise."""
+    """The bytes of so many lines of digits, or None where the input is encoded otherwise."""
     try:
         lines = [line for line in given.decode("ascii").splitlines() if line.strip(" \t")]
         return [bytes.fromhex(line) for line in lines] if len(lines) == count and " " not in given.decode() else None
@@ -203,7 +203,7 @@ def of_command(avm, words, given, answer):
 
 
 def ends(avm):
-    """The examples' blocks lead to ledgers with the digests that stand in the blocks, which spell.py wrote."""
+    """The examples' blocks lead to ledgers with the digests that stand in the blocks, which encode.py wrote."""
     wrong = []
     for path in sorted((TOP / "examples").glob("*/*.block")):
         ledger, block = map(bytes.fromhex, path.read_text().split())

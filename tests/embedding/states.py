@@ -32,14 +32,14 @@ sys.path[:0] = [str(TOP / "examples/embed"), str(TOP / "examples"), str(TOP / "t
 import attempts  # noqa: E402
 import avm  # noqa: E402
 import own_state  # noqa: E402
-import spell  # noqa: E402
+import encode  # noqa: E402
 
 SPEED = runpy.run_path(str(TOP / "tests/speed"), run_name="speed")
 SEED, KILLS, STATEMENTS = 20261129, 50, 300
 TRANSFERS, KILLED_TRANSFERS = 4096, 1024
 ANN, BOB, CAT = b"\xaa" * 32, b"\xbb" * 32, b"\xcc" * 32
 NO_OP, OPT_IN, CLEAR, DELETE = 0, 1, 3, 5
-EMPTY = spell.u64(1) + bytes(8)
+EMPTY = encode.u64(1) + bytes(8)
 # A contract that approves each call. Its creation writes keys whose order by length is not their order by bytes.
 KEYS = """#pragma version 2
 txn ApplicationID
@@ -111,9 +111,9 @@ class Listed:
 
     def block_of(self, endings, ledger):
         """The block whose calls end so, and lead to this ledger."""
-        entries = [spell.u64(at) + call + spell.outcome(ending) for at, (call, ending) in enumerate(zip(self.calls, endings, strict=True), 1)]
-        body = b"AVMB\2\3" + spell.digest(self.ledger) + self.header + spell.listed(spell.u32, entries) + spell.digest(ledger)
-        return body + spell.digest(body)
+        entries = [encode.u64(at) + call + encode.outcome(ending) for at, (call, ending) in enumerate(zip(self.calls, endings, strict=True), 1)]
+        body = b"AVMB\2\3" + encode.digest(self.ledger) + self.header + encode.listed(encode.u32, entries) + encode.digest(ledger)
+        return body + encode.digest(body)
 
     def look_at_end(self, file):
         """All calls were made, each once, in their order."""
@@ -206,8 +206,8 @@ def written(file):
 
 def call(sender, application, completion=NO_OP, programs=(b"", b""), schemas=bytes(4)):
     """A call without arguments."""
-    terms = sender + spell.u64(1000) + spell.u64(500) + spell.u64(1500) + spell.string(b"") + bytes(64)
-    return terms + spell.u64(application) + spell.u8(completion) + bytes(3) + b"".join(map(spell.string, programs)) + schemas
+    terms = sender + encode.u64(1000) + encode.u64(500) + encode.u64(1500) + encode.string(b"") + bytes(64)
+    return terms + encode.u64(application) + encode.u8(completion) + bytes(3) + b"".join(map(encode.string, programs)) + schemas
 
 
 def departures(programs):
@@ -225,7 +225,7 @@ def departures(programs):
 def transfers(programs, count):
     ledger = SPEED["Ledger"]()
     calls = SPEED["Workloads"](programs.program).token(count, ledger, random.Random(SEED))
-    return Listed(programs, ledger.spelled(), SPEED["HEADER"], calls, "NORMAL")
+    return Listed(programs, ledger.encoded(), SPEED["HEADER"], calls, "NORMAL")
 
 
 def examples(programs):
@@ -297,7 +297,7 @@ class Measured:
             ledger.opt_in(holder, self.number, {"balance": 1_000_000})
         self.file = f"{folder}/{holders}.db"
         state = own_state.State(self.file, self.machine)
-        state.load(ledger.spelled())
+        state.load(ledger.encoded())
         state.database.close()
         self.states = [self.copy(f"{self.file}.{at}", *way) for at, way in enumerate(WAYS)]
         self.times = [[] for _ in WAYS]
@@ -309,7 +309,7 @@ class Measured:
     def round(self, choose):
         """The same calls over each file."""
         pairs = [choose.sample(range(self.holders), 2) for _ in range(TRANSFERS)]
-        amounts = [spell.u64(choose.randrange(1, 1000)) for _ in pairs]
+        amounts = [encode.u64(choose.randrange(1, 1000)) for _ in pairs]
         calls = [SPEED["call"](giver, self.number, [b"transfer", amount], [taker]) for (giver, taker), amount in zip(pairs, amounts)]
         for state, times in zip(self.states, self.times):
             began, busy = time.perf_counter(), time.process_time()
@@ -321,7 +321,7 @@ class Measured:
     def machine_alone(self, choose):
         """Seconds of a processor that a call takes in `Avm.attempt`, over the items that it looks at."""
         giver, taker = choose.sample(range(self.holders), 2)
-        transfer = SPEED["call"](giver, self.number, [b"transfer", spell.u64(1)], [taker])
+        transfer = SPEED["call"](giver, self.number, [b"transfer", encode.u64(1)], [taker])
         state = self.states[0]
         known = {item: state.value(item) for item in state.guesses.of(*own_state.parties(transfer))}
         given = avm.Items.of(known)

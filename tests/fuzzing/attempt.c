@@ -74,7 +74,7 @@ static void look_at_items(const struct made *it, const struct table *known, uint
     static struct table table;
     static struct answer answer;
     static uint8_t room[ITEMS_ROOM];
-    struct bytes items = spell_items(known, room);
+    struct bytes items = encode_items(known, room);
     if (items.length == 0) return;
     for (int i = 0; i < CHANGES; i++, chosen = hash_of(&chosen, sizeof chosen)) {
         struct bytes given = changed_items(known, items, chosen);

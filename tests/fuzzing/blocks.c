@@ -266,7 +266,7 @@ uint32_t viewed(struct bytes ledger, struct bytes block, uint64_t entry, uint64_
 
 /* ---- blocks that agree */
 
-size_t spell_outcome(const struct avm_difference *found, uint8_t *to) {
+size_t encode_outcome(const struct avm_difference *found, uint8_t *to) {
     size_t length = 0;
     bool clears = found->ending >= AVM_CLEARED_GONE, faults = found->ending == AVM_FAULTED || found->ending == AVM_CLEARED_FAULTED;
     to[length++] = clears ? OUTCOME : (uint8_t)found->ending;
@@ -281,11 +281,11 @@ size_t spell_outcome(const struct avm_difference *found, uint8_t *to) {
 
 /* Puts the outcome that was found in the place of the entry's. */
 static void put_outcome(struct bytes *block, const struct entry *entry, const struct avm_difference *found) {
-    uint8_t spelled[8];
-    size_t length = spell_outcome(found, spelled), old = entry->end - entry->outcome;
-    demand(old != length || memcmp(block->at + entry->outcome, spelled, length), "an outcome is wrong, and found to be the same");
+    uint8_t encoded[8];
+    size_t length = encode_outcome(found, encoded), old = entry->end - entry->outcome;
+    demand(old != length || memcmp(block->at + entry->outcome, encoded, length), "an outcome is wrong, and found to be the same");
     memmove(block->at + entry->outcome + length, block->at + entry->end, block->length - entry->end);
-    memcpy(block->at + entry->outcome, spelled, length);
+    memcpy(block->at + entry->outcome, encoded, length);
     block->length = block->length + length - old;
 }
 

@@ -90,7 +90,7 @@ bool rebase(const struct pair *pair, struct bytes *block);
 bool settle(const struct pair *pair, struct bytes *block);
 
 /* The bytes of an outcome, at most five; gives how many they are. The entry is not looked at. */
-size_t spell_outcome(const struct avm_difference *found, uint8_t *to);
+size_t encode_outcome(const struct avm_difference *found, uint8_t *to);
 
 /* The block without entries over a ledger, into room for as many bytes as it has. */
 enum { EMPTY_BLOCK = 4 + 2 + DIGEST + 5 * 8 + 4 + DIGEST + DIGEST };

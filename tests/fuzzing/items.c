@@ -79,7 +79,7 @@ bool are_same_tables(const struct table *one, const struct table *other) {
     return one->count == other->count;
 }
 
-struct bytes spell_items(const struct table *table, uint8_t *room) {
+struct bytes encode_items(const struct table *table, uint8_t *room) {
     size_t length = 4;
     for (size_t i = 0; i < 4; i++) room[i] = (uint8_t)(table->count >> 8 * (3 - i));
     for (size_t i = 0; i < table->count; i++) {
@@ -155,17 +155,17 @@ bool is_item(struct bytes bytes) {
 
 /* Puts the item of this kind, whose name goes on so, with a value that is there. */
 static void put_present(struct reader *reader, struct table *table, uint8_t kind, struct bytes id, struct bytes key, struct bytes value) {
-    static uint8_t name[1 + ACCOUNT + ID + 1 + MOST_KEY], spelled[1 << 16];
-    if (reader->fails || value.length >= sizeof spelled) {
+    static uint8_t name[1 + ACCOUNT + ID + 1 + MOST_KEY], encoded[1 << 16];
+    if (reader->fails || value.length >= sizeof encoded) {
         reader->fails = true;
         return;
     }
     name[0] = kind;
     memcpy(name + 1, id.at, id.length);
     memcpy(name + 1 + id.length, key.at, key.length);
-    spelled[0] = 1;
-    memcpy(spelled + 1, value.at, value.length);
-    if (!put(table, bytes_of(name, 1 + id.length + key.length), bytes_of(spelled, 1 + value.length))) reader->fails = true;
+    encoded[0] = 1;
+    memcpy(encoded + 1, value.at, value.length);
+    if (!put(table, bytes_of(name, 1 + id.length + key.length), bytes_of(encoded, 1 + value.length))) reader->fails = true;
 }
 
 /* The global state of an application: its keys, and how many values there are of each kind. */

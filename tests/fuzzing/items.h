@@ -1,4 +1,4 @@
-/* Items of ledgers with their values, read and spelled by docs/FORMATS.md ("Item", "Items") apart from the library. */
+/* Items of ledgers with their values, read and encoded by docs/FORMATS.md ("Item", "Items") apart from the library. */
 #ifndef ITEMS_H
 #define ITEMS_H
 
@@ -30,7 +30,7 @@ bool read_items(struct bytes bytes, struct table *table);
 bool is_item(struct bytes bytes);
 
 /* The items of a table, with their values, into room for ITEMS_ROOM bytes. */
-struct bytes spell_items(const struct table *table, uint8_t *room);
+struct bytes encode_items(const struct table *table, uint8_t *room);
 
 /* An item of the table, or null. */
 const struct item *find(const struct table *table, struct bytes name);

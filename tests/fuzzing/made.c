@@ -13,10 +13,10 @@ bool make_entry(struct bytes ledger, struct bytes block, const struct parts *par
 }
 
 bool ends_as(const struct avm_end *end, struct bytes outcome) {
-    uint8_t spelled[8];
+    uint8_t encoded[8];
     struct avm_difference found = {0, end->ending, end->number, end->place};
     demand(end->ending <= AVM_CLEARED_FAULTED, "an ending has no such number");
-    return are_same(bytes_of(spelled, spell_outcome(&found, spelled)), outcome);
+    return are_same(bytes_of(encoded, encode_outcome(&found, encoded)), outcome);
 }
 
 bool is_call_fault(uint32_t number) {
@@ -30,7 +30,7 @@ uint32_t attempted(struct bytes header, struct bytes call, struct bytes known, s
 
 uint32_t attempted_over(const struct made *it, const struct table *known, struct answer *answer) {
     static uint8_t room[ITEMS_ROOM];
-    return attempted(it->header, it->call, spell_items(known, room), answer);
+    return attempted(it->header, it->call, encode_items(known, room), answer);
 }
 
 bool says_nothing(const struct avm_end *end) {

@@ -85,8 +85,8 @@ def collected():
     for path in sorted((TOP / "examples").glob("*/*.teal")):
         texts.append(path.read_bytes())
     for path in sorted((TOP / "examples").glob("*/*.code")):
-        spelled = (line.split("  ")[0].split()[1:] for line in path.read_text().splitlines() if not line.startswith("#"))
-        programs.append(bytes.fromhex("".join(word for words in spelled for word in words)))
+        encoded = (line.split("  ")[0].split()[1:] for line in path.read_text().splitlines() if not line.startswith("#"))
+        programs.append(bytes.fromhex("".join(word for words in encoded for word in words)))
     for path in sorted((TOP / "examples").glob("*/*.[bf]*")):
         blocks.append(lines(path.read_text()))
     for words, given, answer, status in stored.commands():
@@ -152,15 +152,15 @@ def diagnoses(programs, texts, pairs):
     lines = [line.split() for line in stored.rows("stdin")[0].split("\n")]
     found += [b"\4" + bytes.fromhex(words[1]) for words in lines if words[:1] == ["calldata"] and is_digits(words[1:])]
     found += [b"\4" + call(ANN, 0, NOOP, program, bytes([4, 4, 4, 4])) for program in programs] + [b"\4" + page["call"][0]]
-    found += [b"\5" + bytes.fromhex(spelled) for name, spelled, _ in formats.EDGES if name == "items"] + [b"\5" + page["items"][0]]
+    found += [b"\5" + bytes.fromhex(encoded) for name, encoded, _ in formats.EDGES if name == "items"] + [b"\5" + page["items"][0]]
     found += [b"\5" + items(program) for program in programs] + [b"\6" + page["header"][0]]
     return found + [bytes([7 + 8 * status]) for status in range(32)]
 
 
-def halves(spelled):
+def halves(encoded):
     """The ledger and the block of an input."""
-    front, length = 6, int.from_bytes(spelled[:4], "big")
-    return spelled[front : front + length], spelled[front + length :]
+    front, length = 6, int.from_bytes(encoded[:4], "big")
+    return encoded[front : front + length], encoded[front + length :]
 
 
 def is_digits(words):

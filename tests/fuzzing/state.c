@@ -1,5 +1,5 @@
 /* avm_c_state: before the first call stands the ledger, by its very bytes; after the last one stands what the block's digest is of;
-   and each ledger on the way is read back and spelled by its bytes. */
+   and each ledger on the way is read back and encoded by its bytes. */
 #include "blocks.h"
 #include "sha256.h"
 
@@ -13,7 +13,7 @@ static void look_at_ledger(struct bytes ledger) {
     demand(read_ledger(ledger, &parts) || parts.application_count == MOST_APPLICATIONS, "a ledger is read by the library alone");
     demand(replayed(ledger, none, &answer) == AVM_DONE, "a block without calls does not agree with a ledger that was left");
     demand(state_at(ledger, none, 0, &answer) == AVM_DONE, "a ledger that was left is none");
-    demand(are_same(answered(&answer), ledger), "a ledger that was left is spelled otherwise");
+    demand(are_same(answered(&answer), ledger), "a ledger that was left is encoded otherwise");
 }
 
 static void look_at_longer(struct bytes ledger) {
@@ -29,7 +29,7 @@ static void look_at_ends(struct bytes ledger, struct bytes block) {
     static struct answer answer;
     uint8_t digest[DIGEST];
     if (state_at(ledger, block, 0, &answer) == AVM_NO_ROOM) return;
-    demand(answer.status == AVM_DONE && are_same(answered(&answer), ledger), "a ledger is spelled otherwise");
+    demand(answer.status == AVM_DONE && are_same(answered(&answer), ledger), "a ledger is encoded otherwise");
     demand(state_at(ledger, block, UINT64_MAX, &answer) == AVM_DONE, "a block that agrees leads to no ledger");
     sha256(answer.room, answer.written, digest);
     demand(memcmp(digest, block.at + block.length - 2 * DIGEST, DIGEST) == 0, "the ledger after has another digest");

@@ -1,10 +1,10 @@
 #!/usr/bin/env python3
-"""Spells the calls and the block of an example from its document, a second time and without the programs.
+"""Encodes the calls and the block of an example from its document, a second time and without the programs.
 
-    python3 spell.py NAME.json           writes NAME.calls and NAME.block, and NAME.forged
+    python3 encode.py NAME.json           writes NAME.calls and NAME.block, and NAME.forged
                                          where expected.json has a forged block
-    python3 spell.py --check NAME.json   compares these files with what it would write
-    python3 spell.py NAME.code           prints the digits of a program
+    python3 encode.py --check NAME.json   compares these files with what it would write
+    python3 encode.py NAME.code           prints the digits of a program
 
 No program runs here. How each call ends, and the ledger after, are worked out by hand in
 expected.json; the bytes of a program, with their places, stand in the .code file beside the
@@ -17,7 +17,7 @@ import json
 import sys
 from pathlib import Path
 
-# Faults and refusals are numbered from 1 (crates/avm_call/specs/OutcomeSpelling.antt).
+# Faults and refusals are numbered from 1 (crates/avm_call/specs/OutcomeEncoding.antt).
 FAULTS = ["Err", "Underflow", "WrongType", "Compare", "Overflow", "Negative", "DivZero", "TooLong",
           "Range", "BtoiLength", "StackFull", "NoConstant", "BadField", "NoTxn", "NoArg", "NoAccount",
           "NoForeign", "NotOptedIn", "NoSuchApp", "Schema", "KeyLength", "FinalDepth", "FinalBytes",
@@ -33,7 +33,7 @@ def u32(n): return n.to_bytes(4, "big")
 def u64(n): return n.to_bytes(8, "big")
 def short_string(s): return u8(len(s)) + s
 def string(s): return u16(len(s)) + s
-def listed(count, spellings): return count(len(spellings)) + b"".join(spellings)
+def listed(count, encodings): return count(len(encodings)) + b"".join(encodings)
 
 
 def address(text):
@@ -43,9 +43,9 @@ def address(text):
 
 def state(entries):
     """A state, from its keys with numbers or byte strings."""
-    spelled = (short_string(key) + (u8(1) + u64(value) if isinstance(value, int) else u8(2) + short_string(value))
+    encoded = (short_string(key) + (u8(1) + u64(value) if isinstance(value, int) else u8(2) + short_string(value))
                for key, value in sorted(entries.items()))
-    return listed(u8, list(spelled))
+    return listed(u8, list(encoded))
 
 
 def schema(members, uints, strings):
@@ -58,15 +58,15 @@ def program(path):
     for line in path.read_text().splitlines():
         if line.strip().startswith("#"):
             continue
-        place, spelled = line.split(maxsplit=1)
+        place, encoded = line.split(maxsplit=1)
         if int(place) != len(code):
             sys.exit(f"{path}: {line}: the place is {len(code)}")
-        code += bytes.fromhex(spelled.split("  ")[0])
+        code += bytes.fromhex(encoded.split("  ")[0])
     return code
 
 
-class Spelling:
-    """The spellings of one document."""
+class Encoding:
+    """The encodings of one document."""
 
     def __init__(self, path):
         self.path = path
@@ -186,8 +186,8 @@ def outcome(words):
     return {"approved": u8(0), "rejected": u8(1)}[kind]
 
 
-def digest(spelling):
-    return hashlib.sha256(spelling).digest()
+def digest(encoding):
+    return hashlib.sha256(encoding).digest()
 
 
 def main(words):
@@ -196,7 +196,7 @@ def main(words):
     if path.suffix == ".code":
         print(program(path).hex())
         return
-    for name, lines in Spelling(path).files():
+    for name, lines in Encoding(path).files():
         text = "".join(line.hex() + "\n" for line in lines)
         if not check:
             Path(name).write_text(text)
