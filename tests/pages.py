@@ -11,7 +11,7 @@ LAST_TIMESTAMP = str(2**64 - 1)
 
 def fixed_texts():
     """What stands on each page before its document, and behind it."""
-    return re.findall('r##"(.*?)"##;', stored.read("json_page/src/texts.rt"), re.DOTALL)
+    return re.findall('r##"(.*?)"##;', stored.read("json_commands/src/texts.rt"), re.DOTALL)
 
 
 def page(run, avm, avm_json, given, number, trace, outcomes):

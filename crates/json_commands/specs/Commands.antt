@@ -7,7 +7,7 @@ use Rattle.json_documents.specs.Replies.{lines_reply}
 use Rattle.json_views.specs.Runs.{IsRunReply}
 use Rattle.json_views.specs.Show.{show_reply}
 use Rattle.json_views.specs.TraceReplies.{IsTraceReply}
-use Rattle.json_page.specs.Pages.{IsPageReply}
+use Rattle.json_commands.specs.Pages.{IsPageReply}
 
 -- what words that are no command are answered with
 abbrev pub usage_reply : Reply

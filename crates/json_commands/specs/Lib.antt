@@ -1,1 +1,4 @@
 pub mod Commands
+pub mod Pages
+pub mod ReadingBack
+pub mod Writing

@@ -7,6 +7,7 @@ ghost use Rattle.avm_input.specs.Shown.{reply_shown};
 ghost use Rattle.avm_input.specs.JsonCommandLine.{json_command_in};
 ghost use Rattle.json_commands.specs.Commands.{IsJsonReply, usage_reply};
 
+use crate::page::page_reply;
 use avm_input::{
     FAILED, INPUT_LIMIT, JsonCommand, Reply, USAGE, input_refusal, json_command_in, read_input,
     write_reply,
@@ -14,7 +15,6 @@ use avm_input::{
 use avm_ops::Op;
 use avm_run::FullOps;
 use json_documents::lines_reply;
-use json_page::page_reply;
 use json_views::{run_reply, show_reply, trace_reply};
 use std::alloc::{AllocError, Global};
 use std::io::{self, Read, Write};

@@ -1,0 +1,9 @@
+use Rattle.std.proofs.Common.{◌∙◌}
+use Rattle.std.proofs.lemmas.Result.{on_ok_weaker}
+use Rattle.json_commands.proofs.front.put_verdict.Goals as goal
+
+pub returns : goal.returns
+returns g c =
+    let judged = rw (c.ledger.ensures, c.block.ensures) at c.in_ok-verdict.ensures in
+    let words = c.as_str.ensures.value ∙ c.in_ok-words.ensures in
+    on_ok_weaker c.put_text_member.result (λ adds. (c.in_ok-verdict.verdict, judged, rw words at adds)) c.put_text_member.ensures

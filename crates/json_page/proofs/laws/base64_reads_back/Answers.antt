@@ -1,5 +1,0 @@
-use Rattle.json_page.proofs.ReadingBack.{base64_reads_back}
-use Rattle.json_page.proofs.laws.base64_reads_back.Goals as goal
-
-pub returns : goal.returns
-returns c = base64_reads_back

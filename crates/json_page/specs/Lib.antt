@@ -1,3 +1,0 @@
-pub mod Pages
-pub mod ReadingBack
-pub mod Writing
