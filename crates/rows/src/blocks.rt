@@ -73,10 +73,10 @@ pub fn reply<O: Op>(
     row: Words,
 ) -> Result<Option<String>, Fail> {
     match row.head {
-        "plain" => Ok(Some(plain(alloc, ops, bench, blocks, row.rest)?)),
-        "steps" => Ok(Some(steps(alloc, ops, bench, row.rest)?)),
+        "plain" => plain(alloc, ops, bench, blocks, row.rest).map(Some),
+        "steps" => steps(alloc, ops, bench, row.rest).map(Some),
         "made" | "copy" | "past" | "past_of" => match &blocks.block {
-            Some(block) => Ok(Some(look(alloc, ops, &bench.ledger, block, row)?)),
+            Some(block) => look(alloc, ops, &bench.ledger, block, row).map(Some),
             None => Err("no block is made".into()),
         },
         _ => Ok(None),

@@ -63,28 +63,20 @@ impl JournalEvent {
     /// The event of these words.
     pub fn of(alloc: Global, words: &[&str]) -> Result<JournalEvent, Fail> {
         match word(words, 0)? {
-            "begin" => Ok(JournalEvent::Begin(name(alloc, words, 1)?, call_number(words, 2)?)),
-            "stranger" => Ok(JournalEvent::Stranger(
-                name(alloc, words, 1)?,
-                call_number(words, 2)?,
-                number(words, 3)?,
-            )),
-            "run" => Ok(JournalEvent::Run(name(alloc, words, 1)?)),
-            "read" => Ok(JournalEvent::Read(name(alloc, words, 1)?, item(alloc, words, 2)?)),
-            "commit" => Ok(JournalEvent::Commit(name(alloc, words, 1)?)),
-            "abandon" => Ok(JournalEvent::Abandon(name(alloc, words, 1)?)),
-            "attempt" => Ok(JournalEvent::Attempt(name(alloc, words, 1)?)),
-            "prune" => Ok(JournalEvent::Prune(number(words, 1)?)),
-            "shards" => Ok(JournalEvent::Shards(number(words, 1)?)),
-            "find" => Ok(JournalEvent::Find(number(words, 1)?, item(alloc, words, 2)?)),
-            "shard" => Ok(JournalEvent::Shard(
-                word(words, 1)?.parse::<u8>()?,
-                number(words, 2)?,
-                item(alloc, words, 3)?,
-            )),
-            "versions" => Ok(JournalEvent::Versions(item(alloc, words, 1)?)),
+            "begin" => begun(alloc, words),
+            "stranger" => stranger(alloc, words),
+            "run" => name(alloc, words, 1).map(JournalEvent::Run),
+            "read" => read_event(alloc, words),
+            "commit" => name(alloc, words, 1).map(JournalEvent::Commit),
+            "abandon" => name(alloc, words, 1).map(JournalEvent::Abandon),
+            "attempt" => name(alloc, words, 1).map(JournalEvent::Attempt),
+            "prune" => number(words, 1).map(JournalEvent::Prune),
+            "shards" => number(words, 1).map(JournalEvent::Shards),
+            "find" => found_at(alloc, words),
+            "shard" => found_by_shard(alloc, words),
+            "versions" => item(alloc, words, 1).map(JournalEvent::Versions),
             "look" => Ok(JournalEvent::Look),
-            "state" => Ok(JournalEvent::State(number(words, 1)?)),
+            "state" => number(words, 1).map(JournalEvent::State),
             "is_of" => Ok(JournalEvent::IsOf),
             "seal" => Ok(JournalEvent::Seal),
             "block" => Ok(JournalEvent::Block),
@@ -92,6 +84,28 @@ impl JournalEvent {
             _ => Err("there is no such row of a journal".into()),
         }
     }
+}
+
+fn begun(alloc: Global, words: &[&str]) -> Result<JournalEvent, Fail> {
+    Ok(JournalEvent::Begin(name(alloc, words, 1)?, call_number(words, 2)?))
+}
+
+fn stranger(alloc: Global, words: &[&str]) -> Result<JournalEvent, Fail> {
+    let (number, timestamp) = (call_number(words, 2)?, number(words, 3)?);
+    Ok(JournalEvent::Stranger(name(alloc, words, 1)?, number, timestamp))
+}
+
+fn read_event(alloc: Global, words: &[&str]) -> Result<JournalEvent, Fail> {
+    Ok(JournalEvent::Read(name(alloc, words, 1)?, item(alloc, words, 2)?))
+}
+
+fn found_at(alloc: Global, words: &[&str]) -> Result<JournalEvent, Fail> {
+    Ok(JournalEvent::Find(number(words, 1)?, item(alloc, words, 2)?))
+}
+
+fn found_by_shard(alloc: Global, words: &[&str]) -> Result<JournalEvent, Fail> {
+    let (index, timestamp) = (word(words, 1)?.parse::<u8>()?, number(words, 2)?);
+    Ok(JournalEvent::Shard(index, timestamp, item(alloc, words, 3)?))
 }
 
 /// A journal and its shards.
@@ -356,7 +370,7 @@ impl Journals {
             Some(shard) if timestamp > 0 => {
                 let mut attempt = Attempt::new(alloc, 1, timestamp);
                 match shard.read(&mut attempt, item.copied()) {
-                    Ok(value) => Ok(Said::Text(value_text(alloc, &value)?)),
+                    Ok(value) => value_text(alloc, &value).map(Said::Text),
                     Err(failure) => Ok(Said::Word(failure.into_fault()?.name())),
                 }
             }
@@ -414,7 +428,7 @@ fn read(
     item: &Item,
 ) -> Result<Said, AllocError> {
     match found(alloc, held, attempt, item)? {
-        Some(value) => Ok(Said::Text(value_text(alloc, &value)?)),
+        Some(value) => value_text(alloc, &value).map(Said::Text),
         None => Ok(Said::Word("Pruned")),
     }
 }
@@ -562,7 +576,7 @@ fn on_parts(alloc: Global, parts: &mut Parts, event: &JournalEvent) -> Result<Sa
         JournalEvent::Look => look(alloc, &parts.journal),
         JournalEvent::State(timestamp) => {
             let ledger = parts.journal.ledger_at(alloc, *timestamp)?;
-            Ok(Said::Text(digits_of(alloc, &ledger)?))
+            digits_of(alloc, &ledger).map(Said::Text)
         }
         _ => Ok(Said::Word("no event of a journal")),
     }

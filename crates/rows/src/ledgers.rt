@@ -72,23 +72,31 @@ pub fn reply<O: Op>(
 ) -> Result<Option<String>, Fail> {
     let words = row.rest;
     match row.head {
-        "call" => Ok(Some(called(alloc, ops, bench, None, words)?)),
-        "call3" => Ok(Some(called(alloc, ops, bench, Some(Profile::Three), words)?)),
-        "ledger" => Ok(Some(ledger_read(alloc, bench, words)?)),
-        "bytes" => Ok(Some(digits_of(alloc, &bench.ledger)?)),
-        "digest" => Ok(Some(hex::encode(alloc, bench.ledger.digest(alloc)?.as_slice())?)),
-        "calldata" => Ok(Some(call_data_again(alloc, bench, words)?)),
-        "block" => Ok(Some(block_again(alloc, bench, words)?)),
-        "beginnings" => Ok(Some(beginnings(alloc, bench, words)?)),
-        "changed" => Ok(Some(changed(alloc, bench, words)?)),
-        "program" => {
-            let name = word(words, 0)?;
-            let told = bench.programs.assemble(alloc, name, input.as_slice())?;
-            input.clear();
-            Ok(Some(told))
-        }
+        "call" => called(alloc, ops, bench, None, words).map(Some),
+        "call3" => called(alloc, ops, bench, Some(Profile::Three), words).map(Some),
+        "ledger" => ledger_read(alloc, bench, words).map(Some),
+        "bytes" => digits_of(alloc, &bench.ledger).map(Some),
+        "digest" => digest_of(alloc, &bench.ledger).map(Some),
+        "calldata" => call_data_again(alloc, bench, words).map(Some),
+        "block" => block_again(alloc, bench, words).map(Some),
+        "beginnings" => beginnings(alloc, bench, words).map(Some),
+        "changed" => changed(alloc, bench, words).map(Some),
+        "program" => assembled(alloc, bench, input, words).map(Some),
         _ => Ok(None),
     }
+}
+
+/// Assembles the input, which begins anew.
+fn assembled(
+    alloc: Global,
+    bench: &mut Bench,
+    input: &mut Vec<u8>,
+    words: &[&str],
+) -> Result<String, Fail> {
+    let name = word(words, 0)?;
+    let told = bench.programs.assemble(alloc, name, input.as_slice())?;
+    input.clear();
+    Ok(told)
 }
 
 /// Whether a row sets something, and has no answer.
@@ -108,6 +116,10 @@ pub fn is_set(alloc: Global, bench: &mut Bench, row: Words) -> Result<bool, Fail
         }
         _ => Ok(false),
     }
+}
+
+fn digest_of(alloc: Global, ledger: &Ledger) -> Result<String, Fail> {
+    Ok(hex::encode(alloc, ledger.digest(alloc)?.as_slice())?)
 }
 
 /// The bytes of a ledger.

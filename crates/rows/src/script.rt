@@ -71,18 +71,26 @@ fn step_of(alloc: Global, said: &mut Said, line: &str) -> Result<Option<Step>, F
     }
     let words: Vec<&str> = rest.split_whitespace().collect(alloc)?;
     let words = words.as_slice();
-    match head {
-        "#" => Ok(Some(Step::Told(None))),
-        "program" => Ok(Some(program_of(alloc, said, words)?)),
-        "ledger" => Ok(Some(ledger_of(alloc, said, words)?)),
-        "call" => {
-            said.calls.push(call(alloc, &said.programs, words)?)?;
-            Ok(None)
-        }
-        "journal" => Ok(Some(Step::Journal(JournalEvent::of(alloc, words)?))),
-        "parts" => Ok(Some(Step::Journal(JournalEvent::Open(stored(alloc, said)?)))),
-        _ => Ok(Some(Step::Store(store_event(alloc, said, head, words)?))),
+    if head == "call" {
+        said.calls.push(call(alloc, &said.programs, words)?)?;
+        return Ok(None);
     }
+    step_by_words(alloc, said, head, words).map(Some)
+}
+
+fn step_by_words(alloc: Global, said: &mut Said, head: &str, words: &[&str]) -> Result<Step, Fail> {
+    match head {
+        "#" => Ok(Step::Told(None)),
+        "program" => program_of(alloc, said, words),
+        "ledger" => ledger_of(alloc, said, words),
+        "journal" => JournalEvent::of(alloc, words).map(Step::Journal),
+        "parts" => journal_opened(alloc, said),
+        _ => store_event(alloc, said, head, words).map(Step::Store),
+    }
+}
+
+fn journal_opened(alloc: Global, said: &mut Said) -> Result<Step, Fail> {
+    Ok(Step::Journal(JournalEvent::Open(stored(alloc, said)?)))
 }
 
 fn program_of(alloc: Global, said: &mut Said, words: &[&str]) -> Result<Step, Fail> {
@@ -118,24 +126,26 @@ fn store_event(
     words: &[&str],
 ) -> Result<StoreEvent, Fail> {
     match head {
-        "open" => Ok(StoreEvent::Open(stored(alloc, said)?)),
-        "plain" => Ok(StoreEvent::Plain(stored(alloc, said)?)),
-        "events" => Ok(StoreEvent::Events(stored(alloc, said)?, events_of(alloc, words)?)),
-        "begin" => Ok(StoreEvent::Begin(call_number(words, 0)?)),
-        "read" => Ok(StoreEvent::Read(ticket(words)?, item(alloc, words, 2)?)),
-        "unmarked" => Ok(StoreEvent::Unmarked(
-            ticket(words)?,
-            name(alloc, words, 2)?,
-            item(alloc, words, 3)?,
+        "open" => stored(alloc, said).map(StoreEvent::Open),
+        "plain" => stored(alloc, said).map(StoreEvent::Plain),
+        "events" => store_after(alloc, said, words),
+        "begin" => call_number(words, 0).map(StoreEvent::Begin),
+        "read" => read_by(alloc, words),
+        "unmarked" => unmarked(alloc, words),
+        "run" => named(alloc, words).map(|(ticket, name)| StoreEvent::Run(ticket, name)),
+        "commit" => named(alloc, words).map(|(ticket, name)| StoreEvent::Commit(ticket, name)),
+        "abandon" => ticket(words).map(StoreEvent::Abandon),
+        "prune" => number(words, 0).map(StoreEvent::Prune),
+        "versions" => item(alloc, words, 0).map(StoreEvent::Versions),
+        "state" => number(words, 0).map(StoreEvent::State),
+        "debug" => numbers(words).map(|(entry, steps)| StoreEvent::Debug(
+            entry as usize,
+            steps as usize,
         )),
-        "run" => Ok(StoreEvent::Run(ticket(words)?, name(alloc, words, 2)?)),
-        "commit" => Ok(StoreEvent::Commit(ticket(words)?, name(alloc, words, 2)?)),
-        "abandon" => Ok(StoreEvent::Abandon(ticket(words)?)),
-        "prune" => Ok(StoreEvent::Prune(number(words, 0)?)),
-        "versions" => Ok(StoreEvent::Versions(item(alloc, words, 0)?)),
-        "state" => Ok(StoreEvent::State(number(words, 0)?)),
-        "debug" => Ok(StoreEvent::Debug(number(words, 0)? as usize, number(words, 1)? as usize)),
-        "past" => Ok(StoreEvent::Past(number(words, 0)? as usize, number(words, 1)?)),
+        "past" => numbers(words).map(|(entry, timestamp)| StoreEvent::Past(
+            entry as usize,
+            timestamp,
+        )),
         "entries" => Ok(StoreEvent::Entries),
         "is_of" => Ok(StoreEvent::IsOf),
         "seal" => Ok(StoreEvent::Seal),
@@ -143,6 +153,29 @@ fn store_event(
         "replay" => Ok(StoreEvent::Replay),
         _ => Err("there is no such row".into()),
     }
+}
+
+fn store_after(alloc: Global, said: &mut Said, words: &[&str]) -> Result<StoreEvent, Fail> {
+    let events = events_of(alloc, words)?;
+    Ok(StoreEvent::Events(stored(alloc, said)?, events))
+}
+
+fn read_by(alloc: Global, words: &[&str]) -> Result<StoreEvent, Fail> {
+    Ok(StoreEvent::Read(ticket(words)?, item(alloc, words, 2)?))
+}
+
+fn unmarked(alloc: Global, words: &[&str]) -> Result<StoreEvent, Fail> {
+    let (ticket, name) = named(alloc, words)?;
+    Ok(StoreEvent::Unmarked(ticket, name, item(alloc, words, 3)?))
+}
+
+/// A ticket, and the name behind it.
+fn named(alloc: Global, words: &[&str]) -> Result<(Ticket, String), Fail> {
+    Ok((ticket(words)?, name(alloc, words, 2)?))
+}
+
+fn numbers(words: &[&str]) -> Result<(u64, u64), Fail> {
+    Ok((number(words, 0)?, number(words, 1)?))
 }
 
 fn ticket(words: &[&str]) -> Result<Ticket, Fail> {
@@ -169,16 +202,20 @@ fn events_of(alloc: Global, words: &[&str]) -> Result<Vec<Event>, Fail> {
 fn event_of(word: &str) -> Result<Event, Fail> {
     if let Some(rest) = word.strip_prefix("b") {
         let (worker, number) = rest.split_once(':').unwrap_or((rest, ""));
-        Ok(Event::Begin(worker.parse::<u8>()?, number.parse::<u32>()?))
+        Ok(Event::Begin(worker_of(worker)?, number.parse::<u32>()?))
     } else if let Some(rest) = word.strip_prefix("r") {
-        Ok(Event::Read(rest.parse::<u8>()?))
+        worker_of(rest).map(Event::Read)
     } else if let Some(rest) = word.strip_prefix("c") {
-        Ok(Event::Commit(rest.parse::<u8>()?))
+        worker_of(rest).map(Event::Commit)
     } else if let Some(rest) = word.strip_prefix("a") {
-        Ok(Event::Abandon(rest.parse::<u8>()?))
+        worker_of(rest).map(Event::Abandon)
     } else if let Some(rest) = word.strip_prefix("p") {
         Ok(Event::Prune(rest.parse::<u64>()?))
     } else {
         Err("there is no such event".into())
     }
+}
+
+fn worker_of(word: &str) -> Result<u8, Fail> {
+    Ok(word.parse::<u8>()?)
 }

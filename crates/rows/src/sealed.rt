@@ -31,7 +31,7 @@ pub fn replay_text<O: Op>(
 ) -> Result<Said, AllocError> {
     match sealed {
         Some(sealed) => match replay(alloc, base, &sealed.block, ops)? {
-            Verdict::Agrees(after) => Ok(Said::Text(digits_of(alloc, &after)?)),
+            Verdict::Agrees(after) => digits_of(alloc, &after).map(Said::Text),
             _ => Ok(Said::Word("does not agree")),
         },
         None => Ok(Said::Word("no block")),

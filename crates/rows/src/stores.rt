@@ -550,9 +550,9 @@ fn on_store<O: Op>(
         StoreEvent::Versions(item) => {
             Ok(Said::Text(format!(in alloc; "{}", store.versions(item))?))
         }
-        StoreEvent::Entries => Ok(Said::Text(entries_text(alloc, store.entries())?)),
+        StoreEvent::Entries => entries_text(alloc, store.entries()).map(Said::Text),
         StoreEvent::State(timestamp) => match store.state_at(alloc, *timestamp) {
-            Ok(ledger) => Ok(Said::Text(digits_of(alloc, &ledger)?)),
+            Ok(ledger) => digits_of(alloc, &ledger).map(Said::Text),
             Err(failure) => Ok(Said::Word(failure.into_fault()?.name())),
         },
         StoreEvent::Debug(entry, steps) => debug(alloc, ops, store, *entry, *steps),
@@ -575,7 +575,7 @@ fn read(
     item: &Item,
 ) -> Result<Said, AllocError> {
     match store.read(ticket, item.copied()) {
-        Ok(value) => Ok(Said::Text(value_text(alloc, &value)?)),
+        Ok(value) => value_text(alloc, &value).map(Said::Text),
         Err(failure) => Ok(Said::Word(failure.into_fault()?.name())),
     }
 }
@@ -642,7 +642,7 @@ fn past<O: Op>(
 
 fn past_text(alloc: Global, past: Result<Ledger, PastError>) -> Result<Said, AllocError> {
     match past {
-        Ok(ledger) => Ok(Said::Text(digits_of(alloc, &ledger)?)),
+        Ok(ledger) => digits_of(alloc, &ledger).map(Said::Text),
         Err(failure) => Ok(Said::Word(failure.into_fault()?.name())),
     }
 }

@@ -15,18 +15,26 @@ const NOBODY: Address = Address([0; 32]);
 /// The answer to a row, or nothing where its head is none of these.
 pub fn reply(alloc: Global, head: &str, rest: &str) -> Result<Option<String>, Fail> {
     match head {
-        "base32" => Ok(Some(base32_encode(alloc, rest.as_bytes())?)),
-        "nobody" => Ok(Some(address_text(alloc, &NOBODY)?)),
-        "base32_bytes" => Ok(Some(base32_bytes(alloc, rest)?)),
-        "address" => Ok(Some(address_bytes(alloc, rest)?)),
-        "literal" => Ok(Some(literal_bytes(alloc, rest, None)?)),
+        "base32" => base32_text(alloc, rest).map(Some),
+        "nobody" => nobody(alloc).map(Some),
+        "base32_bytes" => base32_bytes(alloc, rest).map(Some),
+        "address" => address_bytes(alloc, rest).map(Some),
+        "literal" => literal_bytes(alloc, rest, None).map(Some),
         "literal_of" => {
             let (encoding, text) = rest.split_once(' ').unwrap_or((rest, ""));
-            Ok(Some(literal_bytes(alloc, encoding, Some(text))?))
+            literal_bytes(alloc, encoding, Some(text)).map(Some)
         }
-        "lines" => Ok(Some(lines_of_literal(alloc, rest)?)),
+        "lines" => lines_of_literal(alloc, rest).map(Some),
         _ => Ok(None),
     }
+}
+
+fn base32_text(alloc: Global, text: &str) -> Result<String, Fail> {
+    Ok(base32_encode(alloc, text.as_bytes())?)
+}
+
+fn nobody(alloc: Global) -> Result<String, Fail> {
+    Ok(address_text(alloc, &NOBODY)?)
 }
 
 fn base32_bytes(alloc: Global, text: &str) -> Result<String, Fail> {

@@ -77,17 +77,7 @@ pub fn fields(alloc: Global, programs: &Programs, words: &[&str]) -> Result<Call
         accounts: Vec::new(alloc),
         applications: Vec::new(alloc),
     };
-    let mut place = 0usize;
-    for word in words {
-        match word.split_once('=') {
-            Some((name, value)) => set(alloc, &mut fields, &mut lists, name, value)?,
-            None if place > 5 => add_argument(alloc, &mut lists, word)?,
-            None => {
-                set_at(alloc, programs, &mut fields, place, word)?;
-                place = place.saturating_add(1);
-            }
-        }
-    }
+    set_all(alloc, programs, &mut fields, &mut lists, words)?;
     let Lists {
         arguments,
         accounts,
@@ -97,6 +87,28 @@ pub fn fields(alloc: Global, programs: &Programs, words: &[&str]) -> Result<Call
     fields.accounts = Addresses::from_vec(accounts);
     fields.foreign_applications = Uints::from_vec(applications);
     Ok(fields)
+}
+
+/// Sets each field of the words, by its name or else by its place.
+fn set_all(
+    alloc: Global,
+    programs: &Programs,
+    fields: &mut CallData,
+    lists: &mut Lists,
+    words: &[&str],
+) -> Result<(), Fail> {
+    let mut place = 0usize;
+    for word in words {
+        match word.split_once('=') {
+            Some((name, value)) => set(alloc, fields, lists, name, value)?,
+            None if place > 5 => add_argument(alloc, lists, word)?,
+            None => {
+                set_at(alloc, programs, fields, place, word)?;
+                place = place.saturating_add(1);
+            }
+        }
+    }
+    Ok(())
 }
 
 fn add_argument(alloc: Global, lists: &mut Lists, word: &str) -> Result<(), Fail> {
@@ -135,13 +147,26 @@ fn set(
     match name {
         "sender" => fields.sender = account(value)?,
         "note" => fields.note = ByteString::from_vec(bytes(alloc, value)?),
-        "fee" => fields.fee = value.parse::<u64>()?,
-        "first" => fields.first_valid = value.parse::<u64>()?,
-        "last" => fields.last_valid = value.parse::<u64>()?,
         "local" => fields.local_schema.uints = value.parse::<u8>()?,
-        "arg" => add_argument(alloc, lists, value)?,
+        "arg" => return add_argument(alloc, lists, value),
         "account" => lists.accounts.push(account(value)?)?,
-        "foreign" => lists.applications.push(value.parse::<u64>()?)?,
+        _ => return set_number(fields, lists, name, value.parse::<u64>()?),
+    }
+    Ok(())
+}
+
+/// Sets the number of a name, or adds it to the foreign applications.
+fn set_number(
+    fields: &mut CallData,
+    lists: &mut Lists,
+    name: &str,
+    number: u64,
+) -> Result<(), Fail> {
+    match name {
+        "fee" => fields.fee = number,
+        "first" => fields.first_valid = number,
+        "last" => fields.last_valid = number,
+        "foreign" => lists.applications.push(number)?,
         _ => return Err("there is no such field".into()),
     }
     Ok(())

@@ -76,12 +76,16 @@ pub fn item(alloc: Global, words: &[&str], index: usize) -> Result<Item, Fail> {
     let second = index.saturating_add(2);
     match word(words, index)? {
         "next" => Ok(Item::NextApp),
-        "app" => Ok(Item::App(number(words, first)?)),
-        "counts" => Ok(Item::Counts(number(words, first)?)),
+        "app" => number(words, first).map(Item::App),
+        "counts" => number(words, first).map(Item::Counts),
         "key" => Ok(Item::Key(number(words, first)?, key(alloc, word(words, second)?)?)),
-        "local" => Ok(Item::Local(account(word(words, first)?)?, number(words, second)?)),
+        "local" => local_state(words, first, second),
         _ => Err("there is no such item".into()),
     }
+}
+
+fn local_state(words: &[&str], who: usize, application: usize) -> Result<Item, Fail> {
+    Ok(Item::Local(account(word(words, who)?)?, number(words, application)?))
 }
 
 /// Bytes in pieces: `#NUMBER` is a number in eight bytes, `@ACCOUNT` an address, `:PROGRAM` a program behind its length
@@ -101,15 +105,20 @@ fn add_piece(
     word: &str,
 ) -> Result<(), Fail> {
     if let Some(digits) = word.strip_prefix("#") {
-        all.extend_from_slice(&digits.parse::<u64>()?.to_be_bytes())?;
+        add(all, &digits.parse::<u64>()?.to_be_bytes())
     } else if let Some(letter) = word.strip_prefix("@") {
-        all.extend_from_slice(&account(letter)?.0)?;
+        add(all, &account(letter)?.0)
     } else if let Some(name) = word.strip_prefix(":") {
-        add_program(all, programs.named(alloc, name)?.as_slice())?;
-    } else if word != "-" {
-        all.extend_from_slice(hex::decode(alloc, word)?.as_slice())?;
+        add_program(all, programs.named(alloc, name)?.as_slice())
+    } else if word == "-" {
+        Ok(())
+    } else {
+        add(all, hex::decode(alloc, word)?.as_slice())
     }
-    Ok(())
+}
+
+fn add(all: &mut Vec<u8>, bytes: &[u8]) -> Result<(), Fail> {
+    Ok(all.extend_from_slice(bytes)?)
 }
 
 fn add_program(all: &mut Vec<u8>, program: &[u8]) -> Result<(), Fail> {
