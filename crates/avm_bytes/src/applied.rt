@@ -11,8 +11,9 @@ use crate::findings::{Difference, difference_of};
 use crate::questions::Question;
 use crate::statuses::Status;
 use avm_block::Block;
+use avm_ledger::Base;
 use avm_ops::{Op, OpSet, Ops};
-use avm_replay::{Base, Verdict, replay_owned};
+use avm_replay::{Verdict, replay_owned};
 use avm_run::FullOps;
 use std::alloc::{AllocError, Global};
 

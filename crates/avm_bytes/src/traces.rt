@@ -11,9 +11,8 @@ use crate::blocks::ledger_and_block;
 use crate::questions::Question;
 use crate::statuses::Status;
 use avm_block::Block;
-use avm_ledger::Ledger;
+use avm_ledger::Base;
 use avm_ops::{Op, OpSet, Ops};
-use avm_replay::Base;
 use avm_run::FullOps;
 use avm_stepper::OpenFault;
 use json_views::{TraceRefusal, block_trace, entry_trace};
@@ -74,7 +73,7 @@ fn traced<O: Op>(
     if entry == 0 {
         return block_answer(alloc, base, block, ops);
     }
-    entry_answer(alloc, base.ledger(), block, entry as usize, ops)
+    entry_answer(alloc, &base, block, entry as usize, ops)
 }
 
 /// What all calls do.
@@ -97,15 +96,15 @@ fn block_answer<O: Op>(
 /// What the call of an entry does.
 fn entry_answer<O: Op>(
     alloc: Global,
-    ledger: &Ledger,
+    base: &Base,
     block: &Block,
     number: usize,
     ops: &FullOps<O>,
 ) -> Result<Answer, AllocError>
     ensures { IfOk result (λ answer.
-        IsFoundTrace (FindsEntry (ledger.now, block.now) number) (answer_shown answer)) }
+        IsFoundTrace (FindsEntry (base.now, block.now) number) (answer_shown answer)) }
 {
-    match entry_trace(alloc, ledger, block, number, ops) {
+    match entry_trace(alloc, base, block, number, ops) {
         Ok(text) => Ok(done(text.into_bytes())),
         Err(Failure::Fault(why)) => Ok(refusal(alloc, trace_status(why))),
         Err(Failure::Memory) => Err(AllocError),

@@ -12,7 +12,7 @@ use crate::statuses::Status;
 use avm_block::Block;
 use avm_commands::{DebugPoint, view_found};
 use avm_input::Refusal;
-use avm_ledger::Ledger;
+use avm_ledger::Base;
 use avm_ops::{Op, OpSet, Ops};
 use avm_run::FullOps;
 use avm_stepper::OpenFault;
@@ -45,7 +45,7 @@ impl Question for ViewAfter<'_> {
                     number: self.entry as usize,
                     steps: self.steps,
                 };
-                view_of(alloc, base.ledger(), &block, point, ops)
+                view_of(alloc, &base, &block, point, ops)
             }
             Err(failure) => Ok(refusal(alloc, failure.into_fault()?)),
         }
@@ -54,16 +54,16 @@ impl Question for ViewAfter<'_> {
 
 fn view_of<O: Op>(
     alloc: Global,
-    ledger: &Ledger,
+    base: &Base,
     block: &Block,
     point: DebugPoint,
     ops: Ops<O>,
 ) -> Result<Answer, AllocError>
     requires full { IsFull O.opcode ops }
     ensures { IfOk result (λ answer.
-        IsViewAnswer point.number point.steps (Ok (ledger.now, block.now)) (answer_shown answer)) }
+        IsViewAnswer point.number point.steps (Ok (base.now, block.now)) (answer_shown answer)) }
 {
-    match view_found(alloc, ledger, block, point, &FullOps::from_full(ops)) {
+    match view_found(alloc, base, block, point, &FullOps::from_full(ops)) {
         Ok(text) => Ok(done(text.into_bytes())),
         Err(Failure::Fault(why)) => Ok(refusal(alloc, view_status(why))),
         Err(Failure::Memory) => Err(AllocError),

@@ -12,9 +12,9 @@ use avm_call::Outcome;
 use avm_input::{
     DONE, REFUSED, Refusal, Reply, digit_line_bytes, ledger_and_block, outcome_text, refusal_reply,
 };
-use avm_ledger::Ledger;
+use avm_ledger::{Base, Ledger};
 use avm_ops::Op;
-use avm_replay::{Base, Verdict, replay_owned, state_at_owned};
+use avm_replay::{Verdict, replay_owned, state_at_owned};
 use avm_run::FullOps;
 use std::alloc::{AllocError, Global};
 use teal_value::Failure;

@@ -10,9 +10,8 @@ use crate::leftovers::leak_at_exit;
 use crate::view_text::view_text;
 use avm_block::Block;
 use avm_input::{DONE, Refusal, Reply, ledger_and_block, refusal_reply};
-use avm_ledger::Ledger;
+use avm_ledger::Base;
 use avm_ops::Op;
-use avm_replay::Base;
 use avm_run::FullOps;
 use avm_stepper::{StepFault, Stepper};
 use std::alloc::{AllocError, Global};
@@ -43,7 +42,7 @@ pub fn debug_reply<O: Op, const EXITS: bool>(
     };
     match ledger_and_block(alloc, input) {
         Ok((base, block)) => {
-            let reply = found_reply(alloc, base.ledger(), &block, point, ops);
+            let reply = found_reply(alloc, &base, &block, point, ops);
             leak_at_exit::<Base, EXITS>(base);
             leak_at_exit::<Block, EXITS>(block);
             reply
@@ -54,15 +53,15 @@ pub fn debug_reply<O: Op, const EXITS: bool>(
 
 fn found_reply<O: Op>(
     alloc: Global,
-    ledger: &Ledger,
+    base: &Base,
     block: &Block,
     point: DebugPoint,
     ops: &FullOps<O>,
 ) -> Result<Reply, AllocError>
     ensures { IfOk result (λ reply.
-        IsFoundReply point.number point.steps (Ok (ledger.now, block.now)) (reply_shown reply)) }
+        IsFoundReply point.number point.steps (Ok (base.now, block.now)) (reply_shown reply)) }
 {
-    match view_found(alloc, ledger, block, point, ops) {
+    match view_found(alloc, base, block, point, ops) {
         Ok(text) => Ok(Reply {
             text: text.into_bytes(),
             status: DONE,
@@ -75,17 +74,17 @@ fn found_reply<O: Op>(
 /// The view at a point of a block, in words; or why there is none.
 pub fn view_found<O: Op>(
     alloc: Global,
-    ledger: &Ledger,
+    base: &Base,
     block: &Block,
     point: DebugPoint,
     ops: &FullOps<O>,
 ) -> Result<String, Failure<Refusal>>
     ensures found { IfOk result
-        (λ text. FindsText (ledger.now, block.now) point.number point.steps (string_bytes text)) }
-    ensures refused { IfErr result (IsDebugRefused ledger.now block.now point.number point.steps) }
+        (λ text. FindsText (base.now, block.now) point.number point.steps (string_bytes text)) }
+    ensures refused { IfErr result (IsDebugRefused base.now block.now point.number point.steps) }
 {
     let DebugPoint { number, steps } = point;
-    let stepper = stepper_at(alloc, ledger, block, number, steps, ops)?;
+    let stepper = stepper_at(alloc, base, block, number, steps, ops)?;
     match shown_text(alloc, &stepper) {
         Ok(text) => Ok(text),
         Err(AllocError) => Err(Failure::Memory),
@@ -95,16 +94,16 @@ pub fn view_found<O: Op>(
 /// The call of an entry, so many steps on.
 fn stepper_at<O: Op>(
     alloc: Global,
-    ledger: &Ledger,
+    base: &Base,
     block: &Block,
     entry: usize,
     steps: u64,
     ops: &FullOps<O>,
 ) -> Result<Stepper, Failure<Refusal>>
-    ensures come { IfOk result (λ stepper. HasCome ledger.now block.now entry steps stepper) }
-    ensures refused { IfErr result (IsDebugRefused ledger.now block.now entry steps) }
+    ensures come { IfOk result (λ stepper. HasCome base.now block.now entry steps stepper) }
+    ensures refused { IfErr result (IsDebugRefused base.now block.now entry steps) }
 {
-    let mut stepper = opened(alloc, ledger, block, entry, ops)?;
+    let mut stepper = opened(alloc, base, block, entry, ops)?;
     for _step in 0..steps {
         match stepper.step(alloc, ops) {
             Ok(()) => {}
@@ -118,15 +117,15 @@ fn stepper_at<O: Op>(
 /// The call of an entry, before the first instruction of its program.
 fn opened<O: Op>(
     alloc: Global,
-    ledger: &Ledger,
+    base: &Base,
     block: &Block,
     entry: usize,
     ops: &FullOps<O>,
 ) -> Result<Stepper, Failure<Refusal>>
-    ensures opened { IfOk result (λ stepper. IsOpened ledger.now block.now entry stepper) }
-    ensures refused { (steps : ℕ) → IfErr result (IsDebugRefused ledger.now block.now entry steps) }
+    ensures opened { IfOk result (λ stepper. IsOpened base.now block.now entry stepper) }
+    ensures refused { (steps : ℕ) → IfErr result (IsDebugRefused base.now block.now entry steps) }
 {
-    match Stepper::open_block(alloc, ledger, block, entry, ops) {
+    match Stepper::open_block_on(alloc, base, block, entry, ops) {
         Ok(stepper) => Ok(stepper),
         Err(Failure::Fault(fault)) => Err(Failure::Fault(Refusal::Opening(fault))),
         Err(Failure::Memory) => Err(Failure::Memory),

@@ -11,7 +11,7 @@ ghost use Rattle.avm_input.specs.DigitLines.{DigitLine, digit_lines, with_no_lin
 use crate::digit_lines::DigitLines;
 use crate::refusals::Refusal;
 use avm_block::{Block, decode};
-use avm_replay::Base;
+use avm_ledger::Base;
 use std::alloc::Global;
 use teal_value::Failure;
 

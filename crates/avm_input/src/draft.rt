@@ -13,8 +13,7 @@ use crate::numbered_calls::calls_on;
 use crate::refusals::Refusal;
 use avm_block::header_codec::header_of as header_in;
 use avm_call::Call;
-use avm_ledger::{Fields, Header, Profile};
-use avm_replay::Base;
+use avm_ledger::{Base, Fields, Header, Profile};
 use std::alloc::Global;
 use teal_value::Failure;
 

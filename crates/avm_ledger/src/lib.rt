@@ -4,6 +4,7 @@
 #![tactic(auto)]
 
 mod application;
+mod base;
 mod codec;
 pub mod encoding;
 mod fields;
@@ -22,6 +23,7 @@ mod stored_program;
 
 pub use application::{Application, StoredApplication};
 pub use avm_states::Schema;
+pub use base::Base;
 pub use fields::Fields;
 pub use header::{Header, Profile};
 pub use ids_end::IdsEnd;

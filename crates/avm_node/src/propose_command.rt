@@ -14,11 +14,12 @@ use crate::propose_input::{ProposeInput, propose_input};
 use avm_block::Block;
 use avm_commands::leak_at_exit;
 use avm_input::{DONE, REFUSED, Reply, refusal_reply, write_digits_reply};
+use avm_ledger::Base;
 use avm_ops::{Op, Ops};
-use avm_pool::{Draft, OpenGate, PoolFault, Proposal, SharedBase, ThreadSets, propose_on};
+use avm_pool::{Draft, OpenGate, PoolFault, Proposal, ThreadSets, propose_on};
 use std::alloc::{AllocError, Global};
 use std::io::Write;
-use std::sync::Wait;
+use std::sync::{Arc, Wait};
 use std::thread::Threads;
 use teal_value::Failure;
 
@@ -92,6 +93,7 @@ fn pool_answer<R: Threads + Wait + Sync, O: Op, const EXITS: bool>(
         header,
         calls,
     } = read;
+    let base = Arc::new(alloc, base)?;
     let draft = Draft {
         base: &base,
         header,
@@ -100,7 +102,7 @@ fn pool_answer<R: Threads + Wait + Sync, O: Op, const EXITS: bool>(
     let sets = ThreadSets { workers: sets, own };
     match propose_on::<_, _, _, EXITS>(rt, alloc, draft, sets, &OpenGate) {
         Ok(proposal) => {
-            leak_at_exit::<SharedBase, EXITS>(base);
+            leak_at_exit::<Arc<Base>, EXITS>(base);
             proposal_reply::<EXITS>(alloc, proposal)
         }
         Err(Failure::Fault(fault)) => {

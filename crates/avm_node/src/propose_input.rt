@@ -15,8 +15,7 @@ ghost use Rattle.avm_node.specs.ProposeShown.{input_shown};
 use crate::call_lines::calls_of;
 use avm_call::Call;
 use avm_input::{DigitLines, NumberedLine, Refusal, header_of, line_bytes, needed_bytes};
-use avm_ledger::{Header, Ledger};
-use avm_pool::SharedBase;
+use avm_ledger::{Base, Header, Ledger};
 use sha2::{Digest, Sha256};
 use std::alloc::Global;
 use std::thread::{Threads, join};
@@ -29,13 +28,13 @@ const MUCH: usize = 16_384;
 /// What calls are to be made of, on which ledger and by which header.
 #[derive(Drop)]
 pub struct ProposeInput {
-    pub base: SharedBase,
+    pub base: Base,
     pub header: Header,
     pub calls: Vec<Call>,
 }
 
 /// A ledger with its digest, or why the bytes are none.
-type BaseRead = Result<SharedBase, Failure<Refusal>>;
+type BaseRead = Result<Base, Failure<Refusal>>;
 
 /// A header and calls, or the first refusal of a line.
 type HeaderAndCalls = Result<(Header, Vec<Call>), Failure<Refusal>>;
@@ -113,7 +112,7 @@ fn base_by_two<R: Threads + Sync>(rt: &R, alloc: Global, bytes: &[u8]) -> BaseRe
                 × IfOk result (λ l. ledger_bytes l ≡ bytes.entry.now) }
         { ledger_of(alloc, bytes) },
     );
-    Ok(SharedBase::with_digest(alloc, ledger?, digest)?)
+    Ok(Base::with_digest(ledger?, digest))
 }
 
 /// The ledger that the bytes are, with its digest.
@@ -122,7 +121,7 @@ fn base_of(alloc: Global, bytes: &[u8]) -> BaseRead
 {
     let ledger = ledger_of(alloc, bytes)?;
     let digest = Sha256::digest(bytes);
-    Ok(SharedBase::with_digest(alloc, ledger, digest)?)
+    Ok(Base::with_digest(ledger, digest))
 }
 
 /// The ledger that the bytes are. They are its one encoding, so their digest is the ledger's.

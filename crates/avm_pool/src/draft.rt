@@ -1,10 +1,9 @@
 //! What a block is to be made of, and by whom.
 
 use avm_call::Call;
-use avm_ledger::Header;
+use avm_ledger::{Base, Header};
 use avm_ops::{Op, Ops};
 use avm_run::FullOps;
-use mv_parts::SharedBase;
 use std::alloc::Global;
 use std::sync::Arc;
 
@@ -21,7 +20,7 @@ pub struct Draft<'a, B> {
 #[derive(Drop)]
 pub(crate) struct SharedDraft<'a> {
     pub alloc: Global,
-    pub base: &'a SharedBase,
+    pub base: &'a Arc<Base>,
     pub header: Header,
     pub calls: Arc<Vec<Call>>,
 }

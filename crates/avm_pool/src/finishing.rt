@@ -14,8 +14,8 @@ use crate::draft::SharedDraft;
 use crate::left_numbers::left_of;
 use crate::proposal::Proposal;
 use avm_block::{Entry, Front};
-use avm_ledger::Header;
-use mv_parts::{Journal, Sealed, SharedBase};
+use avm_ledger::{Base, Header};
+use mv_parts::{Journal, Sealed};
 use std::alloc::{AllocError, Global};
 use std::mem;
 use std::thread::{Threads, join};
@@ -39,9 +39,9 @@ pub(crate) fn proposal_of<R: Threads + Sync>(
     exits: bool,
 ) -> Result<Proposal, AllocError>
     requires { IsJournalOver
-        draft.now.base.now draft.now.header (arc_value draft.now.calls).items journal }
+        (arc_value draft.now.base.now) draft.now.header (arc_value draft.now.calls).items journal }
     ensures { IfOk result (IsProposal
-        draft.now.base.now draft.now.header (arc_value draft.now.calls).items) }
+        (arc_value draft.now.base.now) draft.now.header (arc_value draft.now.calls).items) }
 {
     let made = made_of(rt, draft, &journal, prefix);
     to_free(journal, exits);
@@ -56,9 +56,9 @@ fn made_of<R: Threads + Sync>(
     prefix: Option<BlockPrefix>,
 ) -> Result<Proposal, AllocError>
     requires { IsJournalOver
-        draft.now.base.now draft.now.header (arc_value draft.now.calls).items journal.now }
+        (arc_value draft.now.base.now) draft.now.header (arc_value draft.now.calls).items journal.now }
     ensures { IfOk result (IsProposal
-        draft.now.base.now draft.now.header (arc_value draft.now.calls).items) }
+        (arc_value draft.now.base.now) draft.now.header (arc_value draft.now.calls).items) }
 {
     let parts = parts_of(rt, draft.alloc, journal, prefix, draft.base, &draft.header)?;
     proposal_with(draft.alloc, journal, parts)
@@ -95,7 +95,7 @@ fn parts_of<R: Threads + Sync>(
     alloc: Global,
     journal: &Journal,
     prefix: Option<BlockPrefix>,
-    base: &SharedBase,
+    base: &Base,
     header: &Header,
 ) -> Result<Parts, AllocError>
     ensures { IfOk result (AreParts journal.now base.now header.now) }

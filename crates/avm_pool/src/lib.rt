@@ -42,7 +42,6 @@ pub use log_prefix::LogPrefix;
 pub use logged_held::LoggedHeld;
 pub use logged_journal::LoggedJournal;
 pub use logged_shard::LoggedShard;
-pub use mv_parts::SharedBase;
 pub use naming::Naming;
 pub use pool_fault::{PoolError, PoolFault};
 pub use proposal::Proposal;

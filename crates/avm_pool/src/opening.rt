@@ -37,7 +37,7 @@ impl<'a> SharedDraft<'a> {
     ) -> Result<(LoggedJournal<J>, Vec<ShardLock<J>>), AllocError>
         requires opens { calls_fault self.now.header (arc_value self.now.calls).items ≡ None }
         requires book { log.seen.book ≡ J.book }
-        requires draft { (self.now.base.now ≡ J.base) × (self.now.header ≡ J.header)
+        requires draft { (arc_value self.now.base.now ≡ J.base) × (self.now.header ≡ J.header)
             × ((arc_value self.now.calls).items ≡ J.calls) }
     {
         let log = log.named::<J>(self.alloc, self.calls.len())?;
@@ -50,11 +50,11 @@ impl<'a> SharedDraft<'a> {
     /// The journal, and its shards held together.
     fn open_held(&self) -> Result<(Journal, Held), AllocError>
         requires opens { calls_fault self.now.header (arc_value self.now.calls).items ≡ None }
-        ensures journal { IfOk result (λ opened. opened.0 ≡ first_journal self.now.base.now
+        ensures journal { IfOk result (λ opened. opened.0 ≡ first_journal (arc_value self.now.base.now)
             self.now.header (arc_value self.now.calls).items) }
-        ensures shards { IfOk result (λ opened. opened.1 ≡ first_slots self.now.base.now) }
+        ensures shards { IfOk result (λ opened. opened.1 ≡ first_slots (arc_value self.now.base.now)) }
     {
-        let base = self.base.try_clone()?;
+        let base = Arc::try_clone(self.base)?;
         let calls = Arc::try_clone(&self.calls)?;
         match open_on(self.alloc, base, self.header, calls) {
             Ok(opened) => Ok(opened),

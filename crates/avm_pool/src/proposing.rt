@@ -19,10 +19,9 @@ use crate::proposal::Proposal;
 use crate::refusals::pool_fault;
 use crate::running::Shared;
 use crate::workers::run_sets;
-use avm_ledger::Ledger;
+use avm_ledger::{Base, Ledger};
 use avm_ops::Op;
 use avm_run::FullOps;
-use mv_parts::SharedBase;
 use std::alloc::Global;
 use std::marker::Brand;
 use std::sync::{Arc, Mutex, Wait};
@@ -66,12 +65,12 @@ pub fn propose<G: Gate, R: Threads + Wait + Sync, O: Op>(
 pub fn propose_on<G: Gate, R: Threads + Wait + Sync, O: Op, const EXITS: bool>(
     rt: &R,
     alloc: Global,
-    draft: Draft<SharedBase>,
+    draft: Draft<Arc<Base>>,
     sets: ThreadSets<O>,
     gate: &G,
 ) -> Result<Proposal, PoolError>
     ensures proposal { IfOk result
-        (IsProposal draft.entry.base.now draft.entry.header draft.entry.calls.items) }
+        (IsProposal (arc_value draft.entry.base.now) draft.entry.header draft.entry.calls.items) }
     ensures may { OnOk result (MayPropose O.opcode
         sets.workers.items sets.own draft.entry.header draft.entry.calls.items) }
     ensures refused { IfErr result (IsRefusal O.opcode
@@ -105,7 +104,7 @@ fn proposed_over<G: Gate, R: Threads + Wait + Sync, O: Op>(
         header,
         calls,
     } = draft;
-    let base = SharedBase::of(alloc, base.clone()?)?;
+    let base = Arc::new(alloc, Base::of(alloc, base.clone()?)?)?;
     let draft = Draft {
         base: &base,
         header,
@@ -118,14 +117,14 @@ fn proposed_over<G: Gate, R: Threads + Wait + Sync, O: Op>(
 fn proposed<G: Gate, R: Threads + Wait + Sync, O: Op>(
     rt: &R,
     alloc: Global,
-    draft: Draft<SharedBase>,
+    draft: Draft<Arc<Base>>,
     crew: Crew<O>,
     gate: &G,
     exits: bool,
 ) -> Result<Proposal, PoolError>
     requires opens { calls_fault draft.header draft.calls.items ≡ None }
     ensures proposal { IfOk result
-        (IsProposal draft.entry.base.now draft.entry.header draft.entry.calls.items) }
+        (IsProposal (arc_value draft.entry.base.now) draft.entry.header draft.entry.calls.items) }
     ensures want { IfErr result IsWant }
 {
     let Draft {
@@ -154,10 +153,10 @@ fn run_draft<J: Naming + Send + Sync, G: Gate, R: Threads + Wait + Sync, O: Op>(
 ) -> Result<Proposal, PoolError>
     requires opens { calls_fault draft.now.header (arc_value draft.now.calls).items ≡ None }
     requires book { log.seen.book ≡ J.book }
-    requires draft { (draft.now.base.now ≡ J.base) × (draft.now.header ≡ J.header)
+    requires draft { (arc_value draft.now.base.now ≡ J.base) × (draft.now.header ≡ J.header)
         × ((arc_value draft.now.calls).items ≡ J.calls) }
     ensures proposal { IfOk result (IsProposal
-        draft.now.base.now draft.now.header (arc_value draft.now.calls).items) }
+        (arc_value draft.now.base.now) draft.now.header (arc_value draft.now.calls).items) }
     ensures want { IfErr result IsWant }
 {
     let prefix = Mutex::new(draft.prefix(crew.workers.len())?);

@@ -3,14 +3,12 @@
 //! after another, by `avm_run::call_on`.
 #![tactic(auto)]
 
-mod base;
 mod past;
 mod plain;
 mod replayer;
 mod verdict;
 pub mod worked;
 
-pub use base::Base;
 pub use past::{StateError, StateFault, state_at, state_at_owned};
 pub use plain::plain_block;
 pub use replayer::{one_verdict, replay, replay_owned};

@@ -7,9 +7,8 @@ ghost use Rattle.avm_block.specs.Blocks.{RisesAbove, calls_in};
 ghost use Rattle.avm_replay.specs.FaultNames.{state_fault_name};
 ghost use Rattle.avm_replay.specs.Past.{IsRefused, entries_until, ledger_until};
 
-use crate::base::Base;
 use avm_block::{Block, Entry};
-use avm_ledger::Ledger;
+use avm_ledger::{Base, Ledger};
 use avm_ops::Op;
 use avm_run::{Executions, FullOps, RunContext, call_on};
 use std::alloc::{AllocError, Global};

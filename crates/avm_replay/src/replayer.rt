@@ -3,11 +3,10 @@
 ghost use Rattle.std.specs.Prelude.{◌≡◌, ◌≤◌, IfOk, length};
 ghost use Rattle.avm_replay.specs.Verdicts.{Compares, Judges, OneVerdict};
 
-use crate::base::Base;
 use crate::verdict::Verdict;
 use avm_block::{Block, Entry, MAX_ENTRIES};
 use avm_call::{Outcome, is_same_outcome};
-use avm_ledger::Ledger;
+use avm_ledger::{Base, Ledger};
 use avm_ops::Op;
 use avm_run::{Executions, FullOps, RunContext, call_on};
 use std::alloc::{AllocError, Global};

@@ -11,9 +11,9 @@ use crate::faults::{OpenError, OpenFault};
 use crate::stepping::supply_from;
 use avm_block::{Block, Entry};
 use avm_items::Item;
-use avm_ledger::Ledger;
+use avm_ledger::{Base, Ledger};
 use avm_ops::Op;
-use avm_replay::state_at;
+use avm_replay::state_at_owned;
 use avm_run::{CallRun, Executions, FullOps, RunFault, Step};
 use std::alloc::{AllocError, Global};
 use std::marker::Brand;
@@ -45,7 +45,7 @@ pub fn entry_of(entries: &[Entry], number: usize) -> Option<&Entry>
 /// The ledger after the calls of a block before this entry.
 pub(crate) fn ledger_before<O: Op>(
     alloc: Global,
-    base: &Ledger,
+    base: &Base,
     block: &Block,
     entry: &Entry,
     ops: &FullOps<O>,
@@ -55,7 +55,8 @@ pub(crate) fn ledger_before<O: Op>(
     ensures base { IfOk result (λ _. block.now.base ≡ ledger_digest base.now) }
     ensures refused { IfErr result (IsBaseRefusal base.now block.now) }
 {
-    match state_at(alloc, base, block, entry.timestamp.saturating_sub(1), ops) {
+    let copy = base.clone()?;
+    match state_at_owned(alloc, copy, block, entry.timestamp.saturating_sub(1), ops) {
         Ok(ledger) => Ok(ledger),
         Err(Failure::Fault(_wrong_base)) => Err(Failure::Fault(OpenFault::WrongBase)),
         Err(Failure::Memory) => Err(Failure::Memory),

@@ -15,7 +15,7 @@ use crate::viewing::{machine_at, view_at};
 use avm_block::Block;
 use avm_call::Call;
 use avm_items::ItemMap;
-use avm_ledger::{Header, Ledger};
+use avm_ledger::{Base, Header, Ledger};
 use avm_ops::Op;
 use avm_run::{CallRun, FullOps};
 use std::alloc::{AllocError, Global};
@@ -68,6 +68,25 @@ impl Stepper {
     pub fn open_block<O: Op>(
         alloc: Global,
         base: &Ledger,
+        block: &Block,
+        entry: usize,
+        ops: &FullOps<O>,
+    ) -> Result<Stepper, OpenError>
+        ensures opened { IfOk result (λ stepper. IsOpened base.now block.now entry stepper) }
+        ensures refused { IfErr result (IsDebugRefusal base.now block.now entry) }
+    {
+        if entry_of(block.entries(), entry).is_none() {
+            return Err(Failure::Fault(OpenFault::NoEntry));
+        }
+        let copy = base.clone()?;
+        let base = Base::of(alloc, copy)?;
+        Stepper::open_block_on(alloc, &base, block, entry, ops)
+    }
+
+    /// The same, over a ledger whose digest is known.
+    pub fn open_block_on<O: Op>(
+        alloc: Global,
+        base: &Base,
         block: &Block,
         entry: usize,
         ops: &FullOps<O>,

@@ -4,7 +4,7 @@ ghost use Rattle.std.specs.Prelude.{◌≡◌, ◌<◌, IfOk};
 ghost use Rattle.direct_tests.specs.Firsts.{IsFirstHeld, next_id_write};
 
 use avm_items::{Item, ItemMap, ItemValue};
-use avm_ledger::Ledger;
+use avm_ledger::{Base, Ledger};
 use mv_shards::{Attempt, Held, Shard};
 use std::alloc::{AllocError, Global};
 use std::sync::Arc;
@@ -20,7 +20,7 @@ const PRUNED: [(u64, u64); 2] = [(4, 0), (5, 2)];
 fn first_held(alloc: Global) -> Result<Held, AllocError>
     ensures { IfOk result IsFirstHeld }
 {
-    let base = Arc::new(alloc, Ledger::new(alloc))?;
+    let base = Arc::new(alloc, Base::of(alloc, Ledger::new(alloc))?)?;
     let mut held = Held::new(alloc);
     match held.add(Shard::new(alloc, 0, base)) {
         Ok(()) => Ok(held),

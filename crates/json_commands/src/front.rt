@@ -13,9 +13,9 @@ use avm_block::Entry;
 use avm_call::Outcome;
 use avm_commands::verdict_text;
 use avm_input::outcome_text;
-use avm_ledger::Ledger;
+use avm_ledger::{Base, Ledger};
 use avm_ops::Op;
-use avm_replay::{Base, replay};
+use avm_replay::replay_owned;
 use avm_run::{Executions, FullOps, RunContext, call_on};
 use json_views::block::{DigestedBlock, put_both};
 use json_views::ledger::put_ledger;
@@ -125,7 +125,8 @@ fn put_verdict<O: Op>(
 ) -> Result<(), AllocError>
     ensures { OnOk result (AddsVerdict base.now block.now out.old out.new) }
 {
-    let verdict = replay(alloc, base.ledger(), block.block(), ops)?;
+    let copy = base.clone()?;
+    let verdict = replay_owned(alloc, copy, block.block(), ops)?;
     let words = verdict_text(alloc, &verdict, block.block().after())?;
     put_text_member(out, "replay", words.as_str())
 }

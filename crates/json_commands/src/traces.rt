@@ -5,8 +5,8 @@ ghost use Rattle.json_views.specs.CallTraces.{AddsDocument};
 ghost use Rattle.json_commands.specs.Pages.{IsTraceOf, StandsOver};
 ghost use Rattle.json_commands.specs.Writing.{IsTraceFailure};
 
+use avm_ledger::Base;
 use avm_ops::Op;
-use avm_replay::Base;
 use avm_run::FullOps;
 use json_views::block::DigestedBlock;
 use json_views::writing::{Writer, put_null};
@@ -88,12 +88,5 @@ fn put_one<O: Op>(
     ensures refused { IfErr result
         (IsTraceFailure (Traces.Entry number) base.now block.now out.old) }
 {
-    put_entry_trace(
-        alloc,
-        out,
-        base.ledger(),
-        block.block(),
-        number as usize,
-        ops,
-    )
+    put_entry_trace(alloc, out, base, block.block(), number as usize, ops)
 }

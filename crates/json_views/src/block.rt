@@ -19,8 +19,7 @@ use crate::writing::{
 };
 use avm_block::{Block, BlockError, Entry, decode, encode};
 use avm_input::outcome_text;
-use avm_ledger::{Header, Profile};
-use avm_replay::Base;
+use avm_ledger::{Base, Header, Profile};
 use std::alloc::{AllocError, Global};
 use std::marker::Model;
 

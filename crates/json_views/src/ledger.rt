@@ -10,7 +10,7 @@ use crate::applications::put_applications;
 use crate::writing::{
     Writer, begin_object, end_object, put_digits_member, put_name, put_uint_member,
 };
-use avm_replay::Base;
+use avm_ledger::Base;
 use std::alloc::{AllocError, Global};
 
 /// The document of a ledger.

@@ -13,7 +13,7 @@ use crate::block::{DigestedBlock, put_both};
 use crate::ledger::put_ledger;
 use crate::writing::{Writer, document_text};
 use avm_input::{DONE, DigitLines, Refusal, Reply, next_base, refusal_reply};
-use avm_replay::Base;
+use avm_ledger::Base;
 use std::alloc::{AllocError, Global};
 use teal_value::Failure;
 

@@ -15,9 +15,8 @@ use crate::writing::{
     put_text_member,
 };
 use avm_block::{Block, Entry};
-use avm_ledger::Ledger;
+use avm_ledger::{Base, Ledger};
 use avm_ops::Op;
-use avm_replay::Base;
 use avm_run::{Executions, FullOps, RunContext, call_plain};
 use avm_stepper::{OpenFault, Stepper, entry_of};
 use std::alloc::Global;
@@ -30,17 +29,17 @@ use teal_value::Failure;
 /// from 1.
 pub fn entry_trace<O: Op>(
     alloc: Global,
-    ledger: &Ledger,
+    base: &Base,
     block: &Block,
     number: usize,
     ops: &FullOps<O>,
 ) -> Result<String, Failure<TraceRefusal>>
     ensures found { IfOk result
-        (λ text. FindsText (FindsEntry (ledger.now, block.now) number) (string_bytes text)) }
-    ensures refused { IfErr result (FindsRefusal (FindsEntry (ledger.now, block.now) number)) }
+        (λ text. FindsText (FindsEntry (base.now, block.now) number) (string_bytes text)) }
+    ensures refused { IfErr result (FindsRefusal (FindsEntry (base.now, block.now) number)) }
 {
     let mut out = Writer::new(alloc);
-    put_entry_trace(alloc, &mut out, ledger, block, number, ops)?;
+    put_entry_trace(alloc, &mut out, base, block, number, ops)?;
     text_within(out)
 }
 
@@ -48,16 +47,16 @@ pub fn entry_trace<O: Op>(
 pub fn put_entry_trace<O: Op>(
     alloc: Global,
     out: &mut Writer,
-    ledger: &Ledger,
+    base: &Base,
     block: &Block,
     number: usize,
     ops: &FullOps<O>,
 ) -> Result<(), Failure<TraceRefusal>>
     ensures written { OnOk result
-        (AddsDocument (IsEntryTrace ledger.now block.now number) out.old out.new) }
-    ensures refused { IfErr result (IsEntryFailure ledger.now block.now number out.old) }
+        (AddsDocument (IsEntryTrace base.now block.now number) out.old out.new) }
+    ensures refused { IfErr result (IsEntryFailure base.now block.now number out.old) }
 {
-    let mut stepper = opened(alloc, ledger, block, number, ops)?;
+    let mut stepper = opened(alloc, base, block, number, ops)?;
     let Some(entry) = entry_of(block.entries(), number) else {
         unreachable!()
     };
@@ -72,16 +71,16 @@ pub fn put_entry_trace<O: Op>(
 /// The call of an entry, before the first instruction of its program.
 fn opened<O: Op>(
     alloc: Global,
-    ledger: &Ledger,
+    base: &Base,
     block: &Block,
     number: usize,
     ops: &FullOps<O>,
 ) -> Result<Stepper, Failure<TraceRefusal>>
-    ensures opened { IfOk result (λ stepper. IsOpened ledger.now block.now number stepper) }
+    ensures opened { IfOk result (λ stepper. IsOpened base.now block.now number stepper) }
     ensures refused { IfErr result
-        (λ why. (old : List Token) → IsEntryFailure ledger.now block.now number old why) }
+        (λ why. (old : List Token) → IsEntryFailure base.now block.now number old why) }
 {
-    match Stepper::open_block(alloc, ledger, block, number, ops) {
+    match Stepper::open_block_on(alloc, base, block, number, ops) {
         Ok(stepper) => Ok(stepper),
         Err(Failure::Fault(fault)) => Err(Failure::Fault(TraceRefusal::Opening(fault))),
         Err(Failure::Memory) => Err(Failure::Memory),

@@ -10,9 +10,8 @@ use crate::refusal::TraceRefusal;
 use crate::trace::{block_trace, entry_trace};
 use avm_block::Block;
 use avm_input::{DONE, REFUSED, Refusal, Reply, ledger_and_block, refusal_reply};
-use avm_ledger::Ledger;
+use avm_ledger::Base;
 use avm_ops::Op;
-use avm_replay::Base;
 use avm_run::FullOps;
 use std::alloc::{AllocError, Global};
 use teal_value::Failure;
@@ -44,7 +43,7 @@ fn traced_reply<O: Op>(
         (λ reply. IsTraceOn entry (Ok (base, block.now)) (reply_shown reply)) }
 {
     match entry {
-        Some(number) => entry_reply(alloc, number, base.ledger(), block, ops),
+        Some(number) => entry_reply(alloc, number, &base, block, ops),
         None => block_reply(alloc, base, block, ops),
     }
 }
@@ -53,14 +52,14 @@ fn traced_reply<O: Op>(
 fn entry_reply<O: Op>(
     alloc: Global,
     number: u64,
-    ledger: &Ledger,
+    base: &Base,
     block: &Block,
     ops: &FullOps<O>,
 ) -> Result<Reply, AllocError>
     ensures { IfOk result (λ reply. IsFoundReply trace_too_long
-        (FindsEntry (ledger.now, block.now) number) (reply_shown reply)) }
+        (FindsEntry (base.now, block.now) number) (reply_shown reply)) }
 {
-    let found = entry_trace(alloc, ledger, block, number as usize, ops);
+    let found = entry_trace(alloc, base, block, number as usize, ops);
     found_reply(alloc, found, "refused trace TooLong\n")
 }
 

@@ -16,7 +16,6 @@ ghost use Rattle.mv_parts.specs.Agreeing.{AllAgree};
 ghost use Rattle.mv_parts.specs.Journals.{AreLiveCalls, IsBeginRefusal, IsConsistentJournal, IsLive, begin_fault};
 ghost use Rattle.avm_block.specs.CallsFaults.{calls_fault};
 
-use crate::base::SharedBase;
 use crate::begin_fault::{BeginError, BeginFault};
 use crate::call_state::CallState;
 use crate::commit_fault::{CommitError, CommitFault, RefusedCommit};
@@ -28,7 +27,7 @@ use crate::live::LiveCalls;
 use crate::serial_calls::every_consistent_world_of_calls_is_serial;
 use avm_call::Call;
 use avm_items::ItemMap;
-use avm_ledger::{Header, Ledger};
+use avm_ledger::{Base, Header, Ledger};
 use avm_run::Finished;
 use mv_shards::{Attempt, Held, WriteError, WriteFault};
 use std::alloc::Global;
@@ -39,7 +38,7 @@ use teal_value::Failure;
 /// The committed calls by rising timestamp, the clock, and which calls are live.
 pub struct Journal {
     pub(crate) alloc: Global,
-    pub(crate) base: SharedBase,
+    pub(crate) base: Arc<Base>,
     pub(crate) header: Header,
     pub(crate) calls: Arc<Vec<Call>>,
     pub(crate) clock: u64,
@@ -73,9 +72,9 @@ impl Model for Journal {
 
     ghost Value = { Journal };
 
-    ghost view = { λ j. journal_of j.base j.header (arc_value j.calls).items j.clock j.low j.entries.items j.live };
+    ghost view = { λ j. journal_of (arc_value j.base) j.header (arc_value j.calls).items j.clock j.low j.entries.items j.live };
 
-    ghost invariant = { λ j. IsKeptJournal j.base j.header (arc_value j.calls).items j.clock j.low j.entries.items j.states.items j.live };
+    ghost invariant = { λ j. IsKeptJournal (arc_value j.base) j.header (arc_value j.calls).items j.clock j.low j.entries.items j.states.items j.live };
 }
 
 impl Journal {

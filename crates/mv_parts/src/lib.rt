@@ -8,7 +8,6 @@
 //! rests, is in specs/SerialCalls.antt.
 #![tactic(auto)]
 
-mod base;
 mod begin_fault;
 mod call_state;
 mod commit_fault;
@@ -26,7 +25,6 @@ mod seal_fault;
 mod sealing;
 mod serial_calls;
 
-pub use base::SharedBase;
 pub use begin_fault::{BeginError, BeginFault};
 pub use commit_fault::{CommitError, CommitFault, RefusedCommit};
 pub use entry::Entry;

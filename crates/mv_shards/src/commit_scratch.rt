@@ -44,7 +44,9 @@ fn add_chain_for(parts: &mut StateSlots, item: &Item) -> Result<ChainRef, AllocE
     let shard = usize::from(shard_of(item));
     match &mut parts[shard] {
         Some(part) => {
-            let number = part.chains.find_or_make(part.alloc, &part.base, item)?;
+            let number = part
+                .chains
+                .find_or_make(part.alloc, part.base.ledger(), item)?;
             Ok(ChainRef { shard, number })
         }
         None => unreachable!(),

@@ -16,7 +16,7 @@ use crate::attempt::Attempt;
 use crate::chains::Chains;
 use crate::read_fault::{ReadError, ReadFault};
 use avm_items::{Item, ItemValue, is_value_in};
-use avm_ledger::Ledger;
+use avm_ledger::{Base, Ledger};
 use mv_chain::Late;
 use std::alloc::{AllocError, Global};
 use std::sync::Arc;
@@ -27,7 +27,7 @@ pub(crate) struct ShardState {
     pub(crate) alloc: Global,
     pub(crate) index: u8,
     pub(crate) low: u64,
-    pub(crate) base: Arc<Ledger>,
+    pub(crate) base: Arc<Base>,
     pub(crate) chains: Chains,
 }
 
@@ -106,7 +106,9 @@ pub(crate) fn read_at(
     if timestamp < part.low {
         return Err(Failure::Fault(ReadFault::Pruned));
     }
-    let number = part.chains.find_or_make(part.alloc, &part.base, item)?;
+    let number = part
+        .chains
+        .find_or_make(part.alloc, part.base.ledger(), item)?;
     let value = value_at(&part.chains, number, timestamp)?;
     Ok(marked(&mut part.chains, number, timestamp, value))
 }
@@ -134,7 +136,13 @@ pub(crate) fn read(
     if attempt.timestamp < part.low {
         return Err(Failure::Fault(ReadFault::Pruned));
     }
-    Ok(first_read(part.alloc, &mut part.chains, &part.base, attempt, item)?)
+    Ok(first_read(
+        part.alloc,
+        &mut part.chains,
+        part.base.ledger(),
+        attempt,
+        item,
+    )?)
 }
 
 /// Whether a write of an item at a timestamp is late.
@@ -171,7 +179,7 @@ pub(crate) fn has_value(part: &ShardState, item: &Item, timestamp: u64, value: &
 {
     match part.chains.get(item) {
         Some(chain) => chain.read_at(timestamp).is_same(value),
-        None => is_value_in(&part.base, item, value),
+        None => is_value_in(part.base.ledger(), item, value),
     }
 }
 

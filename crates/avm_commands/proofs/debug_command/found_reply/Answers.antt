@@ -4,7 +4,7 @@ use Rattle.avm_commands.proofs.StepsMade.{found_shown}
 use Rattle.avm_commands.proofs.debug_command.found_reply.Goals as goal
 
 pub returns-in-Ok : goal.returns-in-Ok
-returns-in-Ok g c = rw c.into_bytes.ensures.value (found_shown (c.args.ledger.now, c.args.block.now) c.args.point.number c.args.point.steps _ _ c.in-Ok.ensures.found refl)
+returns-in-Ok g c = rw c.into_bytes.ensures.value (found_shown (c.args.base.now, c.args.block.now) c.args.point.number c.args.point.steps _ _ c.in-Ok.ensures.found refl)
 
 pub returns-in-Err-Fault : goal.returns-in-Err-Fault
 returns-in-Err-Fault g c =

@@ -13,10 +13,10 @@ returns-in_err-stepper-clause-refused g c =
     rw (p.1, p.2) (c.in_err-stepper.ensures.refused c.args.steps)
 
 pub loop-step-init : goal.loop-step-init
-loop-step-init g c = record { come = come_first c.args.ledger.now c.args.block.now c.args.entry _ c.in_ok-stepper.ensures.opened }
+loop-step-init g c = record { come = come_first c.args.base.now c.args.block.now c.args.entry _ c.in_ok-stepper.ensures.opened }
 
 pub loop-step-preserved : goal.loop-step-preserved
-loop-step-preserved g c = record { come = come_more c.args.ledger.now c.args.block.now c.args.entry c.loop-step._step c.loop-step.stepper c.step.new.self c.loop-step.invariant.come c.in-Ok.ensures }
+loop-step-preserved g c = record { come = come_more c.args.base.now c.args.block.now c.args.entry c.loop-step._step c.loop-step.stepper c.step.new.self c.loop-step.invariant.come c.in-Ok.ensures }
 
 pub returns-in-Err-Fault-Ended-clause-refused : goal.returns-in-Err-Fault-Ended-clause-refused
 returns-in-Err-Fault-Ended-clause-refused g c =
@@ -25,9 +25,9 @@ returns-in-Err-Fault-Ended-clause-refused g c =
     let fault : c.in-Err-Fault-Ended.field-0-0 ≡ Ended = rw c.in-Err-Fault-Ended.field-0-is at c.in-Err-Fault-Ended.field-0-0-is in
     let answer = c.in-Err-Fault-Ended.field-0-is ∙ ap (λ f. failure.Fault f) fault in
     let refused = subst (λ e. StepsTo now after (Err e)) answer c.in-Err-Fault-Ended.ensures in
-    come_ended c.args.ledger.now c.args.block.now c.args.entry c.loop-step._step c.args.steps now after c.loop-step.invariant.come c.loop-step-test.true refused
+    come_ended c.args.base.now c.args.block.now c.args.entry c.loop-step._step c.args.steps now after c.loop-step.invariant.come c.loop-step-test.true refused
 
 pub returns-clause-come : goal.returns-clause-come
 returns-clause-come g c =
     let all : c.loop-step._step ≡ c.args.steps = omega (arith, c.loop-step-test.false, c.loop-step.auto._step-end) in
-    subst (λ n. HasCome c.args.ledger.now c.args.block.now c.args.entry n c.loop-step.stepper) all c.loop-step.invariant.come
+    subst (λ n. HasCome c.args.base.now c.args.block.now c.args.entry n c.loop-step.stepper) all c.loop-step.invariant.come

@@ -5,8 +5,9 @@ use Rattle.avm_node.proofs.propose_command.pool_answer.Goals as goal
 
 pub returns-in-Ok : goal.returns-in-Ok
 returns-in-Ok g c =
+    let proposed = rw c.in_ok-base.ensures.ok at c.in-Ok.ensures.proposal in
     IfOk-weaker c.proposal_reply.result _ _
-    (λ reply is. inl (c.in-Ok.ensures.may.workers.calls_few, (c.in-Ok.proposal, c.in-Ok.ensures.proposal, is))) c.proposal_reply.ensures
+    (λ reply is. inl (c.in-Ok.ensures.may.workers.calls_few, (c.in-Ok.proposal, proposed, is))) c.proposal_reply.ensures
 
 pub returns-in-Err-Fault : goal.returns-in-Err-Fault
 returns-in-Err-Fault g c =

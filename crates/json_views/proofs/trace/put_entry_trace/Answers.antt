@@ -13,12 +13,12 @@ pub returns-clause-written : goal.returns-clause-written
 returns-clause-written g c =
     let there : entry_numbered c.args.block.now.entries c.args.number ≡ Some c.in-Some.entry.now = ap (λ es. entry_numbered es c.args.number) (sym c.entries.ensures.entries) ∙ sym c.in-Some.ensures in
     on_ok_weaker c.put_opened_trace.result
-    (entry_written c.args.ledger.now c.args.block.now c.args.number c.in_ok-stepper.stepper c.in-Some.entry.now c.in_ok-stepper.ensures.opened there c.args.out.now c.put_opened_trace.new.out)
+    (entry_written c.args.base.now c.args.block.now c.args.number c.in_ok-stepper.stepper c.in-Some.entry.now c.in_ok-stepper.ensures.opened there c.args.out.now c.put_opened_trace.new.out)
     c.put_opened_trace.ensures.written
 
 pub returns-clause-refused : goal.returns-clause-refused
 returns-clause-refused g c =
     let there : entry_numbered c.args.block.now.entries c.args.number ≡ Some c.in-Some.entry.now = ap (λ es. entry_numbered es c.args.number) (sym c.entries.ensures.entries) ∙ sym c.in-Some.ensures in
     IfErr-weaker c.put_opened_trace.result _ _
-    (λ why failed. entry_failed c.args.ledger.now c.args.block.now c.args.number c.in_ok-stepper.stepper c.in-Some.entry.now c.in_ok-stepper.ensures.opened there c.args.out.now why failed)
+    (λ why failed. entry_failed c.args.base.now c.args.block.now c.args.number c.in_ok-stepper.stepper c.in-Some.entry.now c.in_ok-stepper.ensures.opened there c.args.out.now why failed)
     c.put_opened_trace.ensures.refused

@@ -10,14 +10,14 @@ returns-in_err-number-in-Some-clause-grown c =
     let is = c.from-shard.ensures ∙ c.shard_of.ensures.index in
     let here = here_at c.args.parts.now c.from-shard.result c.args.item.now c.index-parts-shard.result c.in-Some.part is c.requires c.in-Some.is in
     grown_at c.args.parts.now c.from-shard.result c.in-Some.part (record c.in-Some.part { chains = c.find_or_make.new.self }) here refl
-    (subst (λ b. IsGrown (at b) c.in-Some.part.chains c.find_or_make.new.self) c.deref.ensures c.find_or_make.ensures.grown)
+    (subst (λ b. IsGrown (at b) c.in-Some.part.chains c.find_or_make.new.self) (c.ledger.ensures ∙ c.deref.ensures) c.find_or_make.ensures.grown)
 
 pub returns-clause-grown : goal.returns-clause-grown
 returns-clause-grown c =
     let is = c.from-shard.ensures ∙ c.shard_of.ensures.index in
     let here = here_at c.args.parts.now c.from-shard.result c.args.item.now c.index-parts-shard.result c.in-Some.part is c.requires c.in-Some.is in
     grown_at c.args.parts.now c.from-shard.result c.in-Some.part (record c.in-Some.part { chains = c.find_or_make.new.self }) here refl
-    (subst (λ b. IsGrown (at b) c.in-Some.part.chains c.find_or_make.new.self) c.deref.ensures c.find_or_make.ensures.grown)
+    (subst (λ b. IsGrown (at b) c.in-Some.part.chains c.find_or_make.new.self) (c.ledger.ensures ∙ c.deref.ensures) c.find_or_make.ensures.grown)
 
 pub returns-clause-roomier : goal.returns-clause-roomier
 returns-clause-roomier c =

@@ -18,6 +18,6 @@ returns-in-Some c d =
 pub returns-in-None : goal.returns-in-None
 returns-in-None c d =
     c.is_value_in.ensures
-    ∙ ap (λ l. is_same_value (at l c.args.item.now) c.args.value.now) c.deref.ensures
+    ∙ ap (λ l. is_same_value (at l c.args.item.now) c.args.value.now) (c.ledger.ensures ∙ c.deref.ensures)
     ∙ ap (λ v. is_same_value v c.args.value.now)
     (sym (ap (λ (w : Version _). w.value) (ap (λ vs. newest_at c.args.timestamp vs d) (none_held c.args.part.now c.args.item.now c.requires.part c.in-None.ensures) ∙ newest_first c.args.timestamp _ d)))

@@ -1,4 +1,4 @@
-use Rattle.std.proofs.Common.{◌≡◌, sym, subst, inl, None, rules}
+use Rattle.std.proofs.Common.{◌∙◌, ◌≡◌, sym, subst, inl, None, rules}
 use Rattle.std.specs.Arc.{arc_value}
 use Rattle.avm_items.specs.Items.{value_in}
 use Rattle.avm_items.specs.LedgerItems.{at}
@@ -12,8 +12,8 @@ use Rattle.mv_shards.proofs.shard_state.read.Goals as goal
 pub returns-in_err-first_read-clause-kept : goal.returns-in_err-first_read-clause-kept
 returns-in_err-first_read-clause-kept c = record {
   within = c.requires.within;
-  chains = subst (λ b. AreChains (at b) c.args.part.now.low c.first_read.new.chains) c.deref.ensures
-      (c.first_read.ensures.kept c.args.part.now.low (subst (λ b. AreChains (at b) c.args.part.now.low c.args.part.now.chains) (sym c.deref.ensures) c.requires.chains));
+  chains = subst (λ b. AreChains (at b) c.args.part.now.low c.first_read.new.chains) (c.ledger.ensures ∙ c.deref.ensures)
+      (c.first_read.ensures.kept c.args.part.now.low (subst (λ b. AreChains (at b) c.args.part.now.low c.args.part.now.chains) (sym (c.ledger.ensures ∙ c.deref.ensures)) c.requires.chains));
 }
 
 pub returns-in_err-first_read-clause-part : goal.returns-in_err-first_read-clause-part
@@ -22,13 +22,13 @@ returns-in_err-first_read-clause-part c =
     err_always c.from_residual-in_err-first_read.result _
     (refused_seen c.args.part.now.index c.args.part.now.low base c.args.part.now.chains c.first_read.new.chains
     (touched_alike (at base) c.args.part.now.low c.args.part.now.chains c.first_read.new.chains c.requires.chains (returns-in_err-first_read-clause-kept c).chains
-    (λ x. subst (λ b. versions_of (at b) c.first_read.new.chains x ≡ versions_of (at b) c.args.part.now.chains x) c.deref.ensures (c.in_err-first_read.ensures.versions x))))
+    (λ x. subst (λ b. versions_of (at b) c.first_read.new.chains x ≡ versions_of (at b) c.args.part.now.chains x) (c.ledger.ensures ∙ c.deref.ensures) (c.in_err-first_read.ensures.versions x))))
 
 pub returns-clause-kept : goal.returns-clause-kept
 returns-clause-kept c = record {
   within = c.requires.within;
-  chains = subst (λ b. AreChains (at b) c.args.part.now.low c.first_read.new.chains) c.deref.ensures
-      (c.first_read.ensures.kept c.args.part.now.low (subst (λ b. AreChains (at b) c.args.part.now.low c.args.part.now.chains) (sym c.deref.ensures) c.requires.chains));
+  chains = subst (λ b. AreChains (at b) c.args.part.now.low c.first_read.new.chains) (c.ledger.ensures ∙ c.deref.ensures)
+      (c.first_read.ensures.kept c.args.part.now.low (subst (λ b. AreChains (at b) c.args.part.now.low c.args.part.now.chains) (sym (c.ledger.ensures ∙ c.deref.ensures)) c.requires.chains));
 }
 
 first : (c : goal.In_ok-first_read) → value_in c.args.attempt.now.reads c.args.item ≡ None
@@ -39,4 +39,4 @@ returns-clause-ok c =
     let base = arc_value c.args.part.now.base in
     inl (first_read_seen c.args.part.now.index c.args.part.now.low base c.args.part.now.chains c.first_read.new.chains c.args.attempt.now c.first_read.new.attempt c.args.item c.in_ok-first_read.field-0
     (rw (← c.attempt.view_is) c.attempt.invariant) (rw (← c.attempt.view_is) c.if-attempt-part.false) (first c) c.requires.chains (returns-clause-kept c).chains
-    (subst (λ b. IsMarkedRead (at b) c.args.part.now.chains c.first_read.new.chains c.args.attempt.now c.first_read.new.attempt c.args.item c.in_ok-first_read.field-0) c.deref.ensures c.in_ok-first_read.ensures.ok))
+    (subst (λ b. IsMarkedRead (at b) c.args.part.now.chains c.first_read.new.chains c.args.attempt.now c.first_read.new.attempt c.args.item c.in_ok-first_read.field-0) (c.ledger.ensures ∙ c.deref.ensures) c.in_ok-first_read.ensures.ok))

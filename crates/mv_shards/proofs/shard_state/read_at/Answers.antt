@@ -24,36 +24,36 @@ readable p new x n t low k g number =
 
 pub returns-in_err-number-clause-kept : goal.returns-in_err-number-clause-kept
 returns-in_err-number-clause-kept c =
-    grown_state c.args.part.now c.find_or_make.new.self c.requires.part (subst (λ b. IsGrown (at b) c.args.part.now.chains c.find_or_make.new.self) c.deref.ensures c.find_or_make.ensures.grown)
+    grown_state c.args.part.now c.find_or_make.new.self c.requires.part (subst (λ b. IsGrown (at b) c.args.part.now.chains c.find_or_make.new.self) (c.ledger.ensures ∙ c.deref.ensures) c.find_or_make.ensures.grown)
 
 pub returns-in_err-number-clause-part : goal.returns-in_err-number-clause-part
 returns-in_err-number-clause-part c =
     let p = c.args.part.now in
-    let g : IsGrown (first_in p) p.chains c.find_or_make.new.self = subst (λ b. IsGrown (at b) p.chains c.find_or_make.new.self) c.deref.ensures c.find_or_make.ensures.grown in
+    let g : IsGrown (first_in p) p.chains c.find_or_make.new.self = subst (λ b. IsGrown (at b) p.chains c.find_or_make.new.self) (c.ledger.ensures ∙ c.deref.ensures) c.find_or_make.ensures.grown in
     err_always c.from_residual.result _ (refused_seen p.index p.low (arc_value p.base) p.chains c.find_or_make.new.self (g.seen p.low c.requires.part.chains))
 
 pub value_at-requires : goal.value_at-requires
 value_at-requires c =
-    readable c.args.part.now c.find_or_make.new.self c.args.item.now c.in_ok-number.number c.args.timestamp (omega (arith, c.if-timestamp-part.false)) c.requires.part (subst (λ b. IsGrown (at b) c.args.part.now.chains c.find_or_make.new.self) c.deref.ensures c.find_or_make.ensures.grown) c.in_ok-number.ensures.number
+    readable c.args.part.now c.find_or_make.new.self c.args.item.now c.in_ok-number.number c.args.timestamp (omega (arith, c.if-timestamp-part.false)) c.requires.part (subst (λ b. IsGrown (at b) c.args.part.now.chains c.find_or_make.new.self) (c.ledger.ensures ∙ c.deref.ensures) c.find_or_make.ensures.grown) c.in_ok-number.ensures.number
 
 pub returns-in_err-value-clause-kept : goal.returns-in_err-value-clause-kept
 returns-in_err-value-clause-kept c =
-    grown_state c.args.part.now c.find_or_make.new.self c.requires.part (subst (λ b. IsGrown (at b) c.args.part.now.chains c.find_or_make.new.self) c.deref.ensures c.find_or_make.ensures.grown)
+    grown_state c.args.part.now c.find_or_make.new.self c.requires.part (subst (λ b. IsGrown (at b) c.args.part.now.chains c.find_or_make.new.self) (c.ledger.ensures ∙ c.deref.ensures) c.find_or_make.ensures.grown)
 
 pub returns-in_err-value-clause-part : goal.returns-in_err-value-clause-part
 returns-in_err-value-clause-part c =
     let p = c.args.part.now in
-    let g : IsGrown (first_in p) p.chains c.find_or_make.new.self = subst (λ b. IsGrown (at b) p.chains c.find_or_make.new.self) c.deref.ensures c.find_or_make.ensures.grown in
+    let g : IsGrown (first_in p) p.chains c.find_or_make.new.self = subst (λ b. IsGrown (at b) p.chains c.find_or_make.new.self) (c.ledger.ensures ∙ c.deref.ensures) c.find_or_make.ensures.grown in
     err_always c.from_residual-in_err-value.result _ (refused_seen p.index p.low (arc_value p.base) p.chains c.find_or_make.new.self (g.seen p.low c.requires.part.chains))
 
 pub marked-requires-clause-readable : goal.marked-requires-clause-readable
 marked-requires-clause-readable c =
-    readable c.args.part.now c.find_or_make.new.self c.args.item.now c.in_ok-number.number c.args.timestamp (omega (arith, c.if-timestamp-part.false)) c.requires.part (subst (λ b. IsGrown (at b) c.args.part.now.chains c.find_or_make.new.self) c.deref.ensures c.find_or_make.ensures.grown) c.in_ok-number.ensures.number
+    readable c.args.part.now c.find_or_make.new.self c.args.item.now c.in_ok-number.number c.args.timestamp (omega (arith, c.if-timestamp-part.false)) c.requires.part (subst (λ b. IsGrown (at b) c.args.part.now.chains c.find_or_make.new.self) (c.ledger.ensures ∙ c.deref.ensures) c.find_or_make.ensures.grown) c.in_ok-number.ensures.number
 
 pub returns-clause-kept : goal.returns-clause-kept
 returns-clause-kept c =
     let p = c.args.part.now in
-    let g : IsGrown (first_in p) p.chains c.find_or_make.new.self = subst (λ b. IsGrown (at b) p.chains c.find_or_make.new.self) c.deref.ensures c.find_or_make.ensures.grown in
+    let g : IsGrown (first_in p) p.chains c.find_or_make.new.self = subst (λ b. IsGrown (at b) p.chains c.find_or_make.new.self) (c.ledger.ensures ∙ c.deref.ensures) c.find_or_make.ensures.grown in
     record { within = c.requires.part.within; chains = (c.marked.ensures.marked c.args.item.now c.in_ok-number.ensures.number).kept (first_in p) p.low (g.kept p.low c.requires.part.chains) }
 
 pub returns-clause-ok : goal.returns-clause-ok
@@ -61,7 +61,7 @@ returns-clause-ok c =
     let p = c.args.part.now in
     let x = c.args.item.now in
     let t = c.args.timestamp in
-    let g : IsGrown (first_in p) p.chains c.find_or_make.new.self = subst (λ b. IsGrown (at b) p.chains c.find_or_make.new.self) c.deref.ensures c.find_or_make.ensures.grown in
+    let g : IsGrown (first_in p) p.chains c.find_or_make.new.self = subst (λ b. IsGrown (at b) p.chains c.find_or_make.new.self) (c.ledger.ensures ∙ c.deref.ensures) c.find_or_make.ensures.grown in
     read_seen p.index p.low t (arc_value p.base) p.chains c.marked.new.chains x c.marked.result c.requires.positive (omega (arith, c.if-timestamp-part.false)) c.requires.part.chains (returns-clause-kept c).chains
     (λ d. c.marked.ensures.value ∙ c.in_ok-value.ensures x c.in_ok-number.ensures.number (first_in p) d ∙ ap (λ vs. (newest_at t vs d).value) (g.versions x))
     (λ y. (c.marked.ensures.marked x c.in_ok-number.ensures.number).versions (first_in p) y ∙ ap (λ all. one_marked t x all y) (λ j z. g.versions z j))

@@ -26,7 +26,7 @@ pub returns-clause-sealed : goal.returns-clause-sealed
 returns-clause-sealed c =
     let j = c.args.self.now in
     let made = made_on j.base j.header j.calls 0 j.world.entries c.holds.ensures.serial.rising c.holds.ensures.are_calls c.holds.ensures.serial.outcomes c.holds.ensures.serial.writes in
-    let before = c.digest.ensures ∙ ap (λ (k : _). ledger_digest k.base) c.self.view_is in
+    let before = c.digest.ensures ∙ ap ledger_digest c.deref.ensures ∙ ap (λ (k : _). ledger_digest k.base) c.self.view_is in
     sealed_of j c.new-block.result c.in_ok-numbers.numbers.items c.holds.ensures.serial
     (rw (c.new-block.ensures, c.header.ensures) (replays_as_made j.base j.header j.calls j.world.entries c.digest.result.now c.args.made.items c.args.after made c.requires.made before c.requires.after.digest_is))
     (c.in_ok-numbers.ensures ∙ ap (map (λ (e : CallEntry). e.number)) c.entries.ensures)

@@ -44,20 +44,20 @@ returns-in-Ok-clause-committed c =
 -- the journal with room for an entry is seen as before
 pub write_error-requires-clause-agree : goal.write_error-requires-clause-agree
 write_error-requires-clause-agree c =
-    let same = ap (λ es. journal_of c.self.inside.base c.self.inside.header (arc_value c.self.inside.calls).items c.self.inside.clock c.self.inside.low es c.self.inside.live) c.write_tested.ensures.entries ∙ c.self.view_is in
+    let same = ap (λ es. journal_of (arc_value c.self.inside.base) c.self.inside.header (arc_value c.self.inside.calls).items c.self.inside.clock c.self.inside.low es c.self.inside.live) c.write_tested.ensures.entries ∙ c.self.view_is in
     subst (λ (j : Journal). AllAgree j c.write_tested.new.held) (sym same) (subst (AllAgree c.args.self.now) (sym c.in-Err.ensures.unchanged) c.requires.agree)
 
 pub write_error-requires-clause-open : goal.write_error-requires-clause-open
 write_error-requires-clause-open c =
     let live : IsLive c.args.self.now.world c.args.attempt = c.is_live.ensures.0 (search rules) in
-    let same = ap (λ es. journal_of c.self.inside.base c.self.inside.header (arc_value c.self.inside.calls).items c.self.inside.clock c.self.inside.low es c.self.inside.live) c.write_tested.ensures.entries ∙ c.self.view_is in
+    let same = ap (λ es. journal_of (arc_value c.self.inside.base) c.self.inside.header (arc_value c.self.inside.calls).items c.self.inside.clock c.self.inside.low es c.self.inside.live) c.write_tested.ensures.entries ∙ c.self.view_is in
     subst (λ (j : Journal). IsOpenAt j c.timestamp-timestamp.result) (sym same)
     (open_here c.args.self.now c.args.held.now c.args.attempt c.args.finished c.requires.agree c.holds-2.ensures c.holds.ensures.consistent c.holds.ensures.serial.rising live c.requires.own c.requires.covers c.timestamp-timestamp.result c.timestamp-timestamp.ensures.value)
 
 pub returns-in-Err-clause-refused : goal.returns-in-Err-clause-refused
 returns-in-Err-clause-refused c =
     let live : IsLive c.args.self.now.world c.args.attempt = c.is_live.ensures.0 (search rules) in
-    let same = ap (λ es. journal_of c.self.inside.base c.self.inside.header (arc_value c.self.inside.calls).items c.self.inside.clock c.self.inside.low es c.self.inside.live) c.write_tested.ensures.entries ∙ c.self.view_is in
+    let same = ap (λ es. journal_of (arc_value c.self.inside.base) c.self.inside.header (arc_value c.self.inside.calls).items c.self.inside.clock c.self.inside.low es c.self.inside.live) c.write_tested.ensures.entries ∙ c.self.view_is in
     let t = c.timestamp-timestamp.result in
     let error = c.write_error.result in
     let here = subst (λ (j : Journal). IsWriteError j c.write_tested.new.held t c.reads.result.now c.writes.result.now error) same c.write_error.ensures.error in

@@ -6,7 +6,8 @@ ghost use Rattle.avm_ledger.specs.LedgerReader.{ledger_at};
 ghost use Rattle.avm_ledger.specs.LedgerRules.{KeepsRules};
 ghost use Rattle.avm_ledger.specs.Encodings.{ledger_digest};
 
-use avm_ledger::{Ledger, LedgerError};
+use crate::ledger::Ledger;
+use crate::ledger_fault::LedgerError;
 use sha2::{Digest, Sha256};
 use std::alloc::{AllocError, Global};
 use std::marker::Model;
@@ -32,12 +33,20 @@ impl Model for Base {
 }
 
 impl Base {
-    /// The ledger, with its digest.
+    /// The ledger, which is encoded once for its digest.
     pub fn of(alloc: Global, ledger: Ledger) -> Result<Base, AllocError>
         ensures { IfOk result (λ base. base ≡ ledger) }
     {
         let digest = ledger.digest(alloc)?;
         Ok(Base { ledger, digest })
+    }
+
+    /// The ledger with its digest, which the caller knows, as one that has read it does.
+    pub fn with_digest(ledger: Ledger, digest: [u8; 32]) -> Base
+        requires { digest ≡ ledger_digest ledger }
+        ensures { result ≡ ledger }
+    {
+        Base { ledger, digest }
     }
 
     /// The ledger that the bytes are, with their digest, which is the ledger's since they are its one encoding.
@@ -49,6 +58,15 @@ impl Base {
     {
         let ledger = Ledger::read(alloc, bytes)?;
         let digest = Sha256::digest(bytes);
+        Ok(Base { ledger, digest })
+    }
+
+    /// A copy of the ledger, with the digest that is known.
+    pub fn clone(&self) -> Result<Base, AllocError>
+        ensures { IfOk result (λ copy. copy ≡ self.now) }
+    {
+        let ledger = self.ledger.clone()?;
+        let digest = self.digest;
         Ok(Base { ledger, digest })
     }
 

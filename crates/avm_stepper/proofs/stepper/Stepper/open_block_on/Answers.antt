@@ -1,7 +1,7 @@
 use Rattle.std.proofs.Common.{◌≡◌, Some, sym, ap, ◌∙◌}
 use Rattle.avm_stepper.specs.Opening.{entry_numbered}
 use Rattle.avm_stepper.proofs.OpenedEntries.{IsMet, opens_met, refuses_met}
-use Rattle.avm_stepper.proofs.stepper.Stepper.open_block.Goals as goal
+use Rattle.avm_stepper.proofs.stepper.Stepper.open_block_on.Goals as goal
 
 pub returns-in-Ok-clause-opened : goal.returns-in-Ok-clause-opened
 returns-in-Ok-clause-opened g c =
