@@ -15,6 +15,7 @@ mod entry;
 mod front;
 pub mod header_codec;
 pub mod outcome_codec;
+mod past_faults;
 mod places;
 pub mod reading_laws;
 
@@ -26,4 +27,5 @@ pub use decoding::decode;
 pub use encoding::encode;
 pub use entry::Entry;
 pub use front::{Front, entry_room};
+pub use past_faults::{OpenError, OpenFault, StateError, StateFault};
 pub use places::outcome_has_place;

@@ -3,7 +3,7 @@ use Rattle.std.specs.Prelude.{◌≡◌, ◌==◌, ℕ, if◌then◌else◌, Opt
 use Rattle.json.specs.Json.{Json}
 use Rattle.avm_ledger.specs.Ledgers.{Ledger}
 use Rattle.avm_block.specs.Blocks.{Block}
-use Rattle.avm_stepper.specs.declared.faults.OpenFault.TheVariants as opening
+use Rattle.avm_block.specs.declared.past_faults.OpenFault.TheVariants as opening
 use Rattle.json_views.specs.Documents.{document_text}
 use Rattle.json_views.specs.declared.refusal.TraceRefusal.{TraceRefusal}
 use Rattle.json_views.specs.declared.refusal.TraceRefusal.TheVariants as refusal

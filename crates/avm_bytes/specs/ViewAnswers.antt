@@ -3,7 +3,7 @@ use Rattle.std.specs.Prelude.{◌≡◌, ℕ, Result, Ok, Err}
 use Rattle.avm_ledger.specs.Ledgers.{Ledger}
 use Rattle.avm_call.specs.Views.{View}
 use Rattle.avm_block.specs.Blocks.{Block}
-use Rattle.avm_stepper.specs.declared.faults.OpenFault.TheVariants as fault
+use Rattle.avm_block.specs.declared.past_faults.OpenFault.TheVariants as fault
 use Rattle.avm_input.specs.declared.refusals.Refusal.{Refusal}
 use Rattle.avm_input.specs.declared.refusals.Refusal.TheVariants as refused
 use Rattle.avm_commands.specs.DebugCommands.{Finds}

@@ -13,11 +13,12 @@ use Rattle.avm_call.specs.Calls.{Target, admitted}
 use Rattle.avm_call.specs.Views.{View, view_after}
 use Rattle.avm_block.specs.declared.entry.Entry.{Entry}
 use Rattle.avm_block.specs.Blocks.{Block}
-use Rattle.avm_stepper.specs.declared.faults.OpenFault.TheVariants as opening
+use Rattle.avm_block.specs.declared.past_faults.OpenFault.TheVariants as opening
 use Rattle.avm_stepper.specs.Opening.{HasNoProgram, IsWithoutProgram, entry_numbered, ledger_before, row_of_target}
 use Rattle.avm_input.specs.declared.refusals.Refusal.{Refusal}
 use Rattle.avm_input.specs.declared.refusals.Refusal.TheVariants as refusal
-use Rattle.avm_commands.specs.DebugCommands.{CanGo, Finds, IsEnded, IsFound, OneFinding}
+use Rattle.avm_stepper.specs.StepsMade.{CanGo}
+use Rattle.avm_commands.specs.DebugCommands.{Finds, IsEnded, IsFound, OneFinding}
 
 same_some : {A : Type 0} {x y : A} → Some x ≡ Some y → x ≡ y
 same_some e = cc

@@ -8,7 +8,7 @@ use Rattle.avm_ledger.specs.Encodings.{ledger_bytes, ledger_digest}
 use Rattle.avm_block.specs.Blocks.{Block}
 use Rattle.avm_replay.specs.declared.verdict.Verdict.{Verdict}
 use Rattle.avm_replay.specs.declared.verdict.Verdict.TheVariants as verdict
-use Rattle.avm_replay.specs.declared.past.StateFault.TheVariants as state_fault
+use Rattle.avm_block.specs.declared.past_faults.StateFault.TheVariants as state_fault
 use Rattle.avm_replay.specs.Verdicts.{Judges}
 use Rattle.avm_replay.specs.Past.{ledger_until}
 use Rattle.avm_input.specs.declared.refusals.Refusal.{Refusal}

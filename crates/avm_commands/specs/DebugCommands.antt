@@ -1,15 +1,13 @@
 -- What `debug` answers to its input: a line of digits for the ledger before a block, and one for the block.
-use Rattle.std.specs.Prelude.{◌≡◌, ◌<◌, ℕ, List, Option, Some, Result, Ok, Err, option_map}
+use Rattle.std.specs.Prelude.{◌≡◌, ℕ, List, Some, Result, Ok, Err}
 use Rattle.teal_value.specs.declared.failure.Failure.TheVariants as failure
-use Rattle.teal_code.specs.declared.instr.Instr.{Instr}
-use Rattle.avm_ledger.specs.declared.header.Header.{Header}
 use Rattle.avm_ledger.specs.Ledgers.{Ledger}
 use Rattle.avm_ledger.specs.Encodings.{ledger_digest}
-use Rattle.avm_items.specs.declared.call_data.CallData.{CallData}
-use Rattle.avm_call.specs.Views.{NextStep, Runs, View, view_after}
+use Rattle.avm_call.specs.Views.{View, view_after}
 use Rattle.avm_block.specs.declared.entry.Entry.{Entry}
 use Rattle.avm_block.specs.Blocks.{Block}
 use Rattle.avm_stepper.specs.Opening.{HasProgram, IsDebugRefusal, entry_numbered, ledger_before}
+use Rattle.avm_stepper.specs.StepsMade.{CanGo, EndsBefore}
 use Rattle.avm_input.specs.declared.refusals.Refusal.{Refusal}
 use Rattle.avm_input.specs.declared.refusals.Refusal.TheVariants as refusal
 use Rattle.avm_input.specs.BlockLines.{ledger_and_block}
@@ -17,24 +15,6 @@ use Rattle.avm_input.specs.DigitLines.{digit_lines}
 use Rattle.avm_input.specs.Refusals.{refusal_reply}
 use Rattle.avm_input.specs.Replies.{Reply, succeeded}
 use Rattle.avm_commands.specs.ViewTexts.{view_text}
-
--- ---- the steps of a call's program over the ledger that the call met
-
--- what is shown to come next after so many steps
-abbrev pub next_after : Ledger → CallData → Header → ℕ → Option NextStep
-next_after l call header steps = option_map (λ v. v.next) (view_after l call header steps)
-
--- an instruction comes next, so one more step can be made; one that faults is made too
-abbrev pub HasNext : Ledger → CallData → Header → ℕ → Type 0
-HasNext l call header steps = (i : Instr) × (next_after l call header steps ≡ Some (Runs i))
-
--- so many steps can be made
-abbrev pub CanGo : Ledger → CallData → Header → ℕ → Type 0
-CanGo l call header steps = (n : ℕ) → n < steps → HasNext l call header n
-
--- the program has faulted, or is at its end, before so many
-abbrev pub EndsBefore : Ledger → CallData → Header → ℕ → Type 0
-EndsBefore l call header steps = (n : ℕ) × (n < steps) × (HasNext l call header n → ⊥)
 
 -- ---- what is found in an entry of a block over the ledger before it
 

@@ -2,33 +2,17 @@
 use Rattle.std.specs.Prelude.{◌≡◌, ℕ, List, Option, Some, None, Err}
 use Rattle.teal_value.specs.declared.failure.Failure.{Failure}
 use Rattle.teal_value.specs.declared.failure.Failure.TheVariants as failure
-use Rattle.teal_value.specs.declared.fault.Fault.{Fault}
-use Rattle.avm_ledger.specs.declared.header.Header.{Header}
 use Rattle.avm_ledger.specs.Ledgers.{Ledger}
 use Rattle.avm_ledger.specs.Encodings.{ledger_digest}
-use Rattle.avm_items.specs.declared.call_data.CallData.{CallData}
 use Rattle.avm_call.specs.Views.{View}
 use Rattle.avm_block.specs.declared.entry.Entry.{Entry}
 use Rattle.avm_block.specs.Blocks.{Block}
-use Rattle.avm_stepper.specs.Debugging.{Debugged, debug_view, steps_shown}
+use Rattle.avm_stepper.specs.Debugging.{Debugged, debug_view}
 use Rattle.avm_stepper.specs.Opening.{HasProgram, entry_numbered, ledger_before}
+use Rattle.avm_stepper.specs.StepsMade.{HasMade}
 use Rattle.avm_input.specs.declared.refusals.Refusal.{Refusal}
-use Rattle.avm_commands.specs.DebugCommands.{CanGo, Finds, HasNext}
+use Rattle.avm_commands.specs.DebugCommands.{Finds}
 use Rattle.avm_commands.specs.ViewTexts.{view_text}
-
--- where the last step has faulted, no instruction comes next
-abbrev pub IsDebugOver : Ledger → CallData → Header → ℕ → Option Fault → Type 0
-IsDebugOver l call header made None = Unit {0}
-IsDebugOver l call header made (Some f) = HasNext l call header made → ⊥
-
--- So many steps were made, the last of which may have faulted.
-pub record HasMade (l : Ledger) (call : CallData) (header : Header) (made : ℕ) (now : Option Debugged) : Type 0 where
-  pub steps : ℕ
-  pub fault : Option Fault
-  pub is : now ≡ Some (record { ledger = l; call = call; header = header; steps = steps; fault = fault })
-  pub counted : steps_shown steps fault ≡ made
-  pub can_go : CanGo l call header made
-  pub over : IsDebugOver l call header made fault
 
 -- So many steps of the program of an entry's call were made.
 pub record HasCome (base : Ledger) (b : Block) (number steps : ℕ) (now : Option Debugged) : Type 0 where

@@ -5,7 +5,7 @@ use Rattle.avm_ledger.specs.declared.header.Header.{Header}
 use Rattle.avm_ledger.specs.Ledgers.{Ledger}
 use Rattle.avm_items.specs.declared.call_data.CallData.{CallData}
 use Rattle.mv_core.specs.SeenStores.{Store}
-use Rattle.avm_stepper.specs.declared.faults.OpenFault.{OpenFault}
+use Rattle.avm_block.specs.declared.past_faults.OpenFault.{OpenFault}
 use Rattle.avm_stepper.specs.Debugging.{Debugged}
 use Rattle.avm_debug.specs.LiveOpening.{IsOpenedLive, ledger_of_store, met_live}
 use Rattle.avm_stepper.specs.Opening.{HasProgram}

@@ -9,8 +9,8 @@ use Rattle.mv_parts.specs.CallHistory.{CallEntry}
 use Rattle.mv_parts.specs.CallNumbers.{call_of}
 use Rattle.mv_parts.specs.SerialCalls.{ledger_of}
 use Rattle.mv_core.specs.SeenStores.{Store}
-use Rattle.avm_stepper.specs.declared.faults.OpenFault.{OpenFault}
-use Rattle.avm_stepper.specs.declared.faults.OpenFault.TheVariants as fault
+use Rattle.avm_block.specs.declared.past_faults.OpenFault.{OpenFault}
+use Rattle.avm_block.specs.declared.past_faults.OpenFault.TheVariants as fault
 use Rattle.avm_stepper.specs.Debugging.{Debugged}
 use Rattle.avm_stepper.specs.Opening.{HasNoProgram, HasProgram}
 

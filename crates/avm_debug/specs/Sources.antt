@@ -4,7 +4,7 @@ use Rattle.teal_value.specs.declared.failure.Failure.{Failure}
 use Rattle.avm_ledger.specs.Ledgers.{Ledger}
 use Rattle.avm_ledger.specs.Encodings.{ledger_digest}
 use Rattle.avm_replay.specs.Past.{ledger_until}
-use Rattle.avm_stepper.specs.declared.faults.OpenFault.{OpenFault}
+use Rattle.avm_block.specs.declared.past_faults.OpenFault.{OpenFault}
 use Rattle.avm_debug.specs.declared.source.Source.{Source}
 use Rattle.avm_debug.specs.declared.source.Source.TheVariants as source
 use Rattle.avm_stepper.specs.Debugging.{Debugged}

@@ -7,11 +7,11 @@ use Rattle.avm_ledger.specs.declared.ledger_fault.LedgerFault.{LedgerFault}
 use Rattle.avm_ledger.specs.FaultNames.{ledger_fault_name}
 use Rattle.avm_block.specs.declared.block_fault.BlockFault.{BlockFault}
 use Rattle.avm_block.specs.FaultNames.{block_fault_name}
-use Rattle.avm_replay.specs.declared.past.StateFault.{StateFault}
-use Rattle.avm_replay.specs.FaultNames.{state_fault_name}
+use Rattle.avm_block.specs.declared.past_faults.StateFault.{StateFault}
+use Rattle.avm_block.specs.FaultNames.{state_fault_name}
 use Rattle.avm_input.specs.declared.call_line.CallLineFault.{CallLineFault}
-use Rattle.avm_stepper.specs.declared.faults.OpenFault.{OpenFault}
-use Rattle.avm_stepper.specs.FaultNames.{open_fault_name}
+use Rattle.avm_block.specs.declared.past_faults.OpenFault.{OpenFault}
+use Rattle.avm_block.specs.FaultNames.{open_fault_name}
 use Rattle.avm_input.specs.declared.refusals.Refusal.{Refusal}
 use Rattle.avm_input.specs.declared.refusals.Refusal.TheVariants as refusal
 use Rattle.avm_input.specs.CallLines.{call_line_name}

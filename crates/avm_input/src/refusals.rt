@@ -6,10 +6,8 @@ ghost use Rattle.avm_input.specs.Shown.{reply_shown};
 
 use crate::call_line::CallLineFault;
 use crate::replies::{REFUSED, Reply};
-use avm_block::BlockFault;
+use avm_block::{BlockFault, OpenFault, StateFault};
 use avm_ledger::LedgerFault;
-use avm_replay::StateFault;
-use avm_stepper::OpenFault;
 use std::alloc::{AllocError, Global};
 use teal_check::CheckFault;
 

@@ -2,4 +2,3 @@ pub mod Verdicts
 pub mod Past
 pub mod Plain
 pub mod WorkedVerdicts
-pub mod FaultNames

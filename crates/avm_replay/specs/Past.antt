@@ -7,8 +7,8 @@ use Rattle.avm_ledger.specs.Encodings.{ledger_digest}
 use Rattle.avm_call.specs.Replay.{replayed}
 use Rattle.avm_block.specs.declared.entry.Entry.{Entry}
 use Rattle.avm_block.specs.Blocks.{Block, calls_in}
-use Rattle.avm_replay.specs.declared.past.StateFault.{StateFault}
-use Rattle.avm_replay.specs.declared.past.StateFault.TheVariants as fault
+use Rattle.avm_block.specs.declared.past_faults.StateFault.{StateFault}
+use Rattle.avm_block.specs.declared.past_faults.StateFault.TheVariants as fault
 
 -- the entries with timestamps up to this one
 abbrev pub entries_until : ℕ → List Entry → List Entry

@@ -9,7 +9,8 @@ mod replayer;
 mod verdict;
 pub mod worked;
 
-pub use past::{StateError, StateFault, state_at, state_at_owned};
+pub use avm_block::{StateError, StateFault};
+pub use past::{state_at, state_at_owned};
 pub use plain::plain_block;
 pub use replayer::{one_verdict, replay, replay_owned};
 pub use verdict::Verdict;

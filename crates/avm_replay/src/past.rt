@@ -4,10 +4,9 @@ ghost use Rattle.std.specs.Prelude.{◌≡◌, IfErr, IfOk};
 ghost use Rattle.avm_ledger.specs.Encodings.{ledger_digest};
 ghost use Rattle.avm_call.specs.Replay.{replayed};
 ghost use Rattle.avm_block.specs.Blocks.{RisesAbove, calls_in};
-ghost use Rattle.avm_replay.specs.FaultNames.{state_fault_name};
 ghost use Rattle.avm_replay.specs.Past.{IsRefused, entries_until, ledger_until};
 
-use avm_block::{Block, Entry};
+use avm_block::{Block, Entry, StateError, StateFault};
 use avm_ledger::{Base, Ledger};
 use avm_ops::Op;
 use avm_run::{Executions, FullOps, RunContext, call_on};
@@ -16,29 +15,6 @@ use std::marker::Brand;
 use std::sync::ledger;
 use std::sync::ledger::Blank;
 use teal_value::Failure;
-use thiserror::Error;
-
-/// Why there is no ledger of the past.
-#[derive(Clone, Copy, Debug, PartialEq, Eq, Error)]
-#[error("{name}", name = self.name())]
-pub enum StateFault {
-    /// The block stands over another ledger.
-    WrongBase = 1,
-}
-
-impl StateFault {
-    /// Its name, as commands print it.
-    pub fn name(self) -> &'static str
-        ensures { result.now ≡ state_fault_name self }
-    {
-        match self {
-            StateFault::WrongBase => "WrongBase",
-        }
-    }
-}
-
-/// A [`StateFault`], or that memory ran out.
-pub type StateError = Failure<StateFault>;
 
 /// The ledger after the calls of a block with timestamps up to this one.
 pub fn state_at<O: Op>(

@@ -7,6 +7,7 @@ pub mod PathsAlike
 pub mod PreparedItems
 pub mod ViewsThere
 pub mod Moving
+pub mod StepsMade
 pub mod Beginning
 pub mod OpenedEntries
 pub mod Copies

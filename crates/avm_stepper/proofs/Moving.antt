@@ -21,7 +21,7 @@ use Rattle.avm_call.specs.Views.{AtEnd, Faults, NextStep, Runs, View}
 use Rattle.avm_run.specs.Progress.{EndsPath, HasStep, next_step_number}
 use Rattle.avm_run.specs.RunState.{Progress}
 use Rattle.avm_run.specs.Showing.{ComesNext, ShowsPath, Sight}
-use Rattle.avm_stepper.specs.declared.faults.StepFault.TheVariants as stop
+use Rattle.avm_stepper.specs.declared.step_fault.StepFault.TheVariants as stop
 use Rattle.avm_stepper.specs.Debugging.{Debugged, next_shown}
 use Rattle.avm_stepper.specs.DebugRuns.{HasFaulted, IsDebugged, IsKeptDebug, seen}
 use Rattle.avm_stepper.specs.DebugSteps.{IsBeforeInstruction, StepsTo}

@@ -9,8 +9,8 @@ use Rattle.avm_ledger.specs.Encodings.{ledger_digest}
 use Rattle.avm_block.specs.declared.entry.Entry.{Entry}
 use Rattle.avm_block.specs.Blocks.{Block}
 use Rattle.avm_replay.specs.Past.{ledger_until}
-use Rattle.avm_stepper.specs.declared.faults.OpenFault.{OpenFault}
-use Rattle.avm_stepper.specs.declared.faults.OpenFault.TheVariants as fault
+use Rattle.avm_block.specs.declared.past_faults.OpenFault.{OpenFault}
+use Rattle.avm_block.specs.declared.past_faults.OpenFault.TheVariants as fault
 use Rattle.avm_stepper.specs.Debugging.{Debugged}
 use Rattle.avm_stepper.specs.Opening.{HasNoProgram, HasProgram, IsDebugRefusal, IsOpened, IsStartRefusal, entry_numbered}
 

@@ -7,8 +7,8 @@ use Rattle.teal_code.specs.declared.instr.Instr.{Instr}
 use Rattle.avm_call.specs.declared.outcome.Ended.TheVariants as ended
 use Rattle.avm_call.specs.Runs.{Position}
 use Rattle.avm_call.specs.Views.{Runs}
-use Rattle.avm_stepper.specs.declared.faults.StepFault.{StepFault}
-use Rattle.avm_stepper.specs.declared.faults.StepFault.TheVariants as fault
+use Rattle.avm_stepper.specs.declared.step_fault.StepFault.{StepFault}
+use Rattle.avm_stepper.specs.declared.step_fault.StepFault.TheVariants as fault
 use Rattle.avm_stepper.specs.Debugging.{Debugged, next_shown, reached_by}
 
 -- an instruction is shown to come next

@@ -9,4 +9,5 @@ pub mod WrittenStates
 pub mod Scratch
 pub mod Shown
 pub mod Laws
+pub mod StepsMade
 pub mod FaultNames

@@ -13,8 +13,8 @@ use Rattle.avm_call.specs.Calls.{Target, admitted}
 use Rattle.avm_block.specs.declared.entry.Entry.{Entry}
 use Rattle.avm_block.specs.Blocks.{Block}
 use Rattle.avm_replay.specs.Past.{ledger_until}
-use Rattle.avm_stepper.specs.declared.faults.OpenFault.{OpenFault}
-use Rattle.avm_stepper.specs.declared.faults.OpenFault.TheVariants as fault
+use Rattle.avm_block.specs.declared.past_faults.OpenFault.{OpenFault}
+use Rattle.avm_block.specs.declared.past_faults.OpenFault.TheVariants as fault
 use Rattle.avm_stepper.specs.Debugging.{Debugged}
 
 -- the entry of a number, counted from 1

@@ -7,20 +7,21 @@
 #![tactic(auto)]
 
 mod changes;
-mod faults;
 mod laws;
 mod opening;
 mod prepared;
 mod scratch;
+mod step_fault;
 mod stepper;
 mod stepping;
 mod view;
 mod viewing;
 mod written_state;
 
-pub use faults::{OpenError, OpenFault, StepError, StepFault};
+pub use avm_block::{OpenError, OpenFault};
 pub use laws::ledgers_before_are_replays;
 pub use opening::entry_of;
+pub use step_fault::{StepError, StepFault};
 pub use stepper::Stepper;
 pub use view::{
     KeyChange, LocalChange, MachineView, Next, ScratchPlace, View, ViewError, ViewFault,

@@ -7,9 +7,8 @@ ghost use Rattle.avm_replay.specs.Past.{ledger_until};
 ghost use Rattle.avm_stepper.specs.Opening.{IsBaseRefusal, entry_numbered};
 ghost use Rattle.avm_stepper.specs.Starting.{Begins, BeginsOver, IsAtTests, StartsOver};
 
-use crate::faults::{OpenError, OpenFault};
 use crate::stepping::supply_from;
-use avm_block::{Block, Entry};
+use avm_block::{Block, Entry, OpenError, OpenFault};
 use avm_items::Item;
 use avm_ledger::{Base, Ledger};
 use avm_ops::Op;

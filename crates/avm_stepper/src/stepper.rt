@@ -6,13 +6,13 @@ ghost use Rattle.avm_stepper.specs.DebugSteps.{StepsTo};
 ghost use Rattle.avm_stepper.specs.Shown.{IsLedgerOf, IsMachineShown, IsProgramShown, IsShown};
 ghost use Rattle.avm_stepper.specs.Opening.{HasProgram, IsDebugRefusal, IsOpened, IsStartRefusal};
 
-use crate::faults::{OpenError, OpenFault, StepError, StepFault};
 use crate::opening::{entry_of, ledger_before, start_over};
 use crate::prepared::writes_of;
+use crate::step_fault::{StepError, StepFault};
 use crate::stepping::{comes_next, step_over};
 use crate::view::{MachineView, View, ViewError, ViewFault};
 use crate::viewing::{machine_at, view_at};
-use avm_block::Block;
+use avm_block::{Block, OpenError, OpenFault};
 use avm_call::Call;
 use avm_items::ItemMap;
 use avm_ledger::{Base, Header, Ledger};

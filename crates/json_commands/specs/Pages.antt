@@ -11,7 +11,7 @@ use Rattle.avm_call.specs.Replay.{outcomes, replayed}
 use Rattle.avm_block.specs.Blocks.{Block, calls_of}
 use Rattle.avm_replay.specs.declared.verdict.Verdict.{Verdict}
 use Rattle.avm_replay.specs.Verdicts.{Judges}
-use Rattle.avm_stepper.specs.declared.faults.OpenFault.TheVariants as opening
+use Rattle.avm_block.specs.declared.past_faults.OpenFault.TheVariants as opening
 use Rattle.avm_stepper.specs.Opening.{IsDebugRefusal}
 use Rattle.avm_input.specs.declared.refusals.Refusal.{Refusal}
 use Rattle.avm_input.specs.declared.refusals.Refusal.TheVariants as input_refusal

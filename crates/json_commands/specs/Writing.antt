@@ -9,7 +9,7 @@ use Rattle.avm_ledger.specs.Ledgers.{Ledger}
 use Rattle.avm_block.specs.Blocks.{Block}
 use Rattle.avm_replay.specs.declared.verdict.Verdict.{Verdict}
 use Rattle.avm_replay.specs.Verdicts.{Judges}
-use Rattle.avm_stepper.specs.declared.faults.OpenFault.{OpenFault}
+use Rattle.avm_block.specs.declared.past_faults.OpenFault.{OpenFault}
 use Rattle.avm_stepper.specs.Opening.{IsDebugRefusal}
 use Rattle.avm_commands.specs.BlockCommands.{verdict_text}
 use Rattle.json_views.specs.Documents.{member_tokens, text}

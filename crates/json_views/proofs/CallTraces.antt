@@ -14,8 +14,8 @@ use Rattle.avm_items.specs.declared.call_data.CallData.{CallData}
 use Rattle.avm_call.specs.declared.outcome.Outcome.{Outcome}
 use Rattle.avm_call.specs.Replay.{ledger_after, outcome_on}
 use Rattle.avm_stepper.specs.Debugging.{Debugged}
-use Rattle.avm_stepper.specs.declared.faults.OpenFault.{OpenFault}
-use Rattle.avm_stepper.specs.declared.faults.OpenFault.TheVariants as fault
+use Rattle.avm_block.specs.declared.past_faults.OpenFault.{OpenFault}
+use Rattle.avm_block.specs.declared.past_faults.OpenFault.TheVariants as fault
 use Rattle.avm_stepper.specs.Opening.{HasNoProgram, HasProgram, IsStartRefusal, program_row}
 use Rattle.json_views.specs.Documents.{items_of, member_tokens, text}
 use Rattle.json_views.specs.Writing.{Adds}

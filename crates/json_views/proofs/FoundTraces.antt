@@ -16,7 +16,7 @@ use Rattle.avm_call.specs.Replay.{ledger_after, outcome_on, replayed}
 use Rattle.avm_block.specs.declared.entry.Entry.{Entry}
 use Rattle.avm_block.specs.Blocks.{Block}
 use Rattle.avm_stepper.specs.Debugging.{Debugged}
-use Rattle.avm_stepper.specs.declared.faults.OpenFault.{OpenFault}
+use Rattle.avm_block.specs.declared.past_faults.OpenFault.{OpenFault}
 use Rattle.avm_stepper.specs.Opening.{IsDebugRefusal, IsOpened, entry_numbered, ledger_before}
 use Rattle.avm_stepper.specs.Shown.{IsLedgerOf}
 use Rattle.avm_input.specs.ProposeInputs.{ProposeInput}

@@ -21,7 +21,7 @@ use Rattle.avm_stepper.specs.declared.view.View.{View as ShownView}
 use Rattle.avm_stepper.specs.Opening.{HasNoProgram}
 use Rattle.avm_stepper.specs.Shown.{IsProgramOf, IsShown, MachineState, view_seen}
 use Rattle.avm_input.specs.Outcomes.{outcome_text}
-use Rattle.avm_commands.specs.DebugCommands.{CanGo}
+use Rattle.avm_stepper.specs.StepsMade.{CanGo}
 use Rattle.json_views.specs.Documents.{array_of, items_of, member_tokens, members_of, text}
 use Rattle.json_views.specs.Writing.{Adds}
 use Rattle.json_views.specs.declared.refusal.TraceRefusal.{TraceRefusal}

@@ -12,14 +12,13 @@ use Rattle.avm_ledger.specs.declared.header.Header.{Header}
 use Rattle.avm_ledger.specs.Ledgers.{Ledger}
 use Rattle.avm_items.specs.declared.call_data.CallData.{CallData}
 use Rattle.avm_call.specs.Views.{NextStep, Runs, Faults, AtEnd, View, view_after}
-use Rattle.avm_stepper.specs.declared.faults.StepFault.{StepFault}
-use Rattle.avm_stepper.specs.declared.faults.StepFault.TheVariants as fault
+use Rattle.avm_stepper.specs.declared.step_fault.StepFault.{StepFault}
+use Rattle.avm_stepper.specs.declared.step_fault.StepFault.TheVariants as fault
 use Rattle.avm_stepper.specs.Debugging.{Debugged}
 use Rattle.avm_stepper.specs.DebugSteps.{StepsTo}
 use Rattle.avm_stepper.specs.Shown.{MachineState, machine_of}
-use Rattle.avm_commands.specs.DebugCommands.{CanGo, HasNext}
-use Rattle.avm_commands.specs.DebugRuns.{HasMade}
-use Rattle.avm_commands.proofs.StepsMade.{ended_there, made_more}
+use Rattle.avm_stepper.specs.StepsMade.{CanGo, HasMade, HasNext}
+use Rattle.avm_stepper.proofs.StepsMade.{ended_there, made_more}
 use Rattle.json_views.specs.Documents.{array_of}
 use Rattle.json_views.specs.Writing.{Adds}
 use Rattle.json_views.specs.declared.refusal.TraceRefusal.TheVariants as refusal

@@ -17,8 +17,7 @@ use Rattle.avm_call.specs.Views.{NextStep, Runs, Faults, AtEnd, View}
 use Rattle.avm_stepper.specs.Debugging.{Debugged, debug_view}
 use Rattle.avm_stepper.specs.Shown.{IsProgramOf, MachineState, machine_of}
 use Rattle.avm_input.specs.Outcomes.{outcome_text}
-use Rattle.avm_commands.specs.DebugCommands.{CanGo}
-use Rattle.avm_commands.specs.DebugRuns.{HasMade}
+use Rattle.avm_stepper.specs.StepsMade.{CanGo, HasMade}
 use Rattle.json_views.specs.Documents.{array_of, members_of, text, uint}
 use Rattle.json_views.specs.declared.refusal.TraceRefusal.{TraceRefusal}
 use Rattle.json_views.specs.declared.refusal.TraceRefusal.TheVariants as refusal

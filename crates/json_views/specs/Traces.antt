@@ -18,11 +18,11 @@ use Rattle.avm_call.specs.Replay.{ledger_after, outcome_on}
 use Rattle.avm_call.specs.Views.{NextStep, Runs, Faults, AtEnd, View, view_after}
 use Rattle.avm_block.specs.declared.entry.Entry.{Entry}
 use Rattle.avm_block.specs.Blocks.{Block}
-use Rattle.avm_stepper.specs.declared.faults.OpenFault.TheVariants as opening
+use Rattle.avm_block.specs.declared.past_faults.OpenFault.TheVariants as opening
 use Rattle.avm_stepper.specs.Opening.{HasNoProgram, HasProgram, IsDebugRefusal, entry_numbered, ledger_before}
 use Rattle.avm_stepper.specs.Shown.{IsProgramOf, MachineState, machine_of}
 use Rattle.avm_input.specs.Outcomes.{outcome_text}
-use Rattle.avm_commands.specs.DebugCommands.{CanGo, HasNext}
+use Rattle.avm_stepper.specs.StepsMade.{CanGo, HasNext}
 use Rattle.json_views.specs.Documents.{Member, array_of, document_text, items_of, object_of, text, uint}
 use Rattle.json_views.specs.declared.refusal.TraceRefusal.{TraceRefusal}
 use Rattle.json_views.specs.declared.refusal.TraceRefusal.TheVariants as refusal

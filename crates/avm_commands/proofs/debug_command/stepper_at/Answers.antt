@@ -1,7 +1,7 @@
 use Rattle.std.proofs.Common.{◌≡◌, ◌∙◌, Err, ap, subst, arith}
 use Rattle.std.proofs.lemmas.Result.{err_from_is_err_and}
 use Rattle.teal_value.specs.declared.failure.Failure.TheVariants as failure
-use Rattle.avm_stepper.specs.declared.faults.StepFault.TheVariants.{Ended}
+use Rattle.avm_stepper.specs.declared.step_fault.StepFault.TheVariants.{Ended}
 use Rattle.avm_stepper.specs.DebugSteps.{StepsTo}
 use Rattle.avm_commands.specs.DebugRuns.{HasCome}
 use Rattle.avm_commands.proofs.StepsMade.{come_ended, come_first, come_more}

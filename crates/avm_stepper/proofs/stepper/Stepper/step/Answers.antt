@@ -1,6 +1,6 @@
 use Rattle.std.proofs.Common.{Err, None, Ok, Option, Some, sym, ap, subst, ◌∙◌}
 use Rattle.teal_value.specs.declared.failure.Failure.TheVariants as failure
-use Rattle.avm_stepper.specs.declared.faults.StepFault.TheVariants as fault
+use Rattle.avm_stepper.specs.declared.step_fault.StepFault.TheVariants as fault
 use Rattle.avm_stepper.specs.Debugging.{Debugged}
 use Rattle.avm_stepper.specs.DebugRuns.{IsKeptDebug, IsPreparedFor, seen}
 use Rattle.avm_stepper.specs.DebugSteps.{StepsTo}

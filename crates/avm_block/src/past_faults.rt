@@ -1,12 +1,34 @@
-//! Why a call is not opened, and why no step is made.
+//! Why a block's past is not shown: the ledger after some of its calls, or a call on its way.
 
 ghost use Rattle.std.specs.Prelude.{◌≡◌};
-ghost use Rattle.avm_stepper.specs.FaultNames.{open_fault_name, step_fault_name};
+ghost use Rattle.avm_block.specs.FaultNames.{open_fault_name, state_fault_name};
 
 use teal_value::Failure;
 use thiserror::Error;
 
-/// Why a call is not opened. The tests come in this order.
+/// Why there is no ledger of the past.
+#[derive(Clone, Copy, Debug, PartialEq, Eq, Error)]
+#[error("{name}", name = self.name())]
+pub enum StateFault {
+    /// The block stands over another ledger.
+    WrongBase = 1,
+}
+
+impl StateFault {
+    /// Its name, as commands print it.
+    pub fn name(self) -> &'static str
+        ensures { result.now ≡ state_fault_name self }
+    {
+        match self {
+            StateFault::WrongBase => "WrongBase",
+        }
+    }
+}
+
+/// A [`StateFault`], or that memory ran out.
+pub type StateError = Failure<StateFault>;
+
+/// Why a call is not opened in a debugger. The tests come in this order.
 #[derive(Clone, Copy, Debug, PartialEq, Eq, Error)]
 #[error("{name}", name = self.name())]
 pub enum OpenFault {
@@ -36,28 +58,3 @@ impl OpenFault {
 
 /// An [`OpenFault`], or that memory ran out.
 pub type OpenError = Failure<OpenFault>;
-
-/// Why no step is made.
-#[derive(Clone, Copy, Debug, PartialEq, Eq, Error)]
-#[error("{name}", name = self.name())]
-pub enum StepFault {
-    /// A step has faulted, or no instruction is left.
-    Ended = 4,
-    /// A step before was refused memory.
-    Spent = 6,
-}
-
-impl StepFault {
-    /// Its name.
-    pub fn name(self) -> &'static str
-        ensures { result.now ≡ step_fault_name self }
-    {
-        match self {
-            StepFault::Ended => "Ended",
-            StepFault::Spent => "Spent",
-        }
-    }
-}
-
-/// A [`StepFault`], or that memory ran out.
-pub type StepError = Failure<StepFault>;
