@@ -4,7 +4,7 @@ use Rattle.std.specs.List.{AllByRecursion}
 use Rattle.mv_chain.specs.declared.chain.Version.{Version}
 use Rattle.mv_chain.specs.Versions.{count_not_above, IsChain, AreRising, newest_at, oldest_timestamp, marked_at_index, versions_read_at, versions_with, versions_from}
 use Rattle.mv_chain.specs.Laws.{IsNewestAt, EveryReadFindsTheNewest, EveryReadMarksItsVersionAlone, EveryInstallIsFound, EveryPruneKeepsReads}
-use Rattle.mv_chain.proofs.Indexes.{AtMost, within, above, at_most}
+use Rattle.mv_history.proofs.Lists.{AtMost, above, at_most, within}
 
 module _ {V : Type 0} where
   -- the newest of a version and those after it

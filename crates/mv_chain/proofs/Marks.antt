@@ -4,7 +4,7 @@ use Rattle.std.specs.List.{AllByRecursion}
 use Rattle.mv_chain.specs.declared.chain.Version.{Version}
 use Rattle.mv_chain.specs.Versions.{count_not_above, IsChain, AreRising, mark_in}
 use Rattle.mv_chain.specs.Laws.{EveryInstallKeepsMarks, EveryMarkIsOfItsVersion, EveryPruneKeepsMarks, EveryReadRaisesOneMark}
-use Rattle.mv_chain.proofs.Indexes.{AtMost, within, above, at_most}
+use Rattle.mv_history.proofs.Lists.{AtMost, above, at_most, within}
 use Rattle.mv_chain.proofs.Found.{found, newest_at-found, found-at_least, from, versions_from-from, read_by, first_read, others_read, versions_read_at-first}
 
 -- a test whether two numbers are one, decided

@@ -4,8 +4,9 @@ use Rattle.std.specs.Result.{OnErr, OnOk}
 use Rattle.std.specs.List.{AllByRecursion}
 use Rattle.mv_chain.specs.declared.chain.Version.{Version}
 use Rattle.mv_chain.specs.Versions.{AreRising, IsChain, IsRow, count_not_above, mark_in, marked_at_index, newest_at, oldest_timestamp, versions_from, versions_read_at, versions_with}
+use Rattle.mv_history.proofs.Lists.{AtMost, above, at_most, within}
 use Rattle.mv_chain.proofs.Marks.{mark_in-held, mark_in-not_held}
-use Rattle.mv_chain.proofs.Indexes.{AtMost, above, at_most, count_not_above-all, count_not_above-positive, count_not_above-within, within}
+use Rattle.mv_chain.proofs.Indexes.{count_not_above-all, count_not_above-positive, count_not_above-within}
 
 module _ {V : Type 0} (n : Version V) where
   abbrev pub all_with : List (Version V) → List (Version V)
