@@ -7,8 +7,8 @@ use Rattle.avm_items.specs.Items.{ItemMap}
 use Rattle.mv_shards.specs.declared.shard_state.ShardState.{ShardState}
 use Rattle.mv_shards.specs.declared.chain_ref.ChainRef.{ChainRef}
 use Rattle.mv_shards.specs.Indexes.{shard_of}
-use Rattle.mv_shards.specs.KeptChains.{AllVersions, number_in, one_marked}
-use Rattle.mv_shards.specs.SlotWriting.{AreBeside, ArePlaced, AreChainRefs, AreChainRefsKept, IsPlaced, IsChainRef, StateSlots, chains_at, chains_for, chains_or, versions_marked}
+use Rattle.mv_shards.specs.KeptChains.{AllVersions, IsReadable, IsReadableAt, number_in, one_marked}
+use Rattle.mv_shards.specs.SlotWriting.{AreBeside, ArePlaced, AreChainRefs, AreChainRefsKept, IsPlaced, IsChainRef, IsReadableRef, StateSlots, chains_at, chains_for, chains_or, versions_marked}
 use Rattle.mv_shards.proofs.Numbers.{one_numbered}
 use Rattle.mv_shards.proofs.Slots.{here_at}
 
@@ -47,6 +47,17 @@ spot_chains parts x spot p h here = ap (chains_at parts) (sym h.shard) ∙ ap ch
 pub spot_number : (parts : StateSlots) (x : Item) (spot : ChainRef) (p : ShardState) → IsChainRef parts x spot
     → get_or parts spot.shard None ≡ Some p → number_in p.chains x ≡ Some spot.number
 spot_number parts x spot p h here = subst (λ map. number_in map x ≡ Some spot.number) (spot_chains parts x spot p h here) h.number
+
+-- where an item's chain stands at a spot, and is readable, the chain with the spot's number is, in the part at the spot's index
+pub spot_readable : (t : ℕ) (parts : StateSlots) (spot : ChainRef) (d : Option ShardState) (p : ShardState) → IsReadableRef t parts spot
+    → get_or parts spot.shard d ≡ Some p → IsReadableAt t p.chains spot.number
+spot_readable t parts spot d p r found =
+    let here = spot_here parts r.item spot d p r.here found in
+    record {
+      item = r.item;
+      numbered = spot_number parts r.item spot p r.here here;
+      readable = subst (λ map. IsReadable t map r.item) (spot_chains parts r.item spot p r.here here) r.readable;
+    }
 
 -- where chains keep their numbers, items keep their spots
 pub spot_kept : (old new : StateSlots) → AreChainRefsKept old new → (x : Item) (spot : ChainRef) → IsChainRef old x spot

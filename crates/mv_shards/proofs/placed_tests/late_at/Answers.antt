@@ -1,21 +1,14 @@
-use Rattle.std.proofs.Common.{◌∙◌, ap, sym, subst}
+use Rattle.std.proofs.Common.{◌∙◌, ap, sym}
 use Rattle.mv_chain.specs.Versions.{lateness, newest_at}
 use Rattle.mv_shards.specs.Indexes.{shard_of}
-use Rattle.mv_shards.specs.KeptChains.{IsReadable, versions_of}
+use Rattle.mv_shards.specs.KeptChains.{versions_of}
 use Rattle.mv_shards.specs.SlotWriting.{first_at}
 use Rattle.mv_shards.specs.TestedWrites.{no_version}
-use Rattle.mv_shards.proofs.ChainRefs.{spot_chains, spot_here, spot_number}
+use Rattle.mv_shards.proofs.ChainRefs.{spot_chains, spot_here, spot_number, spot_readable}
 use Rattle.mv_shards.proofs.placed_tests.late_at.Goals as goal
 
 pub late_in-requires : goal.late_in-requires
-late_in-requires c =
-    let p = c.requires in
-    let here = spot_here c.args.parts.now p.item c.args.spot c.index-parts-spot.result c.in-Some.part p.here c.in-Some.is in
-    record {
-      item = p.item;
-      numbered = spot_number c.args.parts.now p.item c.args.spot c.in-Some.part p.here here;
-      readable = subst (λ map. IsReadable c.args.timestamp map p.item) (spot_chains c.args.parts.now p.item c.args.spot c.in-Some.part p.here here) p.readable;
-    }
+late_in-requires c = spot_readable c.args.timestamp c.args.parts.now c.args.spot c.index-parts-spot.result c.in-Some.part c.requires c.in-Some.is
 
 pub returns : goal.returns
 returns c item spot =

@@ -1,18 +1,10 @@
-use Rattle.std.proofs.Common.{refl, subst}
-use Rattle.mv_shards.specs.KeptChains.{IsReadable}
-use Rattle.mv_shards.proofs.ChainRefs.{spot_chains, spot_here, spot_number}
+use Rattle.std.proofs.Common.{refl}
+use Rattle.mv_shards.proofs.ChainRefs.{spot_here, spot_number, spot_readable}
 use Rattle.mv_shards.proofs.Writes.{marked_item}
 use Rattle.mv_shards.proofs.writing.mark_at.Goals as goal
 
 pub mark-requires-clause-readable : goal.mark-requires-clause-readable
-mark-requires-clause-readable c =
-    let p = c.requires.readable in
-    let here = spot_here c.args.parts.now p.item c.args.spot c.index-parts-spot.result c.in-Some.part p.here c.in-Some.is in
-    record {
-      item = p.item;
-      numbered = spot_number c.args.parts.now p.item c.args.spot c.in-Some.part p.here here;
-      readable = subst (λ map. IsReadable c.args.timestamp map p.item) (spot_chains c.args.parts.now p.item c.args.spot c.in-Some.part p.here here) p.readable;
-    }
+mark-requires-clause-readable c = spot_readable c.args.timestamp c.args.parts.now c.args.spot c.index-parts-spot.result c.in-Some.part c.requires.readable c.in-Some.is
 
 pub returns : goal.returns
 returns c item spot =
