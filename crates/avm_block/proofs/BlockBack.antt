@@ -40,7 +40,7 @@ profile_back profile.Three rest = then _ _ _ _ (byte_back Truncated 2 (3 ∷ res
 header_chain : (a b c d e rest : List ℕ) → (a ++ b ++ c ++ d ++ e) ++ rest ≡ a ++ (b ++ (c ++ (d ++ (e ++ rest))))
 header_chain a b c d e rest = simp append_assoc
 
-header_back : (h : Header) (rest : List ℕ) → IsHeader h → header_at h.profile (header_bytes h ++ rest) ≡ Ok (h, rest)
+pub header_back : (h : Header) (rest : List ℕ) → IsHeader h → header_at h.profile (header_bytes h ++ rest) ≡ Ok (h, rest)
 header_back h rest is =
     let life = u64_bytes h.max_life ++ rest in
     let balance = u64_bytes h.min_balance ++ life in

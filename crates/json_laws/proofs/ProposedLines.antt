@@ -8,15 +8,15 @@ use Rattle.avm_ledger.specs.LedgerReader.{ledger_at}
 use Rattle.avm_ledger.specs.LedgerRules.{IsCountable, KeepsRules}
 use Rattle.avm_ledger.specs.Ledgers.{Ledger}
 use Rattle.avm_ledger.specs.Encodings.{header_bytes, ledger_bytes, string_bytes, u64_bytes}
-use Rattle.avm_ledger.proofs.FieldsBack.{then, u64_back}
+use Rattle.avm_ledger.proofs.FieldsBack.{then}
 use Rattle.avm_ledger.proofs.LedgerBack.{ledger_back_alone}
 use Rattle.avm_items.specs.declared.call_data.CallData.{CallData}
 use Rattle.avm_call_codec.specs.CallEncoding.{call_bytes, lists_bytes, programs_bytes, target_bytes}
 use Rattle.avm_call_codec.proofs.CallBack.{call_back_alone}
 use Rattle.avm_call.specs.CallRules.{call_fault}
-use Rattle.avm_block.specs.declared.block_fault.BlockFault.TheVariants.{Truncated}
 use Rattle.avm_block.specs.BlockReader.{header_at}
 use Rattle.avm_block.specs.BlockRoundTrip.{IsHeader}
+use Rattle.avm_block.proofs.BlockBack.{header_back as header_front}
 use Rattle.avm_input.specs.BlockLines.{first_ledger, needed_bytes, on_ledger}
 use Rattle.avm_input.specs.CallLines.{checked_call, on_bytes, unless_broken}
 use Rattle.avm_input.specs.DigitLines.{DigitLine, line_bytes, lines_after, on_digits}
@@ -55,22 +55,6 @@ ledger_first n l more keeps countable all =
     (ap (λ r. on_ledger r >>= λ k. Ok (k, more)) (ledger_back_alone l keeps countable))
 
 -- ---- headers
-
-header_chain : (a b c d e rest : List ℕ) → (a ++ b ++ c ++ d ++ e) ++ rest ≡ a ++ (b ++ (c ++ (d ++ (e ++ rest))))
-header_chain a b c d e rest = simp append_assoc
-
-header_front : (h : Header) (rest : List ℕ) → IsHeader h → header_at h.profile (header_bytes h ++ rest) ≡ Ok (h, rest)
-header_front h rest is =
-    let life = u64_bytes h.max_life ++ rest in
-    let balance = u64_bytes h.min_balance ++ life in
-    let fee = u64_bytes h.min_fee ++ balance in
-    let latest = u64_bytes h.latest_timestamp ++ fee in
-    ap (header_at h.profile) (header_chain (u64_bytes h.round) (u64_bytes h.latest_timestamp) (u64_bytes h.min_fee) (u64_bytes h.min_balance) (u64_bytes h.max_life) rest)
-    ∙ then _ _ _ _ (u64_back Truncated h.round latest is.round)
-    (then _ _ _ _ (u64_back Truncated h.latest_timestamp fee is.latest_timestamp)
-    (then _ _ _ _ (u64_back Truncated h.min_fee balance is.min_fee)
-    (then _ _ _ _ (u64_back Truncated h.min_balance life is.min_balance)
-    (then _ _ _ _ (u64_back Truncated h.max_life rest is.max_life) refl))))
 
 pub header_back : (h : Header) → IsHeader h → header_at h.profile (header_bytes h) ≡ Ok (h, [])
 header_back h is = ap (header_at h.profile) (sym (append-nil (header_bytes h))) ∙ header_front h [] is
