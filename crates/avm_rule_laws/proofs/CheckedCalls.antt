@@ -1,10 +1,11 @@
 -- That a call which breaks no rule of calls brings what it has to.
-use Rattle.std.proofs.Common.{◌≡◌, ℕ, ◌≤◌, Bool, true, false, ◌&&◌, nat_le, nat_lt, if◌then◌else◌, List, [], ◌∷◌, length, None, refl, sym, ap, ◌∙◌, arith}
-use Rattle.std.specs.Prelude.{◌==◌, ◌||◌, All, not}
+use Rattle.std.proofs.Common.{◌≡◌, ℕ, ◌≤◌, Bool, true, false, eqb, leb, ◌&&◌, nat_lt, if◌then◌else◌, List, [], ◌∷◌, length, None, refl, sym, ap, ◌∙◌, arith}
+use Rattle.std.specs.Prelude.{◌||◌, All, not}
 use Rattle.std.proofs.lemmas.Bool.{leb-true, ltb-false, eqb-true, and_parts, or_right}
 use Rattle.std.proofs.lemmas.List.Elements.{All-nil, All-cons, All-head, All-tail}
 use Rattle.teal_value.specs.declared.address.Address.{Address}
 use Rattle.teal_check.specs.WellFormed.{checked}
+use Rattle.avm_states.specs.Schemas.{most_global_entries, most_local_entries}
 use Rattle.avm_items.specs.declared.call_data.CallData.{CallData}
 use Rattle.avm_items.specs.CallFields.{creates}
 use Rattle.avm_call.specs.declared.call_fault.CallFault.TheVariants as fault
@@ -54,12 +55,15 @@ field_rules c e =
     passes true h = refl
     passes false h = absurd cc
 
-within_limits : (c : CallData) → field_fault c ≡ None → creates c ≡ true → (entries_in c.global_schema ≤ 64) × (entries_in c.local_schema ≤ 16)
-within_limits c e new =
-    let creation = nat_le (entries_in c.global_schema) 64 && nat_le (entries_in c.local_schema) 16 in
-    let other = (entries_in c.global_schema == 0) && (entries_in c.local_schema == 0) in
-    let parts = and_parts (nat_le (entries_in c.global_schema) 64) (nat_le (entries_in c.local_schema) 16) (sym (ap (λ b. if b then creation else other) new) ∙ (field_rules c e).schemas) in
-    (leb-true (entries_in c.global_schema) 64 parts.0, leb-true (entries_in c.local_schema) 16 parts.1)
+within : (new : Bool) (g l : ℕ) → (if new then (leb g 64 && leb l 16) else (eqb g 0 && eqb l 0)) ≡ true → (g ≤ 64) × (l ≤ 16)
+within true g l e = let both = and_parts (leb g 64) (leb l 16) e in (leb-true g 64 both.0, leb-true l 16 both.1)
+within false g l e =
+    let both = and_parts (eqb g 0) (eqb l 0) e in
+    (omega (arith, eqb-true g 0 both.0), omega (arith, eqb-true l 0 both.1))
+
+-- the schemas of a call that breaks no rule of calls have no more entries than they may
+pub schemas_fit : (c : CallData) → call_fault c ≡ None → (entries_in c.global_schema ≤ most_global_entries) × (entries_in c.local_schema ≤ most_local_entries)
+schemas_fit c e = within (creates c) (entries_in c.global_schema) (entries_in c.local_schema) (field_rules c (none_of_both (field_fault c) (programs_fault c) e).0).schemas
 
 pub checked_calls_bring_programs : (c : CallData) → call_fault c ≡ None → BringsPrograms c
 checked_calls_bring_programs c e =
@@ -68,8 +72,8 @@ checked_calls_bring_programs c e =
     record {
       approval = λ new. (pass (ap (λ b. b || updates c.completion) new)).0;
       clear = λ new. (pass (ap (λ b. b || updates c.completion) new)).1;
-      global_schema = λ new. (within_limits c parts.0 new).0;
-      local_schema = λ new. (within_limits c parts.0 new).1;
+      global_schema = λ new. (schemas_fit c e).0;
+      local_schema = λ new. (schemas_fit c e).1;
       new_approval = λ is. (pass (ap (λ k. creates c || updates k) is ∙ or_right (creates c) true refl)).0;
       new_clear = λ is. (pass (ap (λ k. creates c || updates k) is ∙ or_right (creates c) true refl)).1;
     }

@@ -12,6 +12,7 @@ use Rattle.avm_items.specs.declared.call_data.CallData.{CallData}
 use Rattle.avm_items.specs.CallFields.{completion_number}
 use Rattle.avm_call.specs.CallRules.{call_fault, entries_in}
 use Rattle.avm_rule_laws.specs.Rules.{AreBytes, IsCallOfBytes}
+use Rattle.avm_rule_laws.proofs.CheckedCalls.{schemas_fit}
 use Rattle.json.specs.Json.{Json}
 use Rattle.json_documents.specs.Arrays.{each}
 use Rattle.json_documents.specs.Faults.{Fault}
@@ -26,7 +27,6 @@ use Rattle.json_views.specs.Documents.{address, array_of, base64, object_of, tex
 use Rattle.json_views.specs.ShownCalls.{are_zeros, schema_members, shown_call}
 use Rattle.json_laws.proofs.ArraysBack.{array_back, at_seam, then}
 use Rattle.json_laws.proofs.CallPlaces.{call_is, call_places, schema_is, schema_places}
-use Rattle.json_laws.proofs.CheckedSchemas.{schemas_fit}
 use Rattle.json_laws.proofs.MembersBack.{Place, all_known, are_among, member_of, needed_back, optional_back, present, under, unless}
 use Rattle.json_laws.proofs.PlainBack.{address_back, bytes_back, uint_back}
 

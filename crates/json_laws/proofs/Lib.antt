@@ -11,7 +11,6 @@ pub mod LedgersBack
 pub mod TokensBack
 pub mod CallPlaces
 pub mod EncodedCalls
-pub mod CheckedSchemas
 pub mod CallsBack
 pub mod BlocksBack
 pub mod FiniteNumbers
