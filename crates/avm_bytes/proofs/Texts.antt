@@ -1,8 +1,9 @@
 -- Source text and words, by whether they are UTF-8.
-use Rattle.std.proofs.Common.{◌≡◌, ℕ, List, [], Result, Some, IfOk, refl, true, false}
-use Rattle.std.specs.Str.{IsUtf8, is_utf8}
-use Rattle.std.proofs.lemmas.Str.{IsUtf8-from_is_utf8, is_utf8-from_IsUtf8}
+use Rattle.std.proofs.Common.{◌≡◌, ℕ, List, [], Result, Some, IfOk, refl}
+use Rattle.std.specs.Str.{IsUtf8}
+use Rattle.std.proofs.lemmas.Str.{is_utf8-from_IsUtf8}
 use Rattle.teal_asm.specs.Program.{assembled}
+use Rattle.avm_input.proofs.Texts.{is_utf8-false}
 use Rattle.avm_bytes.specs.declared.answers.Answer.{Answer as WrittenAnswer}
 use Rattle.avm_bytes.specs.declared.statuses.Status.TheVariants as status
 use Rattle.avm_bytes.specs.Answers.{Answer, refusal}
@@ -11,13 +12,6 @@ use Rattle.avm_bytes.specs.Programs.{assembled_answer, assembly_answer}
 use Rattle.avm_bytes.specs.Shown.{answer_shown}
 use Rattle.avm_bytes.specs.Troubles.{refused_for}
 use Rattle.avm_bytes.specs.WordAnswers.{words_in, words_of}
-
-pub is_utf8-false : (bytes : List ℕ) → (IsUtf8 bytes → ⊥) → is_utf8 bytes ≡ false
-is_utf8-false bytes fails =
-    elim (is_utf8 bytes) as (λ b. is_utf8 bytes ≡ b → b ≡ false) [
-      | true ↦ λ e. absurd (fails (IsUtf8-from_is_utf8 bytes e))
-      | false ↦ λ e. refl
-    ] refl
 
 -- source text that is not UTF-8 is refused
 pub assembled_answer-not_utf8 : (bytes : List ℕ) → (IsUtf8 bytes → ⊥) → assembled_answer bytes ≡ refusal status.NoText

@@ -1,22 +1,16 @@
 -- Replies, by what was read.
-use Rattle.std.proofs.Common.{◌≡◌, ℕ, List, Result, refl, true, false}
-use Rattle.std.specs.Str.{IsUtf8, is_utf8}
-use Rattle.std.proofs.lemmas.Str.{IsUtf8-from_is_utf8, is_utf8-from_IsUtf8}
+use Rattle.std.proofs.Common.{◌≡◌, ℕ, List, Result, refl}
+use Rattle.std.specs.Str.{IsUtf8}
+use Rattle.std.proofs.lemmas.Str.{is_utf8-from_IsUtf8}
 use Rattle.teal_source.specs.declared.fault.AsmFault.{AsmFault}
 use Rattle.teal_asm.specs.Program.{assembled}
 use Rattle.avm_input.specs.Replies.{input_refusal}
+use Rattle.avm_input.proofs.Texts.{is_utf8-false}
 use Rattle.avm_commands.specs.Answers.{asm_reply, assembly_reply}
-
-not_utf8 : (bytes : List ℕ) → (IsUtf8 bytes → ⊥) → is_utf8 bytes ≡ false
-not_utf8 bytes fails =
-    elim (is_utf8 bytes) as (λ b. is_utf8 bytes ≡ b → b ≡ false) [
-      | true ↦ λ e. absurd (fails (IsUtf8-from_is_utf8 bytes e))
-      | false ↦ λ e. refl
-    ] refl
 
 -- `asm` refuses an input that is not UTF-8
 pub asm_reply-not_utf8 : (input : List ℕ) → (IsUtf8 input → ⊥) → asm_reply input ≡ input_refusal
-asm_reply-not_utf8 input fails = rw (not_utf8 input fails) refl
+asm_reply-not_utf8 input fails = rw (is_utf8-false input fails) refl
 
 -- `asm` answers an input in UTF-8 with what it assembles to
 pub asm_reply-utf8 : (input text : List ℕ) (meant : Result (List ℕ) AsmFault) → IsUtf8 input → text ≡ input

@@ -10,3 +10,4 @@ pub mod Written
 pub mod WrittenDigits
 pub mod LinesBehind
 pub mod CallsSoFar
+pub mod Texts

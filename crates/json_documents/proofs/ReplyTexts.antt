@@ -1,21 +1,15 @@
 -- Replies, by whether the input is text.
-use Rattle.std.proofs.Common.{◌≡◌, ℕ, List, refl, true, false}
-use Rattle.std.specs.Str.{IsUtf8, is_utf8}
-use Rattle.std.proofs.lemmas.Str.{IsUtf8-from_is_utf8, is_utf8-from_IsUtf8}
+use Rattle.std.proofs.Common.{◌≡◌, ℕ, List, refl}
+use Rattle.std.specs.Str.{IsUtf8}
+use Rattle.std.proofs.lemmas.Str.{is_utf8-from_IsUtf8}
 use Rattle.avm_input.specs.Replies.{input_refusal}
+use Rattle.avm_input.proofs.Texts.{is_utf8-false}
 use Rattle.json_documents.specs.Reading.{document_of_text}
 use Rattle.json_documents.specs.Replies.{document_reply, lines_reply}
 
-not_utf8 : (bytes : List ℕ) → (IsUtf8 bytes → ⊥) → is_utf8 bytes ≡ false
-not_utf8 bytes fails =
-    elim (is_utf8 bytes) as (λ b. is_utf8 bytes ≡ b → b ≡ false) [
-      | true ↦ λ e. absurd (fails (IsUtf8-from_is_utf8 bytes e))
-      | false ↦ λ e. refl
-    ] refl
-
 -- `lines` refuses an input that is not UTF-8
 pub lines_reply-not_utf8 : (input : List ℕ) → (IsUtf8 input → ⊥) → lines_reply input ≡ input_refusal
-lines_reply-not_utf8 input fails = rw (not_utf8 input fails) refl
+lines_reply-not_utf8 input fails = rw (is_utf8-false input fails) refl
 
 -- `lines` answers an input in UTF-8 by reading its text as a document
 pub lines_reply-utf8 : (input text : List ℕ) → IsUtf8 input → text ≡ input → lines_reply input ≡ document_reply (document_of_text text)
