@@ -102,7 +102,7 @@ all_left l header calls start out begins = record { forth = λ ds are. (ds, are,
 
 module _ (first : Ledger) (header : Header) (all : List TracedCall) (start : List Token) (l : Ledger) (c : TracedCall) (rest : List TracedCall) (out : List Token) (left : Left first header all start l (c ∷ rest) out) where
   -- the first of them is written too
-  pub one_left : (new : List Token) → AddsCallTrace l header c out new → Left first header all start (ledger_after l c.0 header) rest new
+  one_left : (new : List Token) → AddsCallTrace l header c out new → Left first header all start (ledger_after l c.0 header) rest new
   one_left new (document, trace, wrote) = record {
     forth = λ ds are.
         let (traces, both, same) = left.forth (document ∷ ds) (trace, are) in
@@ -130,7 +130,7 @@ module _ (first : Ledger) (header : Header) (all : List TracedCall) (start : Lis
           let more = append_assoc out (json_tokens d) (items_tokens (items_of ds)) ∙ same in
           omega (arith, long d is, ap tokens_weight more, weight-append (out ++ json_tokens d) (items_tokens (items_of ds)))
 
-  pub failed_one : (why : Failure TraceRefusal) → IsCallTraceFailure l header c out why → IsTracesFailure array_tokens first header all start why
+  failed_one : (why : Failure TraceRefusal) → IsCallTraceFailure l header c out why → IsTracesFailure array_tokens first header all start why
   failed_one failure.Memory f = tt
   failed_one (failure.Fault refusal.TooLong) f = long_one f
   failed_one (failure.Fault (refusal.Opening fault)) f = absurd f
@@ -152,10 +152,23 @@ module _ (first : Ledger) (header : Header) (all : List TracedCall) (start : Lis
 pub left_behind : {A : Type 0} (shown : A → TracedCall) (calls : List A) (i : ℕ) → length calls ≤ i → map shown (drop i calls) ≡ []
 left_behind shown calls i le = ap (map shown) (drop_of_length-le calls le)
 
-pub left_at : {A : Type 0} (shown : A → TracedCall) (calls : List A) (i : ℕ) (x : A) → i < length calls → x ≡ slice_index_or calls i x → map shown (drop i calls) ≡ shown x ∷ map shown (drop (i + 1) calls)
+left_at : {A : Type 0} (shown : A → TracedCall) (calls : List A) (i : ℕ) (x : A) → i < length calls → x ≡ slice_index_or calls i x → map shown (drop i calls) ≡ shown x ∷ map shown (drop (i + 1) calls)
 left_at shown calls i x lt is =
     let more : drop i calls ≡ x ∷ drop (i + 1) calls = drop_more calls i x lt ∙ ap (λ y. y ∷ drop (i + 1) calls) (sym is) in
     ap (map shown) more
+
+-- a call, where the traces of those in front of it were written
+module _ {A : Type 0} (shown : A → TracedCall) (calls : List A) (i : ℕ) (x : A) (inside : i < length calls) (is : x ≡ slice_index_or calls i x) (first : Ledger) (header : Header) (start : List Token) (l : Ledger) (out : List Token) (left : Left first header (map shown calls) start l (map shown (drop i calls)) out) where
+  here : Left first header (map shown calls) start l (shown x ∷ map shown (drop (i + 1) calls)) out
+  here = subst (λ cs. Left first header (map shown calls) start l cs out) (left_at shown calls i x inside is) left
+
+  -- its trace is not
+  pub failed_at : (why : Failure TraceRefusal) → IsCallTraceFailure l header (shown x) out why → IsTracesFailure array_tokens first header (map shown calls) start why
+  failed_at = failed_one first header (map shown calls) start l (shown x) (map shown (drop (i + 1) calls)) out here
+
+  -- its trace is, too
+  pub written_at : (after : Ledger) (new : List Token) → AddsCallTrace l header (shown x) out new → after ≡ ledger_after l (shown x).0 header → Left first header (map shown calls) start after (map shown (drop (i + 1) calls)) new
+  written_at after new adds leaves = subst (λ m. Left first header (map shown calls) start m (map shown (drop (i + 1) calls)) new) (sym leaves) (one_left first header (map shown calls) start l (shown x) (map shown (drop (i + 1) calls)) out here new adds)
 
 -- ---- the response
 
