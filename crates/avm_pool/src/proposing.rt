@@ -8,6 +8,7 @@ ghost use Rattle.avm_pool.specs.Proposals.{IsProposal};
 ghost use Rattle.avm_pool.specs.Refusals.{IsRefusal, IsWant, MayPropose};
 
 use crate::after_workers::run_remaining;
+use crate::block_prefix::BlockPrefix;
 use crate::commit_log::OpenedLog;
 use crate::draft::{Crew, Draft, SharedDraft, ThreadSets};
 use crate::finishing::proposal_of;
@@ -22,7 +23,7 @@ use crate::workers::run_sets;
 use avm_ledger::{Base, Ledger};
 use avm_ops::Op;
 use avm_run::FullOps;
-use std::alloc::Global;
+use std::alloc::{AllocError, Global};
 use std::marker::Brand;
 use std::sync::{Arc, Mutex, Wait};
 use std::thread::Threads;
@@ -173,9 +174,24 @@ fn run_draft<J: Naming + Send + Sync, G: Gate, R: Threads + Wait + Sync, O: Op>(
     run_calls(rt, &journal, &shared, crew)?;
     // What the shards took has room for what is made of the journal.
     drop(shards);
-    let journal = journal.into_inner().into_journal();
-    let proposal = proposal_of(rt, draft, journal, prefix.into_inner(), exits)?;
+    let proposal = proposal_by(rt, draft, journal.into_inner(), prefix.into_inner(), exits)?;
     Ok(proposal)
+}
+
+/// The proposal of the journal with which a run of this draft ends.
+fn proposal_by<J: Naming, R: Threads + Sync>(
+    rt: &R,
+    draft: &SharedDraft,
+    journal: LoggedJournal<J>,
+    prefix: Option<BlockPrefix>,
+    exits: bool,
+) -> Result<Proposal, AllocError>
+    requires { (arc_value draft.now.base.now ≡ J.base) × (draft.now.header ≡ J.header)
+        × ((arc_value draft.now.calls).items ≡ J.calls) }
+    ensures { IfOk result (IsProposal
+        (arc_value draft.now.base.now) draft.now.header (arc_value draft.now.calls).items) }
+{
+    proposal_of(rt, draft, journal.into_journal(), prefix, exits)
 }
 
 /// Has the workers run the calls, and then one thread those that they leave.
