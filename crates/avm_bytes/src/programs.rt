@@ -1,8 +1,9 @@
 //! What is answered of programs and of source text.
 
 ghost use Rattle.std.specs.Prelude.{◌≡◌, IfOk};
+ghost use Rattle.teal_check.specs.WellFormed.{checked};
 ghost use Rattle.teal_asm.specs.Program.{assembled};
-ghost use Rattle.avm_bytes.specs.Programs.{assembled_answer, assembly_answer, listed_answer};
+ghost use Rattle.avm_bytes.specs.Programs.{assembled_answer, assembly_answer, check_status, listed_answer};
 ghost use Rattle.avm_bytes.specs.Shown.{answer_shown};
 
 use crate::answers::{Answer, done, refusal};
@@ -13,6 +14,17 @@ use teal_asm::assemble;
 use teal_check::check;
 use teal_dis::list;
 use teal_value::Failure;
+
+/// Whether the bytes are a program.
+pub fn check_status(alloc: Global, program: &[u8]) -> Result<Status, AllocError>
+    ensures { IfOk result (λ status. status ≡ check_status (checked program.now)) }
+{
+    match check(alloc, program) {
+        Ok(_program) => Ok(Status::Done),
+        Err(Failure::Fault(_fault)) => Ok(Status::NoProgram),
+        Err(Failure::Memory) => Err(AllocError),
+    }
+}
 
 /// The program that source text assembles to, as bytes.
 pub fn assembled_answer(alloc: Global, text: &[u8]) -> Result<Answer, AllocError>

@@ -89,21 +89,10 @@ fn answer_with<'a, O: Op>(
     ensures { IfOk result (λ answer. IsCommandAnswer
         (command_in (map (λ word. word.now) words.now)) input.now (answer_shown answer)) }
 {
-    command_answer(alloc, words, input, &FullOps::from_full(ops))
-}
-
-fn command_answer<'a, O: Op>(
-    alloc: Global,
-    words: &'a [&'a str],
-    input: &[u8],
-    ops: &FullOps<O>,
-) -> Result<Answer, AllocError>
-    ensures { IfOk result (λ answer. IsCommandAnswer
-        (command_in (map (λ word. word.now) words.now)) input.now (answer_shown answer)) }
-{
+    let ops = FullOps::from_full(ops);
     let mut reader = input;
     let mut text = Vec::new(alloc);
-    match answer::<_, _, _, false>(alloc, words, &mut reader, &mut text, ops) {
+    match answer::<_, _, _, false>(alloc, words, &mut reader, &mut text, &ops) {
         None => Ok(refusal(alloc, Status::Propose)),
         Some(FAILED) => Err(AllocError),
         Some(status) => Ok(Answer {
@@ -124,21 +113,10 @@ fn json_answer_with<'a, O: Op>(
     ensures { IfOk result (λ answer. IsJsonAnswer
         (json_command_in (map (λ word. word.now) words.now)) input.now (answer_shown answer)) }
 {
-    json_answer(alloc, words, input, &FullOps::from_full(ops))
-}
-
-fn json_answer<'a, O: Op>(
-    alloc: Global,
-    words: &'a [&'a str],
-    input: &[u8],
-    ops: &FullOps<O>,
-) -> Result<Answer, AllocError>
-    ensures { IfOk result (λ answer. IsJsonAnswer
-        (json_command_in (map (λ word. word.now) words.now)) input.now (answer_shown answer)) }
-{
+    let ops = FullOps::from_full(ops);
     let mut reader = input;
     let mut text = Vec::new(alloc);
-    let status = json_commands::answer(alloc, words, &mut reader, &mut text, ops);
+    let status = json_commands::answer(alloc, words, &mut reader, &mut text, &ops);
     if status == FAILED {
         return Err(AllocError);
     }

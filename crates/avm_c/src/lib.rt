@@ -31,7 +31,7 @@ use avm_bytes::calls::CallOn;
 use avm_bytes::diagnoses::{Kind, kind_of, wrong_with};
 use avm_bytes::ends::End;
 use avm_bytes::findings::{Difference, write_finding};
-use avm_bytes::programs::{assembled_answer, listed_answer};
+use avm_bytes::programs::{assembled_answer, check_status, listed_answer};
 use avm_bytes::proposals::Propose;
 use avm_bytes::statuses::Status;
 use avm_bytes::traces::TraceOf;
@@ -39,8 +39,6 @@ use avm_bytes::troubles::{Trouble, tell_trouble, write_trouble};
 use avm_bytes::views::ViewAfter;
 use avm_bytes::words::{AvmWords, JsonWords};
 use std::alloc::Global;
-use teal_check::check;
-use teal_value::Failure;
 
 /// The version of the library: 1,000,000 for each major version, 1,000 for each minor one, and 1 for each patch.
 pub const VERSION: u32 = 7_000;
@@ -59,10 +57,9 @@ pub extern "C" fn avm_c_check(alloc: Global, program: &[u8]) -> u32
     ensures { result ≢ status_number status.Memory
         → result ≡ status_number (check_status (checked program.now)) }
 {
-    match check(alloc, program) {
-        Ok(_program) => Status::Done.number(),
-        Err(Failure::Fault(_fault)) => Status::NoProgram.number(),
-        Err(Failure::Memory) => Status::Memory.number(),
+    match check_status(alloc, program) {
+        Ok(status) => status.number(),
+        Err(_) => Status::Memory.number(),
     }
 }
 

@@ -1,6 +1,6 @@
 use Rattle.std.proofs.Common.{arith}
 use Rattle.avm_bytes.proofs.CommandAnswers.{json_answered}
-use Rattle.avm_bytes.proofs.words.json_answer.Goals as goal
+use Rattle.avm_bytes.proofs.words.json_answer_with.Goals as goal
 
 pub returns : goal.returns
 returns g c =
