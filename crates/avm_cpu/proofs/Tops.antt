@@ -8,11 +8,16 @@ use Rattle.std.proofs.lemmas.Option.{get_or_from_slice_get}
 use Rattle.std.proofs.Math.Seq.{take-add, take-suc}
 use Rattle.teal_value.specs.declared.value.Value.{Value}
 use Rattle.teal_value.specs.declared.value.Value.TheVariants.{Uint}
+use Rattle.avm_cpu.specs.Machine.{Machine}
 use Rattle.avm_cpu.specs.Operands.{two_values}
 
 -- how many the first n are
 pub many : {A : Type 0} (n : ℕ) (xs : List A) → n ≤ length xs → length (reverse (take n xs)) ≡ n
 many n xs within = length-reverse (take n xs) ∙ length-take-le n xs within
+
+-- how far a machine's stack goes, which is shown from the first n values of a list
+pub goes_so_far : {shown m : Machine} (n : ℕ) (xs : List Value) → shown.stack ≡ reverse (take n xs) → shown ≡ m → n ≤ length xs → length m.stack ≡ n
+goes_so_far n xs from is within = ap (λ (machine : Machine). length machine.stack) (sym is) ∙ ap length from ∙ many n xs within
 
 -- all but the last k of the first n, the other way round
 pub drop_tops : {A : Type 0} (k n : ℕ) (xs : List A) → k ≤ n → n ≤ length xs → drop k (reverse (take n xs)) ≡ reverse (take (n - k) xs)

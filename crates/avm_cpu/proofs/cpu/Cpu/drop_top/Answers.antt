@@ -1,6 +1,5 @@
-use Rattle.std.proofs.Common.{◌≤◌, arith, length, ap}
-use Rattle.avm_cpu.specs.Machine.{Machine}
-use Rattle.avm_cpu.proofs.Tops.{drop_tops, many}
+use Rattle.std.proofs.Common.{◌≤◌, refl, arith, length}
+use Rattle.avm_cpu.proofs.Tops.{drop_tops, goes_so_far}
 use Rattle.avm_cpu.proofs.cpu.Cpu.drop_top.Goals as goal
 
 pub returns : goal.returns
@@ -8,7 +7,5 @@ returns c =
     let xs = c.self.inside.stack.value.items in
     let n = c.self.inside.depth in
     let fits : n ≤ length xs = omega arith in
-    let depth = ap (λ (m : Machine). length m.stack) c.self.view_is in
-    let within : c.args.count ≤ n = omega (arith, many n xs fits) in
-    let rest = drop_tops c.args.count n xs within fits in
+    let rest = drop_tops c.args.count n xs (omega (arith, goes_so_far n xs refl c.self.view_is fits)) fits in
     rw (← c.self.view_is) cc

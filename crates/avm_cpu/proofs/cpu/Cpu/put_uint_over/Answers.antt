@@ -1,16 +1,12 @@
-use Rattle.std.proofs.Common.{◌-◌, ◌<◌, ◌≤◌, arith, length, ap}
+use Rattle.std.proofs.Common.{◌≤◌, refl, arith, length}
 use Rattle.teal_value.specs.declared.value.Value.TheVariants.{Uint}
-use Rattle.avm_cpu.specs.Machine.{Machine}
-use Rattle.avm_cpu.proofs.Tops.{many, put_tops}
+use Rattle.avm_cpu.proofs.Tops.{goes_so_far, put_tops}
 use Rattle.avm_cpu.proofs.cpu.Cpu.put_uint_over.Goals as goal
 
 pub returns : goal.returns
 returns c =
-    let xs = c.self.inside.stack.value.items in
     let n = c.self.inside.depth in
-    let fits : n ≤ length xs = omega arith in
-    let depth = ap (λ (m : Machine). length m.stack) c.self.view_is in
-    let within : c.args.count ≤ n = omega (arith, many n xs fits) in
-    let room : n - c.args.count < length xs = omega (arith, many n xs fits) in
-    let top = put_tops c.args.count n xs (Uint c.args.number) within fits room in
+    let fits : n ≤ length c.self.inside.stack.value.items = omega arith in
+    let far = goes_so_far n _ refl c.self.view_is fits in
+    let top = put_tops c.args.count n _ (Uint c.args.number) (omega (arith, far)) fits (omega (arith, far)) in
     rw (← c.self.view_is) cc
