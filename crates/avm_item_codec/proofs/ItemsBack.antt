@@ -7,14 +7,13 @@ use Rattle.std.specs.declared.cmp.Ordering.TheVariants.{Greater}
 use Rattle.std.proofs.lemmas.Bool.{le-leb}
 use Rattle.std.proofs.lemmas.List.{append-nil}
 use Rattle.std.proofs.lemmas.List.Elements.{All-head, All-tail}
-use Rattle.avm_ledger.specs.declared.application.Application.{Application}
 use Rattle.avm_ledger.specs.declared.ledger_fault.LedgerFault.{LedgerFault}
 use Rattle.avm_ledger.specs.declared.ledger_fault.LedgerFault.TheVariants.{Truncated, Rest}
-use Rattle.avm_ledger.specs.Encodings.{u8_bytes, u32_bytes, u64_bytes, string_bytes, schema_bytes, state_bytes, value_bytes, counted_bytes}
+use Rattle.avm_ledger.specs.Encodings.{u8_bytes, u32_bytes, u64_bytes, row_bytes, schema_bytes, state_bytes, value_bytes, counted_bytes}
 use Rattle.avm_ledger.specs.FieldReader.{Front, alone}
 use Rattle.avm_ledger.specs.LedgerReader.{local_room, value_at}
 use Rattle.avm_ledger.proofs.FieldsBack.{then, address_back, byte_back, u32_back, u64_back, short_string_back}
-use Rattle.avm_ledger.proofs.LedgerBack.{value_back, state_back, limited_schema_back, program_back, next_id_back}
+use Rattle.avm_ledger.proofs.LedgerBack.{value_back, state_back, limited_schema_back, row_back, next_id_back}
 use Rattle.avm_ledger.proofs.RisingReading.{AllLower, all_below, insert_last}
 use Rattle.avm_items.specs.declared.item.Item.{Item}
 use Rattle.avm_items.specs.declared.item.Item.TheVariants as item
@@ -25,9 +24,9 @@ use Rattle.avm_items.proofs.Puts.{item_total}
 use Rattle.teal_value.specs.declared.value.Value.{Value}
 use Rattle.teal_value.specs.declared.value.Value.TheVariants.{Uint, Bytes}
 use Rattle.avm_ledger.specs.LedgerRules.{IsStateValue}
-use Rattle.avm_item_codec.specs.ItemEncoding.{item_bytes, row_bytes, item_value_bytes, item_entry_bytes, items_bytes}
-use Rattle.avm_item_codec.specs.ItemReader.{item_front, short_key_at, row_at, maybe_at, one_of_each, local_value_at, item_value_at, item_entry_front, new_entry_at, more_items_at, items_front, items_at}
-use Rattle.avm_item_codec.specs.ItemRules.{IsItem, IsRow, IsValueFor, IsEntry, AreNew, with_all}
+use Rattle.avm_item_codec.specs.ItemEncoding.{item_bytes, item_value_bytes, item_entry_bytes, items_bytes}
+use Rattle.avm_item_codec.specs.ItemReader.{item_front, short_key_at, maybe_at, one_of_each, local_value_at, item_value_at, item_entry_front, new_entry_at, more_items_at, items_front, items_at}
+use Rattle.avm_item_codec.specs.ItemRules.{IsItem, IsValueFor, IsEntry, AreNew, with_all}
 
 -- ---- items
 
@@ -54,22 +53,6 @@ item_back (item.Local who id) rest is =
     (then _ _ _ _ (address_back Truncated who behind is.0) (then _ _ _ _ (u64_back Truncated id rest is.1) refl))
 
 -- ---- values
-
-five : (a b c d e rest : List ℕ) → (a ++ b ++ c ++ d ++ e) ++ rest ≡ a ++ (b ++ (c ++ (d ++ (e ++ rest))))
-five a b c d e rest = simp append_assoc
-
-row_back : (row : Application) (rest : List ℕ) → IsRow row → row_at (row_bytes row ++ rest) ≡ Ok (row, rest)
-row_back row rest is =
-    let local = schema_bytes row.local_schema ++ rest in
-    let global = schema_bytes row.global_schema ++ local in
-    let clear = string_bytes row.clear ++ global in
-    let approval = string_bytes row.approval ++ clear in
-    ap row_at (five row.creator.0 (string_bytes row.approval) (string_bytes row.clear) (schema_bytes row.global_schema) (schema_bytes row.local_schema) rest)
-    ∙ then _ _ _ _ (address_back Truncated row.creator approval is.creator)
-    (then _ _ _ _ (program_back row.approval clear is.approval)
-    (then _ _ _ _ (program_back row.clear global is.clear)
-    (then _ _ _ _ (limited_schema_back 64 row.global_schema local is.global_schema (omega arith))
-    (then _ _ _ _ (limited_schema_back 16 row.local_schema rest is.local_schema (omega arith)) refl))))
 
 entry_value_back : (v : Value) (rest : List ℕ) → IsStateValue v → value_at one_of_each (value_bytes v ++ rest) ≡ Ok (v, rest)
 entry_value_back (Uint n) rest is = value_back (Uint n) one_of_each rest is (omega arith)

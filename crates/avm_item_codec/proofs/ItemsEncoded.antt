@@ -6,24 +6,23 @@ use Rattle.std.specs.List.{flat_map}
 use Rattle.std.proofs.lemmas.Bool.{eqb-true, leb-true}
 use Rattle.std.proofs.lemmas.List.Elements.{All-nil, All-cons}
 use Rattle.teal_code.proofs.Bytes.{AllBytes, all_bytes}
-use Rattle.avm_ledger.specs.declared.application.Application.{Application}
 use Rattle.avm_ledger.specs.declared.ledger_fault.LedgerFault.{LedgerFault}
 use Rattle.avm_ledger.specs.declared.ledger_fault.LedgerFault.TheVariants.{Truncated}
-use Rattle.avm_ledger.specs.Encodings.{u8_bytes, u32_bytes, u64_bytes, short_string_bytes, schema_bytes, state_bytes, value_bytes, counted_bytes}
+use Rattle.avm_ledger.specs.Encodings.{u8_bytes, u32_bytes, u64_bytes, short_string_bytes, row_bytes, schema_bytes, state_bytes, value_bytes, counted_bytes}
 use Rattle.avm_ledger.specs.FieldReader.{Front, number_at, short_string_at, address_at}
-use Rattle.avm_ledger.specs.LedgerReader.{local_room, value_at, state_at, limited_schema_at, program_at, next_id_at}
+use Rattle.avm_ledger.specs.LedgerReader.{local_room, value_at, state_at, limited_schema_at, row_at, next_id_at}
 use Rattle.avm_ledger.proofs.FieldsEncoded.{from, same_value, one_more, IsEncoded, encoded, join, byte_encoded, u32_encoded, u64_encoded, short_string_encoded, address_encoded}
 use Rattle.avm_ledger.proofs.FieldsFit.{u64_fits, address_fits}
-use Rattle.avm_ledger.proofs.LedgerEncoded.{value_encoded, state_encoded, limited_schema_encoded, program_encoded, next_id_encoded}
-use Rattle.avm_ledger.proofs.LedgerKept.{rule_kept, value_kept, state_kept, schema_kept, program_kept, next_id_kept}
+use Rattle.avm_ledger.proofs.LedgerEncoded.{value_encoded, state_encoded, limited_schema_encoded, row_encoded, next_id_encoded}
+use Rattle.avm_ledger.proofs.LedgerKept.{rule_kept, value_kept, state_kept, schema_kept, row_kept, next_id_kept}
 use Rattle.avm_items.specs.declared.item.Item.{Item}
 use Rattle.avm_items.specs.declared.item.Item.TheVariants as item
 use Rattle.avm_items.specs.declared.item_value.ItemValue.{ItemValue}
 use Rattle.avm_items.specs.declared.item_value.ItemValue.TheVariants as value
 use Rattle.avm_items.specs.Items.{ItemMap, value_in, with_item}
-use Rattle.avm_item_codec.specs.ItemEncoding.{item_bytes, row_bytes, item_value_bytes, item_entry_bytes}
-use Rattle.avm_item_codec.specs.ItemReader.{app_item_at, counts_item_at, key_item_at, local_item_at, short_key_at, item_of_kind, item_front, next_value_at, row_at, row_value_at, counts_value_at, one_of_each, key_value_at, local_value_at, if_there, maybe_at, item_value_at, item_entry_front, new_entry_at, more_items_at, items_front}
-use Rattle.avm_item_codec.specs.ItemRules.{IsItem, IsRow, IsValueFor, IsEntry, AreNew, with_all}
+use Rattle.avm_item_codec.specs.ItemEncoding.{item_bytes, item_value_bytes, item_entry_bytes}
+use Rattle.avm_item_codec.specs.ItemReader.{app_item_at, counts_item_at, key_item_at, local_item_at, short_key_at, item_of_kind, item_front, next_value_at, row_value_at, counts_value_at, one_of_each, key_value_at, local_value_at, if_there, maybe_at, item_value_at, item_entry_front, new_entry_at, more_items_at, items_front}
+use Rattle.avm_item_codec.specs.ItemRules.{IsItem, IsValueFor, IsEntry, AreNew, with_all}
 use Rattle.avm_item_codec.specs.ItemRoundTrip.{IsListOf}
 
 -- which way a test of a number went
@@ -108,30 +107,6 @@ next_read bytes y all e =
     let same : ◌≡◌ {A = ItemValue × List ℕ} (value.NextApp id.0, id.1) y = same_value _ _ e1 in
     subst (IsReadValue item.NextApp bytes) same (next_id_encoded bytes id all eid, next_id_kept bytes id all eid))
 
-row_read : (bytes : List ℕ) (x : Application × List ℕ) → AllBytes bytes → row_at bytes ≡ Ok x → IsEncoded bytes (row_bytes x.0) x.1 × IsRow x.0
-row_read bytes x all e =
-    from (address_at Truncated bytes) _ x e (λ a ea e1.
-    let creator = address_encoded Truncated bytes a all ea in
-    from (program_at a.1) _ x e1 (λ b eb e2.
-    let approval = program_encoded a.1 b creator.rest_are_bytes eb in
-    from (program_at b.1) _ x e2 (λ c ec e3.
-    let clear = program_encoded b.1 c approval.rest_are_bytes ec in
-    from (limited_schema_at 64 c.1) _ x e3 (λ g eg e4.
-    let global = limited_schema_encoded 64 c.1 g clear.rest_are_bytes eg in
-    from (limited_schema_at 16 g.1) _ x e4 (λ l el e5.
-    let local = limited_schema_encoded 16 g.1 l global.rest_are_bytes el in
-    let row : Application = record { creator = a.0; approval = b.0; clear = c.0; global_schema = g.0; local_schema = l.0 } in
-    let same : ◌≡◌ {A = Application × List ℕ} (row, l.1) x = same_value _ _ e5 in
-    let keeps : IsRow row = record {
-      creator = address_fits Truncated bytes a ea;
-      approval = program_kept a.1 b eb;
-      clear = program_kept b.1 c ec;
-      global_schema = schema_kept 64 c.1 g eg;
-      local_schema = schema_kept 16 g.1 l el;
-    } in
-    let encodes = join bytes _ g.1 _ l.1 (join bytes _ c.1 _ g.1 (join bytes _ b.1 _ c.1 (join bytes _ a.1 _ b.1 creator approval) clear) global) local in
-    subst (λ p. IsEncoded bytes (row_bytes p.0) p.1 × IsRow p.0) same (encodes, keeps))))))
-
 module _ (x : Item) where
   -- what is read behind the byte that says that a value is there
   abbrev IsReadThere : (List ℕ → Front LedgerFault ItemValue) → Type 0
@@ -149,8 +124,7 @@ row_there : (id : ℕ) → IsReadThere (item.App id) row_value_at
 row_there id bytes behind y byte e =
     from (row_at behind) _ y e (λ row er e1.
     let same : ◌≡◌ {A = ItemValue × List ℕ} (value.App row.0, row.1) y = same_value _ _ e1 in
-    let read = row_read behind row byte.rest_are_bytes er in
-    subst (IsReadValue (item.App id) bytes) same (join bytes (1 ∷ []) behind (row_bytes row.0) row.1 byte read.0, read.1))
+    subst (IsReadValue (item.App id) bytes) same (join bytes (1 ∷ []) behind (row_bytes row.0) row.1 byte (row_encoded behind row byte.rest_are_bytes er), row_kept behind row er))
 
 counts_there : (id : ℕ) → IsReadThere (item.Counts id) counts_value_at
 counts_there id bytes behind y byte e =

@@ -28,15 +28,13 @@ found P test (e ∷ es) v all is = first P e v (test e.0) (lookup test es) (All-
 module _ (l : Ledger) (keeps : KeepsRules l) where
   row_has : (id : ℕ) (app : Option StoredApplication) → application_at l id ≡ app → IsValueFor (item.App id) (row_value app)
   row_has id None is = tt
-  row_has id (Some app) is =
-      let rules = application_rules l id app keeps is in
-      record { creator = rules.creator; approval = rules.approval; clear = rules.clear; global_schema = rules.global_schema; local_schema = rules.local_schema }
+  row_has id (Some app) is = (application_rules l id app keeps is).row
 
   counts_have : (id : ℕ) (app : Option StoredApplication) → application_at l id ≡ app → IsValueFor (item.Counts id) (counts_value app)
   counts_have id None is = tt
   counts_have id (Some app) is =
       let rules = application_rules l id app keeps is in
-      omega (arith, rules.global_schema, rules.state.uints, rules.state.strings)
+      omega (arith, rules.row.global_schema, rules.state.uints, rules.state.strings)
 
   entry_has : (id : ℕ) (key : List ℕ) (state : Entries) (v : Option Value) → All IsStateEntry state → value_of_key state key ≡ v → IsValueFor (item.Key id key) (key_value v)
   entry_has id key state None all is = tt
@@ -50,7 +48,7 @@ module _ (l : Ledger) (keeps : KeepsRules l) where
   in_room : (id : ℕ) (app : Option StoredApplication) (state : Entries) → application_at l id ≡ app → IsStateIn (local_room app) state → IsStateIn (local_room None) state
   in_room id None state is within = within
   in_room id (Some app) state is within =
-      let small = (application_rules l id app keeps is).local_schema in
+      let small = (application_rules l id app keeps is).row.local_schema in
       record {
         rising = within.rising;
         entries = within.entries;

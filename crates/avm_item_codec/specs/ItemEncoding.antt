@@ -1,7 +1,6 @@
 -- The bytes of items, of their values, and of lists of items with their values. Each field has its one encoding.
 use Rattle.std.specs.Prelude.{ℕ, List, [], ◌∷◌, ◌++◌}
-use Rattle.avm_ledger.specs.declared.application.Application.{Application}
-use Rattle.avm_ledger.specs.Encodings.{u8_bytes, u32_bytes, u64_bytes, short_string_bytes, string_bytes, counted_bytes, schema_bytes, state_bytes, value_bytes}
+use Rattle.avm_ledger.specs.Encodings.{u8_bytes, u32_bytes, u64_bytes, short_string_bytes, counted_bytes, schema_bytes, row_bytes, state_bytes, value_bytes}
 use Rattle.avm_items.specs.declared.item.Item.{Item}
 use Rattle.avm_items.specs.declared.item.Item.TheVariants as item
 use Rattle.avm_items.specs.declared.item_value.ItemValue.{ItemValue}
@@ -18,10 +17,6 @@ name_bytes (item.Local who id) = who.0 ++ u64_bytes id
 
 abbrev pub item_bytes : Item → List ℕ
 item_bytes x = u8_bytes (kind_of x) ++ name_bytes x
-
--- an application without its global state
-abbrev pub row_bytes : Application → List ℕ
-row_bytes row = row.creator.0 ++ string_bytes row.approval ++ string_bytes row.clear ++ schema_bytes row.global_schema ++ schema_bytes row.local_schema
 
 -- The next id is always there. Of any other item a byte says whether it is.
 abbrev pub item_value_bytes : ItemValue → List ℕ

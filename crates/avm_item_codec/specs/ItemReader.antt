@@ -4,12 +4,11 @@ use Rattle.std.specs.Int.{w8, w32, w64}
 use Rattle.teal_value.specs.Answer.{◌>>=◌}
 use Rattle.teal_value.specs.Keys.{most_key_bytes}
 use Rattle.avm_states.specs.declared.schema.Schema.{Schema}
-use Rattle.avm_states.specs.Schemas.{most_global_entries, most_local_entries}
+use Rattle.avm_states.specs.Schemas.{most_global_entries}
 use Rattle.avm_ledger.specs.declared.ledger_fault.LedgerFault.{LedgerFault}
 use Rattle.avm_ledger.specs.declared.ledger_fault.LedgerFault.TheVariants.{Malformed, Truncated, Rest}
-use Rattle.avm_ledger.specs.declared.application.Application.{Application}
 use Rattle.avm_ledger.specs.FieldReader.{Front, number_at, short_string_at, address_at, alone}
-use Rattle.avm_ledger.specs.LedgerReader.{tested, local_room, value_at, state_at, limited_schema_at, program_at, next_id_at}
+use Rattle.avm_ledger.specs.LedgerReader.{tested, local_room, value_at, state_at, limited_schema_at, row_at, next_id_at}
 use Rattle.avm_items.specs.declared.item.Item.{Item}
 use Rattle.avm_items.specs.declared.item.Item.TheVariants as item
 use Rattle.avm_items.specs.declared.item_value.ItemValue.{ItemValue}
@@ -55,16 +54,6 @@ item_front bytes = number_at Truncated w8 bytes >>= item_of_kind
 
 abbrev pub next_value_at : List ℕ → Front LedgerFault ItemValue
 next_value_at bytes = next_id_at bytes >>= λ id. Ok (value.NextApp id.0, id.1)
-
--- an application without its global state
-abbrev pub row_at : List ℕ → Front LedgerFault Application
-row_at bytes = do
-  creator ← address_at Truncated bytes
-  approval ← program_at creator.1
-  clear ← program_at approval.1
-  global ← limited_schema_at most_global_entries clear.1
-  local ← limited_schema_at most_local_entries global.1
-  Ok (record { creator = creator.0; approval = approval.0; clear = clear.0; global_schema = global.0; local_schema = local.0 }, local.1)
 
 abbrev pub row_value_at : List ℕ → Front LedgerFault ItemValue
 row_value_at bytes = row_at bytes >>= λ row. Ok (value.App row.0, row.1)

@@ -1,11 +1,9 @@
 -- The items that have bytes, and the values that an item may have by itself.
-use Rattle.std.specs.Prelude.{◌≡◌, ◌+◌, ◌^◌, ◌<◌, ◌≤◌, true, List, [], ◌∷◌, length, None, is_ok}
+use Rattle.std.specs.Prelude.{◌≡◌, ◌+◌, ◌^◌, ◌<◌, ◌≤◌, List, [], ◌∷◌, length, None}
 use Rattle.teal_value.specs.Keys.{most_key_bytes}
-use Rattle.teal_check.specs.WellFormed.{checked}
-use Rattle.avm_states.specs.Schemas.{most_global_entries, most_local_entries}
-use Rattle.avm_ledger.specs.declared.application.Application.{Application}
+use Rattle.avm_states.specs.Schemas.{most_global_entries}
 use Rattle.avm_ledger.specs.LedgerReader.{local_room}
-use Rattle.avm_ledger.specs.LedgerRules.{IsStateValue, IsStateIn}
+use Rattle.avm_ledger.specs.LedgerRules.{IsRow, IsStateValue, IsStateIn}
 use Rattle.avm_items.specs.declared.item.Item.{Item}
 use Rattle.avm_items.specs.declared.item.Item.TheVariants as item
 use Rattle.avm_items.specs.declared.item_value.ItemValue.{ItemValue}
@@ -19,14 +17,6 @@ IsItem (item.App id) = id < 2 ^ 64
 IsItem (item.Counts id) = id < 2 ^ 64
 IsItem (item.Key id key) = (id < 2 ^ 64) × (length key ≤ most_key_bytes)
 IsItem (item.Local who id) = (length who.0 ≡ 32) × (id < 2 ^ 64)
-
--- programs that are checked, and schemas within their limits
-pub record IsRow (row : Application) : Type 0 where
-  pub creator : length row.creator.0 ≡ 32
-  pub approval : is_ok (checked row.approval) ≡ true
-  pub clear : is_ok (checked row.clear) ≡ true
-  pub global_schema : row.global_schema.uints + row.global_schema.bytes ≤ most_global_entries
-  pub local_schema : row.local_schema.uints + row.local_schema.bytes ≤ most_local_entries
 
 -- A value that an item may have by itself: what two items say together is not looked at.
 abbrev pub IsValueFor : Item → ItemValue → Type 0

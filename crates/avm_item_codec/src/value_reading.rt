@@ -2,11 +2,11 @@
 
 ghost use Rattle.std.specs.Prelude.{◌≡◌};
 ghost use Rattle.teal_value.specs.Answer.{Gives};
-ghost use Rattle.avm_item_codec.specs.ItemReader.{counts_value_at, item_value_at, key_value_at, local_value_at, maybe_at, next_value_at, row_at, row_value_at};
+ghost use Rattle.avm_item_codec.specs.ItemReader.{counts_value_at, item_value_at, key_value_at, local_value_at, maybe_at, next_value_at, row_value_at};
 
 use avm_items::{Item, ItemValue};
-use avm_ledger::reading::{next_id_of, program_of, schema_of, shared_state_of, value_of};
-use avm_ledger::{Application, Fields, LedgerError, LedgerFault, SharedApplication};
+use avm_ledger::reading::{next_id_of, row_of, schema_of, shared_state_of, value_of};
+use avm_ledger::{Fields, LedgerError, LedgerFault, SharedApplication};
 use avm_states::{EntryCounts, MAX_GLOBAL_ENTRIES, MAX_LOCAL_ENTRIES, Schema};
 use std::alloc::Global;
 use teal_value::Failure;
@@ -84,28 +84,9 @@ fn maybe_local(alloc: Global, fields: Fields<'_>) -> Result<(ItemValue, Fields<'
 fn row_value_of(alloc: Global, fields: Fields<'_>) -> Result<(ItemValue, Fields<'_>), LedgerError>
     ensures { Gives (λ x. x) result (row_value_at fields.entry) }
 {
-    let (row, rest) = row_of(alloc, fields)?;
+    let (row, rest) = row_of(alloc, None, fields)?;
     let row = SharedApplication::new(alloc, row)?;
     Ok((ItemValue::App(row), rest))
-}
-
-/// An application without its global state.
-fn row_of(alloc: Global, fields: Fields<'_>) -> Result<(Application, Fields<'_>), LedgerError>
-    ensures { Gives (λ x. x) result (row_at fields.entry) }
-{
-    let (creator, rest) = fields.address(LedgerFault::Truncated)?;
-    let (approval, rest) = program_of(alloc, None, rest)?;
-    let (clear, rest) = program_of(alloc, None, rest)?;
-    let (global_schema, rest) = schema_of(MAX_GLOBAL_ENTRIES, rest)?;
-    let (local_schema, rest) = schema_of(MAX_LOCAL_ENTRIES, rest)?;
-    let row = Application {
-        creator,
-        approval,
-        clear,
-        global_schema,
-        local_schema,
-    };
-    Ok((row, rest))
 }
 
 fn counts_value_of(fields: Fields<'_>) -> Result<(ItemValue, Fields<'_>), LedgerError>

@@ -2,13 +2,11 @@
 
 ghost use Rattle.std.specs.Prelude.{◌≡◌, ◌++◌, OnOk};
 ghost use Rattle.avm_ledger.specs.Encodings.{schema_bytes, u64_bytes, u8_bytes};
-ghost use Rattle.avm_item_codec.specs.ItemEncoding.{item_bytes, item_entry_bytes, item_value_bytes, items_bytes, row_bytes};
+ghost use Rattle.avm_item_codec.specs.ItemEncoding.{item_bytes, item_entry_bytes, item_value_bytes, items_bytes};
 
 use avm_items::{Item, ItemValue};
-use avm_ledger::Application;
 use avm_ledger::encoding::{
-    put_long_count, put_schema, put_short_count, put_short_string, put_state, put_string, put_u64,
-    put_value,
+    put_long_count, put_row, put_short_count, put_short_string, put_state, put_u64, put_value,
 };
 use avm_states::EntryCounts;
 use std::alloc::AllocError;
@@ -89,14 +87,4 @@ fn put_counts(bytes: &mut Vec<u8>, counts: EntryCounts) -> Result<(), AllocError
 {
     put_short_count(bytes, counts.uints())?;
     put_short_count(bytes, counts.bytes())
-}
-
-fn put_row(bytes: &mut Vec<u8>, row: &Application) -> Result<(), AllocError>
-    ensures { OnOk result (bytes.new.items ≡ bytes.old.items ++ row_bytes row.now) }
-{
-    bytes.extend_from_slice(&row.creator.0)?;
-    put_string(bytes, row.approval.as_slice())?;
-    put_string(bytes, row.clear.as_slice())?;
-    put_schema(bytes, row.global_schema)?;
-    put_schema(bytes, row.local_schema)
 }

@@ -168,7 +168,7 @@ keeps_without_application l id keeps = record {
   where
     gone : (e : (Address × ℕ) × Entries) (a : Option StoredApplication) → stored_in l.applications e.0.1 ≡ a → IsStateIn (local_room a) e.1 → IsStateIn (local_room None) e.1
     gone e None is state = state
-    gone e (Some app) is state = gone_room app.row.local_schema e.1 (found nat_cmp (IsApplicationBelow l.next_id) nat_cmp-IsAntisymmetric e.0.1 app l.applications is keeps.applications).local_schema state
+    gone e (Some app) is state = gone_room app.row.local_schema e.1 (found nat_cmp (IsApplicationBelow l.next_id) nat_cmp-IsAntisymmetric e.0.1 app l.applications is keeps.applications).row.local_schema state
 
     room : (e : (Address × ℕ) × Entries) (b : Bool) → is_eq (nat_cmp e.0.1 id) ≡ b → (a : Option StoredApplication) → stored_in l.applications e.0.1 ≡ a → IsStateIn (local_room (stored_in l.applications e.0.1)) e.1
         → IsStateIn (local_room (stored_in (remove_entry (is_at (nat_cmp id)) l.applications) e.0.1)) e.1
@@ -189,11 +189,7 @@ keeps_with_state l id change (Some app) is keeps changed =
     (record {
       positive = one.positive;
       below = one.below;
-      creator = one.creator;
-      approval = one.approval;
-      clear = one.clear;
-      global_schema = one.global_schema;
-      local_schema = one.local_schema;
+      row = one.row;
       state = changed app is one.state;
     })
     (each (IsLocalStateBelow l.next_id l.applications) (λ e. e.0.1 ≡ id → IsStateIn (room_of_schema app.row.local_schema) e.1) l.local_states
@@ -207,7 +203,7 @@ next_raised l id keeps higher small = record {
   small = small;
   rising_ids = keeps.rising_ids;
   applications = each (IsApplicationBelow l.next_id) (IsApplicationBelow id) l.applications
-      (λ e is. record { positive = is.positive; below = omega (arith, is.below); creator = is.creator; approval = is.approval; clear = is.clear; global_schema = is.global_schema; local_schema = is.local_schema; state = is.state }) keeps.applications;
+      (λ e is. record { positive = is.positive; below = omega (arith, is.below); row = is.row; state = is.state }) keeps.applications;
   rising_accounts = keeps.rising_accounts;
   local_states = each (IsLocalStateBelow l.next_id l.applications) (IsLocalStateBelow id l.applications) l.local_states
       (λ e is. record { positive = is.positive; below = omega (arith, is.below); account = is.account; state = is.state }) keeps.local_states;

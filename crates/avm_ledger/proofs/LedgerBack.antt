@@ -21,14 +21,15 @@ use Rattle.teal_check.specs.declared.fault.CheckFault.{CheckFault}
 use Rattle.avm_ledger.specs.declared.ledger_fault.LedgerFault.TheVariants.{Truncated, Rest}
 use Rattle.avm_states.specs.declared.schema.Schema.{Schema}
 use Rattle.avm_states.specs.Entries.{Entries, byte_cmp}
+use Rattle.avm_ledger.specs.declared.application.Application.{Application}
 use Rattle.avm_ledger.specs.declared.application.StoredApplication.{StoredApplication}
 use Rattle.avm_ledger.specs.Ledgers.{Ledger, account_cmp}
 use Rattle.avm_states.specs.Schemas.{count_with, count_without, counts_in}
 use Rattle.teal_code.specs.Limits.{most_program_bytes}
-use Rattle.avm_ledger.specs.Encodings.{string_bytes, schema_bytes, counted_bytes, u8_bytes, u16_bytes, u32_bytes, u64_bytes, application_bytes, local_state_bytes, ledger_bytes, value_bytes, entry_bytes, state_bytes}
+use Rattle.avm_ledger.specs.Encodings.{string_bytes, schema_bytes, counted_bytes, u8_bytes, u16_bytes, u32_bytes, u64_bytes, row_bytes, application_bytes, local_state_bytes, ledger_bytes, value_bytes, entry_bytes, state_bytes}
 use Rattle.avm_ledger.specs.FieldReader.{number_at, short_string_at, alone}
-use Rattle.avm_ledger.specs.LedgerReader.{tested, Room, local_room, room_of_schema, stored_in, limited_schema_at, program_at, stored_application_at, id_between, applications_at, is_no_lower, rises_from_pair, account_at, local_id_at, local_states_at, next_id_at, ledger_front, ledger_at, rises_from_key, key_at, value_of_kind, value_at, entries_at, state_of_count, state_at}
-use Rattle.avm_ledger.specs.LedgerRules.{IsStateValue, IsStateEntry, IsStateIn, IsApplicationBelow, IsLocalStateBelow, KeepsRules, IsCountable}
+use Rattle.avm_ledger.specs.LedgerReader.{tested, Room, local_room, room_of_schema, stored_in, limited_schema_at, program_at, row_at, stored_application_at, id_between, applications_at, is_no_lower, rises_from_pair, account_at, local_id_at, local_states_at, next_id_at, ledger_front, ledger_at, rises_from_key, key_at, value_of_kind, value_at, entries_at, state_of_count, state_at}
+use Rattle.avm_ledger.specs.LedgerRules.{IsStateValue, IsStateEntry, IsStateIn, IsRow, IsApplicationBelow, IsLocalStateBelow, KeepsRules, IsCountable}
 use Rattle.avm_ledger.proofs.FieldsBack.{then, address_back, schema_back, byte_back, u32_back, u64_back, short_string_back, string_back}
 
 -- ---- states
@@ -126,26 +127,25 @@ program_back p rest ok =
     let short : length p ≤ most_program_bytes = program_short p ok in
     then _ _ _ _ (string_back Truncated p rest (omega arith)) (rw ok refl)
 
-stored_parts : StoredApplication → List ℕ → List ℕ
-stored_parts app rest =
-    app.row.creator.0 ++ (u16_bytes (length app.row.approval) ++ (app.row.approval ++ (u16_bytes (length app.row.clear) ++ (app.row.clear
-    ++ (u8_bytes app.row.global_schema.uints ++ (u8_bytes app.row.global_schema.bytes ++ (u8_bytes app.row.local_schema.uints ++ (u8_bytes app.row.local_schema.bytes
-    ++ (u8_bytes (length app.state) ++ (flat_map entry_bytes app.state ++ rest))))))))))
+five : (a b c d e rest : List ℕ) → (a ++ b ++ c ++ d ++ e) ++ rest ≡ a ++ (b ++ (c ++ (d ++ (e ++ rest))))
+five a b c d e rest = simp append_assoc
 
-stored_back : (next id : ℕ) (app : StoredApplication) (rest : List ℕ) → IsApplicationBelow next (id, app) → stored_application_at (stored_parts app rest) ≡ Ok (app, rest)
-unfolding stored_parts
+-- an application without its global state is read from its bytes
+pub row_back : (row : Application) (rest : List ℕ) → IsRow row → row_at (row_bytes row ++ rest) ≡ Ok (row, rest)
+row_back row rest is =
+    let local = schema_bytes row.local_schema ++ rest in
+    let global = schema_bytes row.global_schema ++ local in
+    let clear = string_bytes row.clear ++ global in
+    let approval = string_bytes row.approval ++ clear in
+    let schemas = then _ _ _ _ (limited_schema_back 64 row.global_schema local is.global_schema (omega arith)) (then _ _ _ _ (limited_schema_back 16 row.local_schema rest is.local_schema (omega arith)) refl) in
+    ap row_at (five row.creator.0 (string_bytes row.approval) (string_bytes row.clear) (schema_bytes row.global_schema) (schema_bytes row.local_schema) rest)
+    ∙ then _ _ _ _ (address_back Truncated row.creator approval is.creator)
+    (then _ _ _ _ (program_back row.approval clear is.approval) (then _ _ _ _ (program_back row.clear global is.clear) (then _ _ _ _ schemas refl)))
+
+stored_back : (next id : ℕ) (app : StoredApplication) (rest : List ℕ) → IsApplicationBelow next (id, app) → stored_application_at (row_bytes app.row ++ (state_bytes app.state ++ rest)) ≡ Ok (app, rest)
 stored_back next id app rest is =
-    let state = u8_bytes (length app.state) ++ (flat_map entry_bytes app.state ++ rest) in
-    let local = u8_bytes app.row.local_schema.uints ++ (u8_bytes app.row.local_schema.bytes ++ state) in
-    let global = u8_bytes app.row.global_schema.uints ++ (u8_bytes app.row.global_schema.bytes ++ local) in
-    let clear = u16_bytes (length app.row.clear) ++ (app.row.clear ++ global) in
-    let approval = u16_bytes (length app.row.approval) ++ (app.row.approval ++ clear) in
-    then _ _ _ _ (address_back Truncated app.row.creator approval is.creator)
-    (then _ _ _ _ (program_back app.row.approval clear is.approval)
-    (then _ _ _ _ (program_back app.row.clear global is.clear)
-    (then _ _ _ _ (limited_schema_back 64 app.row.global_schema local is.global_schema (omega arith))
-    (then _ _ _ _ (limited_schema_back 16 app.row.local_schema state is.local_schema (omega arith))
-    (then _ _ _ _ (state_back (room_of_schema app.row.global_schema) app.state rest is.state (omega (arith, is.global_schema))) refl)))))
+    then _ _ _ _ (row_back app.row (state_bytes app.state ++ rest) is.row)
+    (then _ _ _ _ (state_back (room_of_schema app.row.global_schema) app.state rest is.state (omega (arith, is.row.global_schema))) refl)
 
 id_back : (before next id : ℕ) (rest : List ℕ) → before < id → id < next → next < 2 ^ 64 → id_between before next (u64_bytes id ++ rest) ≡ Ok (id, rest)
 id_back before next id rest above below small =
@@ -165,13 +165,11 @@ next_above : (id : ℕ) (es : List (ℕ × StoredApplication)) → AllByRecursio
 next_above id [] h = tt
 next_above id (e ∷ es) h = nat_less id e.0 h.0
 
-chain : (u c p q g l s more rest : List ℕ) → ((u ++ c ++ p ++ q ++ g ++ l ++ s) ++ more) ++ rest ≡ u ++ (c ++ (p ++ (q ++ (g ++ (l ++ (s ++ (more ++ rest)))))))
-chain u c p q g l s more rest = simp append_assoc
-
-application_parts : (id : ℕ) (app : StoredApplication) (es : List (ℕ × StoredApplication)) (rest : List ℕ) → flat_map application_bytes ((id, app) ∷ es) ++ rest ≡ u64_bytes id ++ stored_parts app (flat_map application_bytes es ++ rest)
-unfolding stored_parts
-application_parts id app es rest =
-    chain (u64_bytes id) app.row.creator.0 (string_bytes app.row.approval) (string_bytes app.row.clear) (schema_bytes app.row.global_schema) (schema_bytes app.row.local_schema) (state_bytes app.state) (flat_map application_bytes es) rest
+application_parts : (id : ℕ) (app : StoredApplication) (es : List (ℕ × StoredApplication)) (rest : List ℕ) → flat_map application_bytes ((id, app) ∷ es) ++ rest ≡ u64_bytes id ++ (row_bytes app.row ++ (state_bytes app.state ++ (flat_map application_bytes es ++ rest)))
+application_parts id app es rest = four (u64_bytes id) (row_bytes app.row) (state_bytes app.state) (flat_map application_bytes es) rest
+  where
+    four : (u r s more rest : List ℕ) → (u ++ r ++ s ++ more) ++ rest ≡ u ++ (r ++ (s ++ (more ++ rest)))
+    four u r s more rest = simp append_assoc
 
 applications_back : (apps : List (ℕ × StoredApplication)) (before next : ℕ) (rest : List ℕ) → AreAbove before apps → IsStrictlySortedBy nat_cmp (keys_of apps) → All (IsApplicationBelow next) apps → next < 2 ^ 64
     → applications_at (length apps) before next (flat_map application_bytes apps ++ rest) ≡ Ok (apps, rest)
@@ -182,7 +180,7 @@ applications_back ((id, app) ∷ es) before next rest above sorted all small =
     let more = All-tail (IsApplicationBelow next) (id, app) es all in
     let behind = flat_map application_bytes es ++ rest in
     ap (applications_at (suc (length es)) before next) (application_parts id app es rest)
-    ∙ then _ _ _ _ (id_back before next id (stored_parts app behind) above one.below small)
+    ∙ then _ _ _ _ (id_back before next id (row_bytes app.row ++ (state_bytes app.state ++ behind)) above one.below small)
     (then _ _ _ _ (stored_back next id app behind one)
     (then _ _ _ _ (applications_back es id next rest (next_above id es sorted.0) sorted.1 more small) refl))
 
@@ -218,7 +216,7 @@ local_room_small [] next id all = omega arith
 local_room_small (e ∷ es) next id all = at_test (is_eq (nat_cmp id e.0)) (local_room_small es next id (All-tail (IsApplicationBelow next) e es all))
   where
     at_test : (b : Bool) → (local_room (stored_in es id)).entries < 256 → (local_room (cond b (Some e.1) (stored_in es id))).entries < 256
-    at_test true later = omega (arith, (All-head (IsApplicationBelow next) e es all).local_schema)
+    at_test true later = omega (arith, (All-head (IsApplicationBelow next) e es all).row.local_schema)
     at_test false later = later
 
 local_chain : (a u s more rest : List ℕ) → ((a ++ u ++ s) ++ more) ++ rest ≡ a ++ (u ++ (s ++ (more ++ rest)))

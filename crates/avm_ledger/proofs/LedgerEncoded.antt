@@ -3,7 +3,7 @@ use Rattle.std.proofs.Common.{◌≡◌, ℕ, zero, suc, ◌<◌, Bool, true, fa
 use Rattle.std.specs.List.{flat_map}
 use Rattle.std.specs.Int.{w8, w32, w64}
 use Rattle.std.proofs.lemmas.Bool.{eqb-true}
-use Rattle.std.proofs.lemmas.List.{append-nil, nil_from_length}
+use Rattle.std.proofs.lemmas.List.{append-nil, append_assoc, nil_from_length}
 use Rattle.teal_value.specs.declared.value.Value.{Value}
 use Rattle.teal_value.specs.declared.value.Value.TheVariants.{Uint, Bytes}
 use Rattle.teal_value.specs.declared.address.Address.{Address}
@@ -11,12 +11,13 @@ use Rattle.avm_ledger.specs.declared.ledger_fault.LedgerFault.{LedgerFault}
 use Rattle.avm_ledger.specs.declared.ledger_fault.LedgerFault.TheVariants.{Malformed, Truncated, Rest}
 use Rattle.avm_states.specs.declared.schema.Schema.{Schema}
 use Rattle.avm_states.specs.Entries.{Entries}
+use Rattle.avm_ledger.specs.declared.application.Application.{Application}
 use Rattle.avm_ledger.specs.declared.application.StoredApplication.{StoredApplication}
 use Rattle.avm_ledger.specs.Ledgers.{Ledger}
 use Rattle.avm_states.specs.Schemas.{count_without}
-use Rattle.avm_ledger.specs.Encodings.{u8_bytes, u32_bytes, u64_bytes, short_string_bytes, string_bytes, counted_bytes, value_bytes, entry_bytes, state_bytes, schema_bytes, application_bytes, local_state_bytes, ledger_bytes}
+use Rattle.avm_ledger.specs.Encodings.{u8_bytes, u32_bytes, u64_bytes, short_string_bytes, string_bytes, counted_bytes, value_bytes, entry_bytes, state_bytes, schema_bytes, row_bytes, application_bytes, local_state_bytes, ledger_bytes}
 use Rattle.avm_ledger.specs.FieldReader.{number_at, short_string_at, string_at, address_at, schema_at, alone}
-use Rattle.avm_ledger.specs.LedgerReader.{tested, Room, local_room, room_of_schema, stored_in, key_at, uint_at, bytes_value_at, value_of_kind, value_at, entries_at, state_of_count, state_at, limited_schema_at, program_at, stored_application_at, id_between, applications_at, account_at, local_id_at, local_states_at, next_id_at, ledger_front, ledger_at}
+use Rattle.avm_ledger.specs.LedgerReader.{tested, Room, local_room, room_of_schema, stored_in, key_at, uint_at, bytes_value_at, value_of_kind, value_at, entries_at, state_of_count, state_at, limited_schema_at, program_at, schemas_at, row_at, stored_application_at, id_between, applications_at, account_at, local_id_at, local_states_at, next_id_at, ledger_front, ledger_at}
 use Rattle.teal_value.proofs.Binding.{bind_ok}
 use Rattle.teal_code.proofs.Bytes.{AllBytes, all_bytes}
 use Rattle.avm_ledger.proofs.FieldsEncoded.{from, same_value, one_more, IsEncoded, encoded, join, byte_encoded, u32_encoded, u64_encoded, short_string_encoded, string_encoded, address_encoded, schema_encoded}
@@ -115,35 +116,42 @@ program_encoded bytes x all e =
     let p = bind_ok (string_at Truncated bytes) _ x e in
     subst (λ q. IsEncoded bytes (string_bytes q.0) q.1) (kept _ p.0 x p.2) (string_encoded Truncated bytes p.0 all p.1)
 
--- the bytes of an application behind its id
-pub stored_bytes : StoredApplication → List ℕ
-stored_bytes app =
-    app.row.creator.0 ++ string_bytes app.row.approval ++ string_bytes app.row.clear ++ schema_bytes app.row.global_schema ++ schema_bytes app.row.local_schema ++ state_bytes app.state
+schemas_encoded : (bytes : List ℕ) (x : (Schema × Schema) × List ℕ) → AllBytes bytes → schemas_at bytes ≡ Ok x → IsEncoded bytes (schema_bytes x.0.0 ++ schema_bytes x.0.1) x.1
+schemas_encoded bytes x all e =
+    from (limited_schema_at 64 bytes) _ x e (λ g eg e1.
+    let global = limited_schema_encoded 64 bytes g all eg in
+    from (limited_schema_at 16 g.1) _ x e1 (λ l el e2.
+    let local = limited_schema_encoded 16 g.1 l global.rest_are_bytes el in
+    let is : ◌≡◌ {A = (Schema × Schema) × List ℕ} ((g.0, l.0), l.1) x = same_value _ _ e2 in
+    subst (λ p. IsEncoded bytes (schema_bytes p.0.0 ++ schema_bytes p.0.1) p.1) is (join bytes _ g.1 _ l.1 global local)))
 
-stored_joined : (app : StoredApplication) (bytes a b c d e rest : List ℕ) → IsEncoded bytes app.row.creator.0 a → IsEncoded a (string_bytes app.row.approval) b → IsEncoded b (string_bytes app.row.clear) c
-    → IsEncoded c (schema_bytes app.row.global_schema) d → IsEncoded d (schema_bytes app.row.local_schema) e → IsEncoded e (state_bytes app.state) rest → IsEncoded bytes (stored_bytes app) rest
-unfolding stored_bytes
-stored_joined app bytes a b c d e rest creator approval clear global local state =
-    join bytes _ e _ rest (join bytes _ d _ e (join bytes _ c _ d (join bytes _ b _ c (join bytes _ a _ b creator approval) clear) global) local) state
-
--- an application that is read is encoded by the first bytes
-pub stored_encoded : (bytes : List ℕ) (x : StoredApplication × List ℕ) → AllBytes bytes → stored_application_at bytes ≡ Ok x → IsEncoded bytes (stored_bytes x.0) x.1
-stored_encoded bytes x all e =
+-- an application without its global state that is read is encoded by the first bytes
+pub row_encoded : (bytes : List ℕ) (x : Application × List ℕ) → AllBytes bytes → row_at bytes ≡ Ok x → IsEncoded bytes (row_bytes x.0) x.1
+row_encoded bytes x all e =
     from (address_at Truncated bytes) _ x e (λ a ea e1.
     let creator = address_encoded Truncated bytes a all ea in
     from (program_at a.1) _ x e1 (λ b eb e2.
     let approval = program_encoded a.1 b creator.rest_are_bytes eb in
     from (program_at b.1) _ x e2 (λ c ec e3.
     let clear = program_encoded b.1 c approval.rest_are_bytes ec in
-    from (limited_schema_at 64 c.1) _ x e3 (λ g eg e4.
-    let global = limited_schema_encoded 64 c.1 g clear.rest_are_bytes eg in
-    from (limited_schema_at 16 g.1) _ x e4 (λ l el e5.
-    let local = limited_schema_encoded 16 g.1 l global.rest_are_bytes el in
-    from (state_at (room_of_schema g.0) l.1) _ x e5 (λ s es e6.
-    let state = state_encoded (room_of_schema g.0) l.1 s local.rest_are_bytes es in
-    let app : StoredApplication = record { row = record { creator = a.0; approval = b.0; clear = c.0; global_schema = g.0; local_schema = l.0 }; state = s.0 } in
-    let is : ◌≡◌ {A = StoredApplication × List ℕ} (app, s.1) x = same_value _ _ e6 in
-    subst (λ p. IsEncoded bytes (stored_bytes p.0) p.1) is (stored_joined app bytes a.1 b.1 c.1 g.1 l.1 s.1 creator approval clear global local state)))))))
+    from (schemas_at c.1) _ x e3 (λ s es e4.
+    let schemas = schemas_encoded c.1 s clear.rest_are_bytes es in
+    let row : Application = record { creator = a.0; approval = b.0; clear = c.0; global_schema = s.0.0; local_schema = s.0.1 } in
+    let is : ◌≡◌ {A = Application × List ℕ} (row, s.1) x = same_value _ _ e4 in
+    let programs = join bytes _ b.1 _ c.1 (join bytes _ a.1 _ b.1 creator approval) clear in
+    subst (λ p. IsEncoded bytes (row_bytes p.0) p.1) is
+    (subst (λ bs. IsEncoded bytes bs s.1) (sym (append_assoc _ (schema_bytes s.0.0) (schema_bytes s.0.1))) (join bytes _ c.1 _ s.1 programs schemas))))))
+
+-- an application that is read is encoded by the first bytes
+pub stored_encoded : (bytes : List ℕ) (x : StoredApplication × List ℕ) → AllBytes bytes → stored_application_at bytes ≡ Ok x → IsEncoded bytes (row_bytes x.0.row ++ state_bytes x.0.state) x.1
+stored_encoded bytes x all e =
+    from (row_at bytes) _ x e (λ r er e1.
+    let row = row_encoded bytes r all er in
+    from (state_at (room_of_schema r.0.global_schema) r.1) _ x e1 (λ s es e2.
+    let state = state_encoded (room_of_schema r.0.global_schema) r.1 s row.rest_are_bytes es in
+    let app : StoredApplication = record { row = r.0; state = s.0 } in
+    let is : ◌≡◌ {A = StoredApplication × List ℕ} (app, s.1) x = same_value _ _ e2 in
+    subst (λ p. IsEncoded bytes (row_bytes p.0.row ++ state_bytes p.0.state) p.1) is (join bytes _ r.1 _ s.1 row state)))
 
 pub id_encoded : (before next : ℕ) (bytes : List ℕ) (x : ℕ × List ℕ) → AllBytes bytes → id_between before next bytes ≡ Ok x → IsEncoded bytes (u64_bytes x.0) x.1
 id_encoded before next bytes x all e =
@@ -153,7 +161,6 @@ id_encoded before next bytes x all e =
 -- applications that are read are encoded by the first bytes, and are as many as were asked for
 pub applications_encoded : (n before next : ℕ) (bytes : List ℕ) (x : List (ℕ × StoredApplication) × List ℕ) → AllBytes bytes → applications_at n before next bytes ≡ Ok x
     → IsEncoded bytes (flat_map application_bytes x.0) x.1 × (length x.0 ≡ n)
-unfolding stored_bytes
 applications_encoded zero before next bytes x all e =
     let is : ◌≡◌ {A = List (ℕ × StoredApplication) × List ℕ} ([], bytes) x = same_value _ _ e in
     (subst (λ p. IsEncoded bytes (flat_map application_bytes p.0) p.1) is (encoded bytes [] bytes all refl), sym (ap (λ p. length p.0) is))
@@ -165,7 +172,7 @@ applications_encoded (suc n) before next bytes x all e =
     from (applications_at n i.0 next a.1) _ x e2 (λ m em e3.
     let more = applications_encoded n i.0 next a.1 m app.rest_are_bytes em in
     let is : ◌≡◌ {A = List (ℕ × StoredApplication) × List ℕ} ((i.0, a.0) ∷ m.0, m.1) x = same_value _ _ e3 in
-    let both = join bytes (u64_bytes i.0) i.1 (stored_bytes a.0) a.1 id app in (
+    let both = join bytes (u64_bytes i.0) i.1 (row_bytes a.0.row ++ state_bytes a.0.state) a.1 id app in (
       subst (λ p. IsEncoded bytes (flat_map application_bytes p.0) p.1) is (one_more application_bytes (i.0, a.0) m.0 bytes a.1 m.1 both more.0),
       sym (ap (λ p. length p.0) is) ∙ ap suc more.1,
     ))))

@@ -18,18 +18,19 @@ use Rattle.teal_check.specs.WellFormed.{checked}
 use Rattle.avm_ledger.specs.declared.ledger_fault.LedgerFault.TheVariants.{Malformed, Truncated, Rest}
 use Rattle.avm_states.specs.declared.schema.Schema.{Schema}
 use Rattle.avm_states.specs.Entries.{Entries, byte_cmp}
+use Rattle.avm_ledger.specs.declared.application.Application.{Application}
 use Rattle.avm_ledger.specs.declared.application.StoredApplication.{StoredApplication}
 use Rattle.avm_ledger.specs.Ledgers.{Ledger, account_cmp}
 use Rattle.avm_states.specs.Schemas.{count_with, count_without, counts_in}
 use Rattle.avm_ledger.specs.FieldReader.{number_at, short_string_at, string_at, address_at, schema_at, alone}
-use Rattle.avm_ledger.specs.LedgerReader.{tested, Room, local_room, room_of_schema, stored_in, rises_from_key, key_at, uint_at, bytes_value_at, value_of_kind, value_at, entries_at, state_of_count, state_at, limited_schema_at, program_at, stored_application_at, id_between, applications_at, rises_from_pair, is_no_lower, account_at, local_id_at, local_states_at, next_id_at, ledger_front, ledger_at}
-use Rattle.avm_ledger.specs.LedgerRules.{IsStateValue, IsStateEntry, IsStateIn, IsApplicationBelow, IsLocalStateBelow, KeepsRules, IsCountable}
+use Rattle.avm_ledger.specs.LedgerReader.{tested, Room, local_room, room_of_schema, stored_in, rises_from_key, key_at, uint_at, bytes_value_at, value_of_kind, value_at, entries_at, state_of_count, state_at, limited_schema_at, program_at, schemas_at, row_at, stored_application_at, id_between, applications_at, rises_from_pair, is_no_lower, account_at, local_id_at, local_states_at, next_id_at, ledger_front, ledger_at}
+use Rattle.avm_ledger.specs.LedgerRules.{IsStateValue, IsStateEntry, IsStateIn, IsRow, IsApplicationBelow, IsLocalStateBelow, KeepsRules, IsCountable}
 use Rattle.avm_states.proofs.Maps.{all_below}
 use Rattle.avm_ledger.proofs.Changes.{account_total}
 use Rattle.teal_code.proofs.Bytes.{AllBytes, all_bytes}
-use Rattle.avm_ledger.proofs.FieldsEncoded.{from, same_value, byte_encoded, u32_encoded, address_encoded}
+use Rattle.avm_ledger.proofs.FieldsEncoded.{from, same_value, byte_encoded, u32_encoded}
 use Rattle.avm_ledger.proofs.FieldsFit.{u32_fits, u64_fits, address_fits}
-use Rattle.avm_ledger.proofs.LedgerEncoded.{key_encoded, value_encoded, entries_encoded, state_encoded, limited_schema_encoded, program_encoded, stored_encoded, id_encoded, applications_encoded, account_encoded, local_id_encoded, local_states_encoded, next_id_encoded, and_first, if_kept, at_end}
+use Rattle.avm_ledger.proofs.LedgerEncoded.{key_encoded, value_encoded, entries_encoded, state_encoded, row_encoded, stored_encoded, id_encoded, applications_encoded, account_encoded, local_id_encoded, local_states_encoded, next_id_encoded, and_first, if_kept, at_end}
 
 -- a field that keeps its rule
 pub rule_kept : {A : Type 0} (rule : A × List ℕ → Bool) (x y : A × List ℕ) → tested (rule x) x ≡ Ok y → (rule y ≡ true) × (x ≡ y)
@@ -162,32 +163,40 @@ id_kept before next bytes x e =
     let rule = (rule_kept (λ z. ltb before z.0 && ltb z.0 next) i x e1).0 in
     (ltb-true before x.0 (and_first _ _ rule), ltb-true x.0 next (and_second _ _ rule)))
 
-stored_kept : (next id : ℕ) (bytes : List ℕ) (x : StoredApplication × List ℕ) → 1 ≤ id → id < next → AllBytes bytes → stored_application_at bytes ≡ Ok x → IsApplicationBelow next (id, x.0)
-stored_kept next id bytes x positive below all e =
+schemas_kept : (bytes : List ℕ) (x : (Schema × Schema) × List ℕ) → schemas_at bytes ≡ Ok x → (x.0.0.uints + x.0.0.bytes ≤ 64) × (x.0.1.uints + x.0.1.bytes ≤ 16)
+schemas_kept bytes x e =
+    from (limited_schema_at 64 bytes) _ x e (λ g eg e1.
+    from (limited_schema_at 16 g.1) _ x e1 (λ l el e2.
+    let is : ◌≡◌ {A = (Schema × Schema) × List ℕ} ((g.0, l.0), l.1) x = same_value _ _ e2 in
+    subst (λ p. (p.0.0.uints + p.0.0.bytes ≤ 64) × (p.0.1.uints + p.0.1.bytes ≤ 16)) is (schema_kept 64 bytes g eg, schema_kept 16 g.1 l el)))
+
+-- an application without its global state that is read keeps the rules
+pub row_kept : (bytes : List ℕ) (x : Application × List ℕ) → row_at bytes ≡ Ok x → IsRow x.0
+row_kept bytes x e =
     from (address_at Truncated bytes) _ x e (λ a ea e1.
-    let creator = address_encoded Truncated bytes a all ea in
     from (program_at a.1) _ x e1 (λ b eb e2.
-    let approval = program_encoded a.1 b creator.rest_are_bytes eb in
     from (program_at b.1) _ x e2 (λ c ec e3.
-    let clear = program_encoded b.1 c approval.rest_are_bytes ec in
-    from (limited_schema_at 64 c.1) _ x e3 (λ g eg e4.
-    let global = limited_schema_encoded 64 c.1 g clear.rest_are_bytes eg in
-    from (limited_schema_at 16 g.1) _ x e4 (λ l el e5.
-    let local = limited_schema_encoded 16 g.1 l global.rest_are_bytes el in
-    from (state_at (room_of_schema g.0) l.1) _ x e5 (λ s es e6.
-    let app : StoredApplication = record { row = record { creator = a.0; approval = b.0; clear = c.0; global_schema = g.0; local_schema = l.0 }; state = s.0 } in
-    let is : ◌≡◌ {A = StoredApplication × List ℕ} (app, s.1) x = same_value _ _ e6 in
-    let keeps : IsApplicationBelow next (id, app) = record {
-      positive = positive;
-      below = below;
+    from (schemas_at c.1) _ x e3 (λ s es e4.
+    let schemas = schemas_kept c.1 s es in
+    let row : Application = record { creator = a.0; approval = b.0; clear = c.0; global_schema = s.0.0; local_schema = s.0.1 } in
+    let is : ◌≡◌ {A = Application × List ℕ} (row, s.1) x = same_value _ _ e4 in
+    let keeps : IsRow row = record {
       creator = address_fits Truncated bytes a ea;
       approval = program_kept a.1 b eb;
       clear = program_kept b.1 c ec;
-      global_schema = schema_kept 64 c.1 g eg;
-      local_schema = schema_kept 16 g.1 l el;
-      state = state_kept (room_of_schema g.0) l.1 s local.rest_are_bytes es;
+      global_schema = schemas.0;
+      local_schema = schemas.1;
     } in
-    subst (λ p. IsApplicationBelow next (id, p.0)) is keeps))))))
+    subst (λ p. IsRow p.0) is keeps))))
+
+stored_kept : (next id : ℕ) (bytes : List ℕ) (x : StoredApplication × List ℕ) → 1 ≤ id → id < next → AllBytes bytes → stored_application_at bytes ≡ Ok x → IsApplicationBelow next (id, x.0)
+stored_kept next id bytes x positive below all e =
+    from (row_at bytes) _ x e (λ r er e1.
+    from (state_at (room_of_schema r.0.global_schema) r.1) _ x e1 (λ s es e2.
+    let app : StoredApplication = record { row = r.0; state = s.0 } in
+    let is : ◌≡◌ {A = StoredApplication × List ℕ} (app, s.1) x = same_value _ _ e2 in
+    let state = state_kept (room_of_schema r.0.global_schema) r.1 s (row_encoded bytes r all er).rest_are_bytes es in
+    subst (λ p. IsApplicationBelow next (id, p.0)) is (record { positive = positive; below = below; row = row_kept bytes r er; state = state })))
 
 -- a number below another compares as less
 pub nat_lower : (a b : ℕ) → a < b → nat_cmp a b ≡ Less

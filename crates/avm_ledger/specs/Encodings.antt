@@ -9,6 +9,7 @@ use Rattle.teal_value.specs.declared.value.Value.TheVariants.{Uint, Bytes}
 use Rattle.avm_ledger.specs.declared.header.Header.{Header}
 use Rattle.avm_states.specs.declared.schema.Schema.{Schema}
 use Rattle.avm_states.specs.Entries.{Entries}
+use Rattle.avm_ledger.specs.declared.application.Application.{Application}
 use Rattle.avm_ledger.specs.declared.application.StoredApplication.{StoredApplication}
 use Rattle.avm_ledger.specs.Ledgers.{Ledger}
 
@@ -48,10 +49,12 @@ state_bytes state = counted_bytes u8_bytes entry_bytes state
 abbrev pub schema_bytes : Schema → List ℕ
 schema_bytes s = u8_bytes s.uints ++ u8_bytes s.bytes
 
+-- an application without its global state
+abbrev pub row_bytes : Application → List ℕ
+row_bytes row = row.creator.0 ++ string_bytes row.approval ++ string_bytes row.clear ++ schema_bytes row.global_schema ++ schema_bytes row.local_schema
+
 abbrev pub application_bytes : ℕ × StoredApplication → List ℕ
-application_bytes (id, app) =
-    u64_bytes id ++ app.row.creator.0 ++ string_bytes app.row.approval ++ string_bytes app.row.clear
-    ++ schema_bytes app.row.global_schema ++ schema_bytes app.row.local_schema ++ state_bytes app.state
+application_bytes (id, app) = u64_bytes id ++ row_bytes app.row ++ state_bytes app.state
 
 abbrev pub local_state_bytes : (Address × ℕ) × Entries → List ℕ
 local_state_bytes e = e.0.0.0 ++ u64_bytes e.0.1 ++ state_bytes e.1

@@ -15,6 +15,7 @@ use Rattle.avm_ledger.specs.declared.ledger_fault.LedgerFault.{LedgerFault}
 use Rattle.avm_ledger.specs.declared.ledger_fault.LedgerFault.TheVariants.{Malformed, Truncated, Rest}
 use Rattle.avm_states.specs.declared.schema.Schema.{Schema}
 use Rattle.avm_states.specs.Entries.{Entries, byte_cmp, most_value_bytes}
+use Rattle.avm_ledger.specs.declared.application.Application.{Application}
 use Rattle.avm_ledger.specs.declared.application.StoredApplication.{StoredApplication}
 use Rattle.avm_ledger.specs.Ledgers.{Ledger, account_cmp}
 use Rattle.avm_states.specs.Schemas.{count_without, most_global_entries, most_local_entries}
@@ -92,26 +93,27 @@ limited_schema_at most bytes = schema_at Truncated bytes >>= λ s. tested (nat_l
 abbrev pub program_at : List ℕ → Front LedgerFault (List ℕ)
 program_at bytes = string_at Truncated bytes >>= λ p. tested (is_ok (checked p.0)) p
 
--- the schemas and the global state of an application that has this account and these programs
-abbrev pub schemas_and_state_at : Address → List ℕ → List ℕ → List ℕ → Front LedgerFault StoredApplication
-schemas_and_state_at creator approval clear bytes = do
+-- the schemas of an application's global state and of its local states
+abbrev pub schemas_at : List ℕ → Front LedgerFault (Schema × Schema)
+schemas_at bytes = do
   global ← limited_schema_at most_global_entries bytes
   local ← limited_schema_at most_local_entries global.1
-  state ← state_at (room_of_schema global.0) local.1
-  Ok (
-    record {
-      row = record { creator = creator; approval = approval; clear = clear; global_schema = global.0; local_schema = local.0 };
-      state = state.0;
-    },
-    state.1,
-  )
+  Ok ((global.0, local.0), local.1)
 
-abbrev pub stored_application_at : List ℕ → Front LedgerFault StoredApplication
-stored_application_at bytes = do
+-- an application without its global state
+abbrev pub row_at : List ℕ → Front LedgerFault Application
+row_at bytes = do
   creator ← address_at Truncated bytes
   approval ← program_at creator.1
   clear ← program_at approval.1
-  schemas_and_state_at creator.0 approval.0 clear.0 clear.1
+  schemas ← schemas_at clear.1
+  Ok (record { creator = creator.0; approval = approval.0; clear = clear.0; global_schema = schemas.0.0; local_schema = schemas.0.1 }, schemas.1)
+
+abbrev pub stored_application_at : List ℕ → Front LedgerFault StoredApplication
+stored_application_at bytes = do
+  row ← row_at bytes
+  state ← state_at (room_of_schema row.0.global_schema) row.1
+  Ok (record { row = row.0; state = state.0 }, state.1)
 
 -- an id above the one before and below the next id
 abbrev pub id_between : ℕ → ℕ → List ℕ → Front LedgerFault ℕ

@@ -9,6 +9,7 @@ use Rattle.teal_value.specs.declared.value.Value.TheVariants.{Uint, Bytes}
 use Rattle.teal_value.specs.Keys.{most_key_bytes}
 use Rattle.teal_check.specs.WellFormed.{checked}
 use Rattle.avm_states.specs.Entries.{Entries, IsInKeyOrder, most_value_bytes}
+use Rattle.avm_ledger.specs.declared.application.Application.{Application}
 use Rattle.avm_ledger.specs.declared.application.StoredApplication.{StoredApplication}
 use Rattle.avm_ledger.specs.Ledgers.{Ledger, account_cmp}
 use Rattle.avm_states.specs.Schemas.{counts_in, most_global_entries, most_local_entries}
@@ -30,15 +31,19 @@ pub record IsStateIn (room : Room) (state : Entries) : Type 0 where
   pub uints : (counts_in state).uints ≤ room.kinds.uints
   pub strings : (counts_in state).bytes ≤ room.kinds.bytes
 
+-- programs that are checked, and schemas within their limits
+pub record IsRow (row : Application) : Type 0 where
+  pub creator : length row.creator.0 ≡ 32
+  pub approval : is_ok (checked row.approval) ≡ true
+  pub clear : is_ok (checked row.clear) ≡ true
+  pub global_schema : row.global_schema.uints + row.global_schema.bytes ≤ most_global_entries
+  pub local_schema : row.local_schema.uints + row.local_schema.bytes ≤ most_local_entries
+
 -- an application with its id, below the next id
 pub record IsApplicationBelow (next : ℕ) (e : ℕ × StoredApplication) : Type 0 where
   pub positive : 1 ≤ e.0
   pub below : e.0 < next
-  pub creator : length e.1.row.creator.0 ≡ 32
-  pub approval : is_ok (checked e.1.row.approval) ≡ true
-  pub clear : is_ok (checked e.1.row.clear) ≡ true
-  pub global_schema : e.1.row.global_schema.uints + e.1.row.global_schema.bytes ≤ most_global_entries
-  pub local_schema : e.1.row.local_schema.uints + e.1.row.local_schema.bytes ≤ most_local_entries
+  pub row : IsRow e.1.row
   pub state : IsStateIn (room_of_schema e.1.row.global_schema) e.1.state
 
 -- a local state with its account and id, beside these applications

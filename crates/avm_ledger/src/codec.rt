@@ -8,14 +8,12 @@ ghost use Rattle.avm_ledger.specs.LedgerRules.{IsCountable, KeepsRules};
 ghost use Rattle.avm_ledger.specs.Encodings.{application_bytes, counted_bytes, ledger_bytes, ledger_digest, local_state_bytes, u32_bytes};
 
 use crate::application::StoredApplication;
-use crate::encoding::{put_long_count, put_schema, put_state, put_string, put_u64};
+use crate::encoding::{put_local_state, put_long_count, put_row, put_state, put_u64};
 use crate::ledger::Ledger;
 use crate::ledger_fault::LedgerError;
 use crate::ledger_reading::parts_of;
-use avm_states::State;
 use sha2::{Digest, Sha256};
 use std::alloc::{AllocError, Global};
-use teal_value::Address;
 
 impl Ledger {
     /// The ledger that the bytes are. It keeps the rules of ledgers, and each program in it is checked once.
@@ -81,13 +79,8 @@ fn put_application(
     ensures { OnOk result
         (bytes.new.items ≡ bytes.old.items ++ application_bytes (id, application.now)) }
 {
-    let row = application.row.get();
     put_u64(bytes, id)?;
-    bytes.extend_from_slice(&row.creator.0)?;
-    put_string(bytes, row.approval.as_slice())?;
-    put_string(bytes, row.clear.as_slice())?;
-    put_schema(bytes, row.global_schema)?;
-    put_schema(bytes, row.local_schema)?;
+    put_row(bytes, application.row.get())?;
     put_state(bytes, &application.state)
 }
 
@@ -100,18 +93,4 @@ fn put_local_states(bytes: &mut Vec<u8>, ledger: &Ledger) -> Result<(), AllocErr
         put_local_state(bytes, key, state.get())?;
     }
     Ok(())
-}
-
-fn put_local_state(
-    bytes: &mut Vec<u8>,
-    key: &(Address, u64),
-    state: &State,
-) -> Result<(), AllocError>
-    ensures { OnOk result
-        (bytes.new.items ≡ bytes.old.items ++ local_state_bytes (key.now, state.now)) }
-{
-    let (who, id) = *key;
-    bytes.extend_from_slice(&who.0)?;
-    put_u64(bytes, id)?;
-    put_state(bytes, state)
 }

@@ -2,11 +2,12 @@
 
 ghost use Rattle.std.specs.Prelude.{◌≡◌, ◌++◌, OnErr, OnOk, take};
 ghost use Rattle.teal_code.specs.Encoding.{Continues};
-ghost use Rattle.avm_ledger.specs.Encodings.{entry_bytes, schema_bytes, short_string_bytes, state_bytes, string_bytes, u16_bytes, u32_bytes, u64_bytes, u8_bytes, value_bytes};
+ghost use Rattle.avm_ledger.specs.Encodings.{entry_bytes, local_state_bytes, row_bytes, schema_bytes, short_string_bytes, state_bytes, string_bytes, u16_bytes, u32_bytes, u64_bytes, u8_bytes, value_bytes};
 
+use crate::application::Application;
 use avm_states::{Schema, State};
 use std::alloc::AllocError;
-use teal_value::{StateKey, Value};
+use teal_value::{Address, StateKey, Value};
 
 /// Appends the low byte of a count.
 pub fn put_short_count(bytes: &mut Vec<u8>, count: usize) -> Result<(), AllocError>
@@ -81,6 +82,31 @@ pub fn put_state(bytes: &mut Vec<u8>, state: &State) -> Result<(), AllocError>
     cut_if_refused(bytes, start, appended)
 }
 
+/// Appends an application without its global state.
+pub fn put_row(bytes: &mut Vec<u8>, row: &Application) -> Result<(), AllocError>
+    ensures written { OnOk result (bytes.new.items ≡ bytes.old.items ++ row_bytes row.now) }
+    ensures unchanged { OnErr result (bytes.new.items ≡ bytes.old.items) }
+{
+    let start = bytes.len();
+    let appended = push_row(bytes, row);
+    cut_if_refused(bytes, start, appended)
+}
+
+/// Appends a local state behind its account and its application's id.
+pub fn put_local_state(
+    bytes: &mut Vec<u8>,
+    key: &(Address, u64),
+    state: &State,
+) -> Result<(), AllocError>
+    ensures written { OnOk result
+        (bytes.new.items ≡ bytes.old.items ++ local_state_bytes (key.now, state.now)) }
+    ensures unchanged { OnErr result (bytes.new.items ≡ bytes.old.items) }
+{
+    let start = bytes.len();
+    let appended = push_local_state(bytes, key, state);
+    cut_if_refused(bytes, start, appended)
+}
+
 /// What an append answered that began at a length of the bytes. Where it was refused, the bytes are cut to that length.
 pub fn cut_if_refused(
     bytes: &mut Vec<u8>,
@@ -117,6 +143,32 @@ fn push_state(bytes: &mut Vec<u8>, state: &State) -> Result<(), AllocError>
         push_entry(bytes, key, value)?;
     }
     Ok(())
+}
+
+fn push_row(bytes: &mut Vec<u8>, row: &Application) -> Result<(), AllocError>
+    ensures written { OnOk result (bytes.new.items ≡ bytes.old.items ++ row_bytes row.now) }
+    ensures kept { Continues bytes.old.items bytes.new.items }
+{
+    bytes.extend_from_slice(&row.creator.0)?;
+    put_string(bytes, row.approval.as_slice())?;
+    put_string(bytes, row.clear.as_slice())?;
+    put_schema(bytes, row.global_schema)?;
+    put_schema(bytes, row.local_schema)
+}
+
+fn push_local_state(
+    bytes: &mut Vec<u8>,
+    key: &(Address, u64),
+    state: &State,
+) -> Result<(), AllocError>
+    ensures written { OnOk result
+        (bytes.new.items ≡ bytes.old.items ++ local_state_bytes (key.now, state.now)) }
+    ensures kept { Continues bytes.old.items bytes.new.items }
+{
+    let (who, id) = *key;
+    bytes.extend_from_slice(&who.0)?;
+    put_u64(bytes, id)?;
+    put_state(bytes, state)
 }
 
 fn push_entry(bytes: &mut Vec<u8>, key: &StateKey, value: &Value) -> Result<(), AllocError>

@@ -3,8 +3,7 @@
 ghost use Rattle.std.specs.Prelude.{◌≡◌, ◌+◌, List, None, ℕ};
 ghost use Rattle.std.specs.Option.{option_copied};
 ghost use Rattle.teal_value.specs.Answer.{Gives};
-ghost use Rattle.teal_value.specs.declared.address.Address.{Address};
-ghost use Rattle.avm_ledger.specs.LedgerReader.{account_at, applications_at, id_between, is_no_lower, ledger_at, limited_schema_at, local_id_at, local_room, local_states_at, next_id_at, program_at, rises_from_pair, schemas_and_state_at, stored_application_at, stored_in};
+ghost use Rattle.avm_ledger.specs.LedgerReader.{account_at, applications_at, id_between, is_no_lower, ledger_at, limited_schema_at, local_id_at, local_room, local_states_at, next_id_at, program_at, rises_from_pair, row_at, schemas_at, stored_application_at, stored_in};
 
 use crate::application::{Application, StoredApplication};
 use crate::fields::Fields;
@@ -13,7 +12,7 @@ use crate::shared_application::SharedApplication;
 use crate::sorted_map::map_of;
 use crate::state_reading::{shared_state_of, state_of};
 use crate::stored_program::StoredProgram;
-use avm_states::{MAX_GLOBAL_ENTRIES, MAX_LOCAL_ENTRIES, Schema, SharedState, State};
+use avm_states::{MAX_GLOBAL_ENTRIES, MAX_LOCAL_ENTRIES, Schema, SharedState};
 use std::alloc::Global;
 use std::cmp::Ordering;
 use std::collections::BTreeMap;
@@ -110,24 +109,25 @@ fn application_of<'a>(
 ) -> Result<(StoredApplication, Fields<'a>), LedgerError>
     ensures { Gives (λ x. x) result (stored_application_at fields.entry) }
 {
+    let (row, rest) = row_of(alloc, last, fields)?;
+    let schema = row.global_schema;
+    let (state, rest) = state_of(alloc, entries_within(schema), schema, rest)?;
+    let row = SharedApplication::new(alloc, row)?;
+    Ok((StoredApplication { row, state }, rest))
+}
+
+/// An application without its global state, which stands behind the last one, if any.
+pub fn row_of<'a>(
+    alloc: Global,
+    last: Option<&Application>,
+    fields: Fields<'a>,
+) -> Result<(Application, Fields<'a>), LedgerError>
+    ensures { Gives (λ x. x) result (row_at fields.entry) }
+{
     let (creator, rest) = fields.address(LedgerFault::Truncated)?;
     let (approval, rest) = program_of(alloc, last.map(|last| &last.approval), rest)?;
     let (clear, rest) = program_of(alloc, last.map(|last| &last.clear), rest)?;
-    stored_of(alloc, creator, approval, clear, rest)
-}
-
-/// The application of this account and these programs, whose schemas and global state stand behind them.
-#[inline(always)]
-fn stored_of(
-    alloc: Global,
-    creator: Address,
-    approval: StoredProgram,
-    clear: StoredProgram,
-    fields: Fields<'_>,
-) -> Result<(StoredApplication, Fields<'_>), LedgerError>
-    ensures { Gives (λ x. x) result (schemas_and_state_at creator approval clear fields.entry) }
-{
-    let ((global_schema, local_schema, state), rest) = schemas_and_state_of(alloc, fields)?;
+    let ((global_schema, local_schema), rest) = schemas_of(rest)?;
     let row = Application {
         creator,
         approval,
@@ -135,38 +135,21 @@ fn stored_of(
         global_schema,
         local_schema,
     };
-    let row = SharedApplication::new(alloc, row)?;
-    Ok((StoredApplication { row, state }, rest))
+    Ok((row, rest))
 }
 
-/// The schemas of an application and its global state, whoever created it and whatever its programs are.
+/// The schemas of an application's global state and of its local states.
 #[inline(always)]
-fn schemas_and_state_of(
-    alloc: Global,
-    fields: Fields<'_>,
-) -> Result<((Schema, Schema, State), Fields<'_>), LedgerError>
-    ensures { (creator : Address) (approval : List ℕ) (clear : List ℕ) → Gives (λ x. (
-      record {
-        row = record {
-          creator = creator;
-          approval = approval;
-          clear = clear;
-          global_schema = x.0.0;
-          local_schema = x.0.1;
-        };
-        state = x.0.2;
-      },
-      x.1,
-    )) result (schemas_and_state_at creator approval clear fields.entry) }
+fn schemas_of(fields: Fields<'_>) -> Result<((Schema, Schema), Fields<'_>), LedgerError>
+    ensures { Gives (λ x. x) result (schemas_at fields.entry) }
 {
     let (global_schema, rest) = schema_of(MAX_GLOBAL_ENTRIES, fields)?;
     let (local_schema, rest) = schema_of(MAX_LOCAL_ENTRIES, rest)?;
-    let (state, rest) = state_of(alloc, entries_within(global_schema), global_schema, rest)?;
-    Ok(((global_schema, local_schema, state), rest))
+    Ok(((global_schema, local_schema), rest))
 }
 
 /// A program, checked; or that of the last application, shared, where it has the same bytes.
-pub fn program_of<'a>(
+fn program_of<'a>(
     alloc: Global,
     last: Option<&StoredProgram>,
     fields: Fields<'a>,

@@ -62,7 +62,7 @@ items_short m s (item.App id) = by (application_at m id) refl
   where
     by : (a : Option StoredApplication) → application_at m id ≡ a → Holds IsShortValue (row_value a)
     by None is = tt
-    by (Some app) is = omega (arith, (application_rules m id app s.rules is).creator)
+    by (Some app) is = omega (arith, (application_rules m id app s.rules is).row.creator)
 items_short m s (item.Counts id) = by (application_at m id)
   where
     by : (a : Option StoredApplication) → Holds IsShortValue (counts_value a)
@@ -91,7 +91,7 @@ row_short : (c : Completion) (m : Ledger) (id : ℕ) (row : Application) → IsS
 row_short c m id row s is =
     stored_row m id row is (λ app there same.
     let rules = application_rules m id app s.rules there in
-    let few = program_is_short (program_of c app.row) (program_fits is_program app.row (rules.approval, rules.clear) c) in
+    let few = program_is_short (program_of c app.row) (program_fits is_program app.row (rules.row.approval, rules.row.clear) c) in
     subst (λ r. IsShort (program_of c r)) same (omega (arith, few)))
 
 abbrev BoundedAt : Position → Ledger → Type 0

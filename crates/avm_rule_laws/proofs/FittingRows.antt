@@ -219,7 +219,7 @@ items_fit m s (item.App id) = by (application_at m id) refl (stored_fits m s id)
   where
     by : (a : Option StoredApplication) → application_at m id ≡ a → IfSome a (λ app. IsRowOfBytes app.row × AreMachineValues app.state) → Holds IsMachineValue (row_value a)
     by None is h = tt
-    by (Some app) is h = address_fits app.row.creator (application_rules m id app s.rules is).creator h.0.creator
+    by (Some app) is h = address_fits app.row.creator (application_rules m id app s.rules is).row.creator h.0.creator
 items_fit m s (item.Counts id) = by (application_at m id)
   where
     by : (a : Option StoredApplication) → Holds IsMachineValue (counts_value a)

@@ -86,11 +86,13 @@ new_sound call header may new m s few none =
       application = subst (λ a. IsApplicationBelow (id + 1) (id, with_row a (created call))) (sym none) (record {
         positive = s.rules.next_id;
         below = omega arith;
-        creator = may.call_of_bytes.fields.sender;
-        approval = may.programs.approval new;
-        clear = may.programs.clear new;
-        global_schema = may.programs.global_schema new;
-        local_schema = may.programs.local_schema new;
+        row = record {
+          creator = may.call_of_bytes.fields.sender;
+          approval = may.programs.approval new;
+          clear = may.programs.clear new;
+          global_schema = may.programs.global_schema new;
+          local_schema = may.programs.local_schema new;
+        };
         state = nothing_in (room_of_schema (created call).global_schema);
       });
       local_states = none_of id m.applications (room_of_schema (created call).local_schema) m.local_states s.rules.local_states;
@@ -125,11 +127,13 @@ row_sound call header may c m id row s is =
       application = subst (λ a. IsApplicationBelow m.next_id (id, with_row a (updated call app.row))) (sym there) (record {
         positive = rules.positive;
         below = rules.below;
-        creator = rules.creator;
-        approval = may.programs.new_approval c;
-        clear = may.programs.new_clear c;
-        global_schema = rules.global_schema;
-        local_schema = rules.local_schema;
+        row = record {
+          creator = rules.row.creator;
+          approval = may.programs.new_approval c;
+          clear = may.programs.new_clear c;
+          global_schema = rules.row.global_schema;
+          local_schema = rules.row.local_schema;
+        };
         state = rules.state;
       });
       local_states = kept_locals m.next_id m id app there m.local_states s.rules.local_states;

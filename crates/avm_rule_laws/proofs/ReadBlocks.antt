@@ -1,5 +1,5 @@
 -- The calls of a block that is read from bytes may be made, so they keep the rules.
-use Rattle.std.proofs.Common.{◌≡◌, ℕ, ◌<◌, Bool, true, false, ◌&&◌, List, [], ◌∷◌, Option, Some, None, Ok, refl, sym, subst}
+use Rattle.std.proofs.Common.{◌≡◌, ℕ, ◌<◌, Bool, true, ◌&&◌, List, [], ◌∷◌, Option, Some, None, Ok, refl, sym, subst}
 use Rattle.std.specs.Prelude.{All, is_none, take}
 use Rattle.std.proofs.lemmas.List.Elements.{All-nil, All-cons, All-head, All-tail, All-take}
 use Rattle.sha2.specs.Sha256.{sha256}
@@ -8,7 +8,6 @@ use Rattle.avm_ledger.specs.Ledgers.{Ledger}
 use Rattle.avm_ledger.specs.LedgerReader.{ledger_at}
 use Rattle.avm_ledger.specs.Encodings.{u32_bytes, u64_bytes, counted_bytes, header_bytes}
 use Rattle.avm_ledger.proofs.LedgerBack.{ledger_back_alone}
-use Rattle.avm_items.specs.declared.call_data.CallData.{CallData}
 use Rattle.avm_call_codec.specs.CallEncoding.{call_bytes}
 use Rattle.avm_call.specs.CallRules.{call_fault, needed_profile}
 use Rattle.avm_call.specs.OutcomeEncoding.{outcome_bytes}
@@ -17,10 +16,10 @@ use Rattle.avm_block.specs.declared.entry.Entry.{Entry}
 use Rattle.avm_block.specs.AcceptedCalls.{fits_in, is_accepted}
 use Rattle.avm_block.specs.BlockReader.{block_at}
 use Rattle.avm_block.specs.BlockRoundTrip.{AreEntries, IsHeader}
-use Rattle.avm_block.specs.BlockEncoding.{magic, format_bytes, block_entry_bytes, body_bytes, block_bytes}
+use Rattle.avm_block.specs.BlockEncoding.{magic, format_bytes, block_entry_bytes, body_bytes}
 use Rattle.avm_block.specs.Blocks.{Block, calls_in, calls_of}
 use Rattle.avm_block.proofs.BlockEncoded.{block_encoded}
-use Rattle.avm_rule_laws.specs.Rules.{AreBytes, HasWords, IsSound, MayCall}
+use Rattle.avm_rule_laws.specs.Rules.{AreBytes, HasWords, MayCall}
 use Rattle.avm_rule_laws.specs.ReadBlocks.{IsReadable}
 use Rattle.avm_rule_laws.proofs.CheckedCalls.{checked_calls_bring_programs}
 use Rattle.avm_rule_laws.proofs.KeptRules.{replays_keep_the_rules}

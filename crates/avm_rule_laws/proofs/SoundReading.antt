@@ -11,7 +11,7 @@ use Rattle.avm_states.specs.Entries.{Entries}
 use Rattle.avm_ledger.specs.Ledgers.{Ledger, empty_ledger}
 use Rattle.avm_ledger.specs.LedgerReader.{ledger_at}
 use Rattle.avm_ledger.specs.LedgerRules.{IsStateValue, IsStateEntry, IsApplicationBelow, IsLocalStateBelow}
-use Rattle.avm_ledger.specs.Encodings.{u8_bytes, u16_bytes, u32_bytes, u64_bytes, short_string_bytes, string_bytes, counted_bytes, value_bytes, entry_bytes, state_bytes, schema_bytes, application_bytes, local_state_bytes}
+use Rattle.avm_ledger.specs.Encodings.{u8_bytes, u16_bytes, u32_bytes, u64_bytes, short_string_bytes, string_bytes, counted_bytes, value_bytes, entry_bytes, state_bytes, schema_bytes, application_bytes, local_state_bytes, row_bytes}
 use Rattle.avm_ledger.proofs.LedgerEncoded.{ledger_encoded}
 use Rattle.avm_ledger.proofs.LedgerKept.{ledger_kept}
 use Rattle.avm_items.specs.declared.call_data.CallData.{CallData}
@@ -71,8 +71,9 @@ state_part state entries all =
 
 application_part : (next : ℕ) (e : ℕ × StoredApplication) → IsApplicationBelow next e → AreBytes (application_bytes e) → IsStoredOfBytes e
 application_part next (id, app) is all =
-    let p = parts (u64_bytes id) (app.row.creator.0 ∷ string_bytes app.row.approval ∷ string_bytes app.row.clear ∷ schema_bytes app.row.global_schema ∷ schema_bytes app.row.local_schema ∷ state_bytes app.state ∷ []) all in
-    (record { creator = p.1.0; approval = string_part app.row.approval p.1.1.0; clear = string_part app.row.clear p.1.1.1.0 }, state_part app.state is.state.entries p.1.1.1.1.1.1.0)
+    let p = parts (u64_bytes id) (row_bytes app.row ∷ state_bytes app.state ∷ []) all in
+    let r = parts app.row.creator.0 (string_bytes app.row.approval ∷ string_bytes app.row.clear ∷ schema_bytes app.row.global_schema ∷ schema_bytes app.row.local_schema ∷ []) p.1.0 in
+    (record { creator = r.0; approval = string_part app.row.approval r.1.0; clear = string_part app.row.clear r.1.1.0 }, state_part app.state is.state.entries p.1.1.0)
 
 local_part : (next : ℕ) (apps : List (ℕ × StoredApplication)) (e : (Address × ℕ) × Entries) → IsLocalStateBelow next apps e → AreBytes (local_state_bytes e) → AreMachineValues e.1
 local_part next apps e is all =

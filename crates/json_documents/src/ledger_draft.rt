@@ -8,7 +8,9 @@ ghost use Rattle.avm_items.specs.SameValues.{is_same_application, is_same_schema
 ghost use Rattle.json_documents.specs.Drafts.{is_same_stored, raised};
 
 use crate::ids::Id;
-use avm_ledger::encoding::{put_long_count, put_schema, put_state, put_string, put_u64};
+use avm_ledger::encoding::{
+    put_local_state, put_long_count, put_schema, put_state, put_string, put_u64,
+};
 use avm_states::{Schema, State};
 use std::alloc::{AllocError, Global};
 use std::collections::BTreeMap;
@@ -185,18 +187,4 @@ impl LedgerDraft {
         }
         Ok(())
     }
-}
-
-fn put_local_state(
-    bytes: &mut Vec<u8>,
-    key: &(Address, u64),
-    state: &State,
-) -> Result<(), AllocError>
-    ensures { OnOk result
-        (bytes.new.items ≡ bytes.old.items ++ local_state_bytes (key.now, state.now)) }
-{
-    let (who, id) = *key;
-    bytes.extend_from_slice(&who.0)?;
-    put_u64(bytes, id)?;
-    put_state(bytes, state)
 }

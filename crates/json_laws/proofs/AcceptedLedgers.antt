@@ -281,11 +281,13 @@ draft_keeps_rules P next l is ok d = record {
   applications = All-weaker (IsApplication P l.next_id) (IsApplicationBelow l.next_id) (λ e a. record {
     positive = a.positive;
     below = a.below;
-    creator = a.stored.creator.size;
-    approval = ok e.1.row.approval a.stored.approval;
-    clear = ok e.1.row.clear a.stored.clear;
-    global_schema = a.stored.global_schema;
-    local_schema = a.stored.local_schema;
+    row = record {
+      creator = a.stored.creator.size;
+      approval = ok e.1.row.approval a.stored.approval;
+      clear = ok e.1.row.clear a.stored.clear;
+      global_schema = a.stored.global_schema;
+      local_schema = a.stored.local_schema;
+    };
     state = a.stored.state.fits;
   }) l.applications d.applications;
   rising_accounts = d.rising_accounts;

@@ -54,16 +54,16 @@ program_back code of is = then _ _ _ _ (bytes_back code of) (passed code (checke
 module _ (next : ℕ) (e : ℕ × StoredApplication) (is : IsApplicationBelow next e) (of : IsApplicationOfBytes e) where
   limits_back : limits (shown_params e.1) ≡ Ok (record { global_schema = e.1.row.global_schema; local_schema = e.1.row.local_schema; state = e.1.state })
   limits_back =
-      then_in _ _ _ _ _ (schema_back 64 e.1.row.global_schema is.global_schema (omega arith))
-      (then_in _ _ _ _ _ (schema_back 16 e.1.row.local_schema is.local_schema (omega arith))
+      then_in _ _ _ _ _ (schema_back 64 e.1.row.global_schema is.row.global_schema (omega arith))
+      (then_in _ _ _ _ _ (schema_back 16 e.1.row.local_schema is.row.local_schema (omega arith))
       (then_in _ _ _ _ _ (state_back (room_of_schema e.1.row.global_schema) e.1.state is.state of.state) refl))
 
   params_back : (id : ℕ) → params no_sources id (shown_params e.1) ≡ Ok e.1
   unfolding least_unknown
   params_back id =
-      then_in _ _ _ _ _ (program_back e.1.row.approval of.row.approval is.approval)
-      (then_in _ _ _ _ _ (program_back e.1.row.clear of.row.clear is.clear)
-      (then_in _ _ _ _ _ (address_back e.1.row.creator is.creator of.row.creator)
+      then_in _ _ _ _ _ (program_back e.1.row.approval of.row.approval is.row.approval)
+      (then_in _ _ _ _ _ (program_back e.1.row.clear of.row.clear is.row.clear)
+      (then_in _ _ _ _ _ (address_back e.1.row.creator is.row.creator of.row.creator)
       (then _ _ _ _ limits_back refl)))
 
   application_back : (l : Ledger) → next < 2 ^ 64 → application next no_sources l (shown_application e) ≡ add_application l e.0 e.1

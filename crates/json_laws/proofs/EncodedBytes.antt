@@ -11,7 +11,7 @@ use Rattle.avm_states.specs.Entries.{Entries}
 use Rattle.avm_ledger.specs.declared.application.StoredApplication.{StoredApplication}
 use Rattle.avm_ledger.specs.declared.header.Header.{Header}
 use Rattle.avm_ledger.specs.Ledgers.{Ledger}
-use Rattle.avm_ledger.specs.Encodings.{application_bytes, counted_bytes, entry_bytes, header_bytes, ledger_bytes, local_state_bytes, schema_bytes, short_string_bytes, state_bytes, string_bytes, u16_bytes, u32_bytes, u64_bytes, u8_bytes, value_bytes}
+use Rattle.avm_ledger.specs.Encodings.{application_bytes, counted_bytes, entry_bytes, header_bytes, ledger_bytes, local_state_bytes, row_bytes, schema_bytes, short_string_bytes, state_bytes, string_bytes, u16_bytes, u32_bytes, u64_bytes, u8_bytes, value_bytes}
 use Rattle.avm_states.specs.declared.schema.Schema.{Schema}
 use Rattle.avm_items.specs.declared.call_data.CallData.{CallData}
 use Rattle.avm_items.specs.CallFields.{completion_number}
@@ -76,8 +76,10 @@ state es all = and (u8_bytes (length es)) (flat_map entry_bytes es) (number w8 (
 
 application : (e : ℕ × StoredApplication) → IsApplicationOfBytes e → AreBytes (application_bytes e)
 application (id, app) is =
-    all (u64_bytes id) (app.row.creator.0 ∷ string_bytes app.row.approval ∷ string_bytes app.row.clear ∷ schema_bytes app.row.global_schema ∷ schema_bytes app.row.local_schema ∷ state_bytes app.state ∷ []) (number w64 id)
-    (is.row.creator, (string app.row.approval is.row.approval, (string app.row.clear is.row.clear, (schema app.row.global_schema, (schema app.row.local_schema, (state app.state is.state, tt))))))
+    let row : AreBytes (row_bytes app.row) =
+    all app.row.creator.0 (string_bytes app.row.approval ∷ string_bytes app.row.clear ∷ schema_bytes app.row.global_schema ∷ schema_bytes app.row.local_schema ∷ []) is.row.creator
+    (string app.row.approval is.row.approval, (string app.row.clear is.row.clear, (schema app.row.global_schema, (schema app.row.local_schema, tt)))) in
+    all (u64_bytes id) (row_bytes app.row ∷ state_bytes app.state ∷ []) (number w64 id) (row, (state app.state is.state, tt))
 
 local_state : (e : (Address × ℕ) × Entries) → IsLocalStateOfBytes e → AreBytes (local_state_bytes e)
 local_state e is = all e.0.0.0 (u64_bytes e.0.1 ∷ state_bytes e.1 ∷ []) is.account (number w64 e.0.1, (state e.1 is.state, tt))

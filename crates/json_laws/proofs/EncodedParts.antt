@@ -8,7 +8,7 @@ use Rattle.teal_value.specs.declared.value.Value.TheVariants.{Uint, Bytes}
 use Rattle.avm_states.specs.Entries.{Entries}
 use Rattle.avm_ledger.specs.declared.application.StoredApplication.{StoredApplication}
 use Rattle.avm_ledger.specs.Ledgers.{Ledger}
-use Rattle.avm_ledger.specs.Encodings.{u8_bytes, u16_bytes, u32_bytes, u64_bytes, short_string_bytes, string_bytes, counted_bytes, value_bytes, entry_bytes, state_bytes, schema_bytes, application_bytes, local_state_bytes, ledger_bytes}
+use Rattle.avm_ledger.specs.Encodings.{u8_bytes, u16_bytes, u32_bytes, u64_bytes, short_string_bytes, string_bytes, counted_bytes, value_bytes, entry_bytes, state_bytes, schema_bytes, application_bytes, local_state_bytes, row_bytes, ledger_bytes}
 use Rattle.avm_rule_laws.specs.Rules.{AreBytes, IsRowOfBytes}
 use Rattle.json_laws.specs.OfBytes.{IsApplicationOfBytes, IsEntryOfBytes, IsLocalStateOfBytes, IsValueOfBytes, IsWholeLedgerOfBytes}
 use Rattle.avm_rule_laws.proofs.ProgramValues.{front_all, rest_all}
@@ -58,9 +58,10 @@ state_part state all = counted_part u8_bytes entry_bytes IsEntryOfBytes state en
 
 application_part : (e : ℕ × StoredApplication) → AreBytes (application_bytes e) → IsApplicationOfBytes e
 application_part (id, app) all =
-    let p = parts (u64_bytes id) (app.row.creator.0 ∷ string_bytes app.row.approval ∷ string_bytes app.row.clear ∷ schema_bytes app.row.global_schema ∷ schema_bytes app.row.local_schema ∷ state_bytes app.state ∷ []) all in
-    let row : IsRowOfBytes app.row = record { creator = p.1.0; approval = string_part app.row.approval p.1.1.0; clear = string_part app.row.clear p.1.1.1.0 } in
-    record { row = row; state = state_part app.state p.1.1.1.1.1.1.0 }
+    let p = parts (u64_bytes id) (row_bytes app.row ∷ state_bytes app.state ∷ []) all in
+    let r = parts app.row.creator.0 (string_bytes app.row.approval ∷ string_bytes app.row.clear ∷ schema_bytes app.row.global_schema ∷ schema_bytes app.row.local_schema ∷ []) p.1.0 in
+    let row : IsRowOfBytes app.row = record { creator = r.0; approval = string_part app.row.approval r.1.0; clear = string_part app.row.clear r.1.1.0 } in
+    record { row = row; state = state_part app.state p.1.1.0 }
 
 local_state_part : (e : (Address × ℕ) × Entries) → AreBytes (local_state_bytes e) → IsLocalStateOfBytes e
 local_state_part e all =

@@ -81,8 +81,8 @@ module _ (next : ℕ) (e : ℕ × StoredApplication) (is : IsApplicationBelow ne
       (beside (refl, base64_shown 3 e.1.row.clear)
       (beside (refl, address_shown 3 e.1.row.creator of.row.creator)
       (beside (refl, state_shown e.1.state is.state.entries)
-      (beside (refl, schema_shown e.1.row.global_schema is.global_schema)
-      ((refl, schema_shown e.1.row.local_schema (omega (arith, is.local_schema))), tt))))))
+      (beside (refl, schema_shown e.1.row.global_schema is.row.global_schema)
+      ((refl, schema_shown e.1.row.local_schema (omega (arith, is.row.local_schema))), tt))))))
 
   application_shown : next < 2 ^ 64 → IsShown 5 (shown_application e)
   application_shown small = object_shown 4 _ ((refl, uint_shown 4 e.0 (omega (arith, is.below))), ((refl, params_shown), tt))
