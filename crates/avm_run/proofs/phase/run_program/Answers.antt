@@ -8,6 +8,11 @@ use Rattle.avm_run.specs.Standing.{AsksThere, BeginsRun, EndsThere, StopsWithin}
 use Rattle.avm_run.proofs.Leading.{too_many_steps, stops_there, asks_behind, closes, ends_after, ends_after_there, ends_run}
 use Rattle.avm_run.proofs.Executing.{at_most, few_steps, if_err, stops_once}
 use Rattle.avm_run.proofs.phase.run_program.Goals as goal
+use Rattle.avm_run.proofs.phase.run_program.Goals.{After-deref_mut}
+
+-- the call that runs is the one that the run began with
+begun_there : (g : _) (c : After-deref_mut g) → BeginsRun c.args.call.now c.args.context.now.header.now c.args.running.value.env.reads c.deref_mut.result.now
+begun_there g c = subst (BeginsRun _ _ _) (sym c.deref_mut.ensures.value) c.requires.begun
 
 pub unreachable-requires : goal.unreachable-requires
 unreachable-requires g c = too_many_steps _ _ (rw c.in-Ok-Made.field-0-is at c.in-Ok-Made.ensures.stops)
@@ -16,7 +21,7 @@ pub returns-in-Ok-Need-clause-runs : goal.returns-in-Ok-Need-clause-runs
 returns-in-Ok-Need-clause-runs g c =
     let old = c.deref_mut.result.now in
     let new = c.make_steps.new.running in
-    let begun = subst (BeginsRun c.args.call.now c.args.context.now.header.now c.args.running.value.env.reads) (sym c.deref_mut.ensures.value) c.requires.begun in
+    let begun = begun_there g (goal.at.returns-in-Ok-Need-clause-runs g c).After-deref_mut in
     let stops = subst (λ x. StopsWithin 65535 old (λ before. AsksThere before new x)) (sym c.into_inner.ensures) (rw c.in-Ok-Need.field-0-is at c.in-Ok-Need.ensures.stops) in
     let asks = asks_behind _ _ _ 65535 old new c.into_inner.result begun stops in
     record {
@@ -28,32 +33,26 @@ returns-in-Ok-Need-clause-runs g c =
 
 pub close-requires-clause-ends : goal.close-requires-clause-ends
 close-requires-clause-ends g c κs within =
-    let call = c.args.call.now in
-    let header = c.args.context.now.header.now in
     let old = c.deref_mut.result.now in
     let new = c.make_steps.new.running in
-    let items = c.args.running.value.env.reads in
-    let begun = subst (BeginsRun call header items) (sym c.deref_mut.ensures.value) c.requires.begun in
+    let begun = begun_there g (goal.at.close-requires-clause-ends g c).After-deref_mut in
     let stops = rw c.in-Ok-Ended.field-0-is at c.in-Ok-Ended.ensures.stops in
-    let there = stops_there call header items 65535 old (λ before. EndsThere before new c.in-Ok-Ended.ended) begun stops in
-    closes call header items stops.before new c.in-Ok-Ended.ended there stops.stops.same stops.stops.ends
+    let there = stops_there _ _ _ 65535 old (λ before. EndsThere before new c.in-Ok-Ended.ended) begun stops in
+    closes _ _ _ stops.before new c.in-Ok-Ended.ended there stops.stops.same stops.stops.ends
 
 pub returns-in_ok-close-in-Ok-Ended-clause-runs : goal.returns-in_ok-close-in-Ok-Ended-clause-runs
 returns-in_ok-close-in-Ok-Ended-clause-runs g c =
-    let call = c.args.call.now in
-    let header = c.args.context.now.header.now in
     let old = c.deref_mut.result.now in
     let new = c.make_steps.new.running in
-    let items = c.args.running.value.env.reads in
-    let begun = subst (BeginsRun call header items) (sym c.deref_mut.ensures.value) c.requires.begun in
+    let begun = begun_there g (goal.at.returns-in_ok-close-in-Ok-Ended-clause-runs g c).After-deref_mut in
     let stops = rw c.in-Ok-Ended.field-0-is at c.in-Ok-Ended.ensures.stops in
     let end = stops.stops in
-    let there = stops_there call header items 65535 old (λ before. EndsThere before new c.in-Ok-Ended.ended) begun stops in
+    let there = stops_there _ _ _ 65535 old (λ before. EndsThere before new c.in-Ok-Ended.ended) begun stops in
     let reads = ap (λ (e : Environment). e.reads) end.same.env ∙ there.same_items in
     record {
-      run = ends_run call header items _ c.in_ok-close-in-Ok-Ended.field-0 reads c.in_ok-close-in-Ok-Ended.ensures.ends;
+      run = ends_run _ _ _ _ c.in_ok-close-in-Ok-Ended.field-0 reads c.in_ok-close-in-Ok-Ended.ensures.ends;
       steps = Some stops.before.steps;
-      at = ends_after call header items stops.before end.position c.in-Ok-Ended.ended _ there end.there end.next c.in_ok-close-in-Ok-Ended.ensures.outcome;
+      at = ends_after _ _ _ stops.before end.position c.in-Ok-Ended.ended _ there end.there end.next c.in_ok-close-in-Ok-Ended.ensures.outcome;
     }
 
 pub returns-in-Ok-Need-clause-executes : goal.returns-in-Ok-Need-clause-executes
@@ -64,22 +63,19 @@ returns-in-Ok-Need-clause-executes g c =
 
 pub returns-in_ok-close-in-Ok-Ended-clause-executes : goal.returns-in_ok-close-in-Ok-Ended-clause-executes
 returns-in_ok-close-in-Ok-Ended-clause-executes g c =
-    let call = c.args.call.now in
-    let header = c.args.context.now.header.now in
     let old = c.deref_mut.result.now in
     let new = c.make_steps.new.running in
-    let items = c.args.running.value.env.reads in
     let before = c.args.executions.now in
     let after = c.make_steps.new.executions in
     let ended = c.in-Ok-Ended.ended in
-    let begun = subst (BeginsRun call header items) (sym c.deref_mut.ensures.value) c.requires.begun in
+    let begun = begun_there g (goal.at.returns-in_ok-close-in-Ok-Ended-clause-executes g c).After-deref_mut in
     let stops = rw c.in-Ok-Ended.field-0-is at c.in-Ok-Ended.ensures.stops in
     let executes = rw c.in-Ok-Ended.field-0-is at c.in-Ok-Ended.ensures.executes in
     let end = stops.stops in
-    let there = stops_there call header items 65535 old (λ before. EndsThere before new ended) begun stops in
+    let there = stops_there _ _ _ 65535 old (λ before. EndsThere before new ended) begun stops in
     let outcome = c.in_ok-close-in-Ok-Ended.ensures.outcome in
-    let at_end = ends_after call header items stops.before end.position ended _ there end.there end.next outcome in
-    let program_end = ends_after_there call header items stops.before end.position ended _ there end.there end.next outcome in
+    let at_end = ends_after _ _ _ stops.before end.position ended _ there end.there end.next outcome in
+    let program_end = ends_after_there _ _ _ stops.before end.position ended _ there end.there end.next outcome in
     let stopped : stops_ending at_end.program at_end.end ≡ stops_ending old.program ended = (λ i. stops_ending (program_end.0 i) (program_end.1 i)) ∙ ap (λ w. stops_ending w ended) stops.made.same.program in
     record {
       steps = Some stops.before.steps;
