@@ -6,7 +6,7 @@
 
 ghost use Rattle.std.specs.Prelude.{◌≡◌, ◌==◌, if◌then◌else◌, ◌+◌, ◌-◌, ◌<◌, ◌≤◌, ◌≢◌, max, [], ◌∷◌, ◌++◌, drop, length, OnOk, OnErr, IsOk, vec_len, vec_capacity};
 ghost use Rattle.std.specs.List.{AllByRecursion};
-ghost use Rattle.mv_chain.specs.Versions.{count_not_above, IsChain, IsRow, marked_at_index, oldest_timestamp, newest_at, mark_in, versions_read_at, lateness, versions_with, versions_from};
+ghost use Rattle.mv_chain.specs.Versions.{count_not_above, IsChain, IsPutBehind, IsRow, marked_at_index, oldest_timestamp, newest_at, mark_in, versions_read_at, lateness, versions_with, versions_from};
 ghost use Rattle.mv_chain.specs.Laws.{EveryReadFindsTheNewest, EveryReadMarksItsVersionAlone, EveryInstallIsFound, EveryPruneKeepsReads, EveryMarkIsOfItsVersion, EveryReadRaisesOneMark, EveryInstallKeepsMarks, EveryPruneKeepsMarks};
 
 use std::alloc::{AllocError, Global};
@@ -88,13 +88,7 @@ fn follow<V: Drop>(
     newest: &mut Version<V>,
     version: Version<V>,
 ) -> Result<(), AllocError>
-    ensures ok { OnOk result (older.new.items ++ newest.new ∷ []
-        ≡ (older.old.items ++ newest.old ∷ []) ++ version ∷ []) }
-    ensures err { OnErr result
-        (older.new.items ++ newest.new ∷ [] ≡ older.old.items ++ newest.old ∷ []) }
-    ensures succeeds { 0 < vec_capacity older.old - vec_len older.old → IsOk result }
-    ensures room { 0 < vec_capacity older.old - vec_len older.old → vec_capacity older.new
-        - vec_len older.new + 1 ≡ vec_capacity older.old - vec_len older.old }
+    ensures { IsPutBehind version older.old older.new newest.old newest.new result }
 {
     if older.len() < older.capacity() {
         older.push_reserved(mem::replace(newest, version));
@@ -111,13 +105,7 @@ fn follow_full<V: Drop>(
     newest: &mut Version<V>,
     version: Version<V>,
 ) -> Result<(), AllocError>
-    ensures ok { OnOk result (older.new.items ++ newest.new ∷ []
-        ≡ (older.old.items ++ newest.old ∷ []) ++ version ∷ []) }
-    ensures err { OnErr result
-        (older.new.items ++ newest.new ∷ [] ≡ older.old.items ++ newest.old ∷ []) }
-    ensures succeeds { 0 < vec_capacity older.old - vec_len older.old → IsOk result }
-    ensures room { 0 < vec_capacity older.old - vec_len older.old → vec_capacity older.new
-        - vec_len older.new + 1 ≡ vec_capacity older.old - vec_len older.old }
+    ensures { IsPutBehind version older.old older.new newest.old newest.new result }
 {
     let before = mem::replace(newest, version);
     match older.insert(older.len(), before) {

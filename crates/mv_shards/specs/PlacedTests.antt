@@ -1,5 +1,6 @@
 -- What items have in parts as they are kept.
-use Rattle.std.specs.Prelude.{◌≡◌, ℕ, Option, None, Some}
+use Rattle.std.specs.Prelude.{◌≡◌, ◌≢◌, ℕ, Option, None, Some}
+use Rattle.std.specs.List.{AllByRecursion}
 use Rattle.teal_value.specs.declared.failure.Failure.{Failure}
 use Rattle.teal_value.specs.declared.failure.Failure.TheVariants as failure
 use Rattle.avm_items.specs.declared.item.Item.{Item}
@@ -9,11 +10,19 @@ use Rattle.mv_chain.specs.declared.chain.Late.{Late}
 use Rattle.mv_chain.specs.declared.chain.Version.{Version}
 use Rattle.mv_chain.specs.Versions.{lateness, newest_at}
 use Rattle.mv_shards.specs.Indexes.{shard_of}
-use Rattle.mv_shards.specs.KeptChains.{versions_of}
-use Rattle.mv_shards.specs.SlotWriting.{AreWrittenSlots, StateSlots, chains_for, first_at}
+use Rattle.mv_shards.specs.KeptChains.{AreChains, versions_of}
+use Rattle.mv_shards.specs.KeptHelds.{IsHeldIn}
+use Rattle.mv_shards.specs.SlotWriting.{AreWrittenSlots, StateSlots, chains_at, chains_for, first_at}
 use Rattle.mv_shards.specs.TestedWrites.{first_late, moved_item, no_version}
 use Rattle.mv_shards.specs.declared.write_fault.WriteFault.{WriteFault}
 use Rattle.mv_shards.specs.declared.write_fault.WriteFault.TheVariants as fault
+
+-- what a write at a timestamp asks: the parts are held, they are not pruned above it, and no item has the version that is written
+pub record IsWritable (t : ℕ) (reads writes : ItemMap) (parts : StateSlots) : Type 0 where
+  pub reads_held : AllByRecursion (λ e. IsHeldIn parts e.0) reads
+  pub writes_held : AllByRecursion (λ e. IsHeldIn parts e.0) writes
+  pub chains : (i : ℕ) → AreChains (first_at parts i) t (chains_at parts i)
+  pub absent : AllByRecursion (λ e. AllByRecursion (λ v. v.timestamp ≢ t) (versions_of (first_at parts (shard_of e.0)) (chains_for parts e.0) e.0)) writes
 
 -- the newest version of an item not above a timestamp
 abbrev pub newest_there : ℕ → StateSlots → Item → Version ItemValue

@@ -1,12 +1,8 @@
 //! What a commit marks and writes in the shards that are held, where room was made for it.
 
-ghost use Rattle.std.specs.Prelude.{◌≡◌, ◌<◌, ◌≢◌, IfErr, OnErr, OnOk};
-ghost use Rattle.std.specs.List.{AllByRecursion};
-ghost use Rattle.mv_shards.specs.SlotWriting.{AreGrown, AreInstalledAt, AreMarkedAt, ArePlaced, AreReadableRefs, AreReadyPlaced, AreChainRefs, AreWrittenSlots, IsInstalledItem, IsMarkedItem, IsReadableRef, IsChainRef, TakesVersionThere, chains_at, chains_for, first_at};
-ghost use Rattle.mv_shards.specs.KeptChains.{AreChains, versions_of};
-ghost use Rattle.mv_shards.specs.KeptHelds.{IsHeldIn};
-ghost use Rattle.mv_shards.specs.Indexes.{shard_of as shard_index};
-ghost use Rattle.mv_shards.specs.PlacedTests.{IsTestedPlaced, IsUnplaced};
+ghost use Rattle.std.specs.Prelude.{◌≡◌, ◌<◌, IfErr, OnErr, OnOk};
+ghost use Rattle.mv_shards.specs.SlotWriting.{AreGrown, AreInstalledAt, AreMarkedAt, ArePlaced, AreReadableRefs, AreReadyPlaced, AreChainRefs, AreWrittenSlots, IsInstalledItem, IsMarkedItem, IsReadableRef, IsChainRef, TakesVersionThere};
+ghost use Rattle.mv_shards.specs.PlacedTests.{IsTestedPlaced, IsUnplaced, IsWritable};
 
 use crate::chain_ref::ChainRef;
 use crate::commit_scratch::{CommitScratch, StateSlots, make_room};
@@ -83,12 +79,7 @@ pub(crate) fn write_parts(
     writes: &ItemMap,
     timestamp: u64,
 ) -> Result<(), AllocError>
-    requires reads { AllByRecursion (λ e. IsHeldIn parts.old e.0) reads.now }
-    requires writes { AllByRecursion (λ e. IsHeldIn parts.old e.0) writes.now }
-    requires chains { (i : _) → AreChains (first_at parts.old i) timestamp (chains_at parts.old i) }
-    requires absent { AllByRecursion (λ e.
-        AllByRecursion (λ v. v.timestamp ≢ timestamp) (versions_of (first_at parts.old
-        (shard_index e.0)) (chains_for parts.old e.0) e.0)) writes.now }
+    requires writable { IsWritable timestamp reads.now writes.now parts.old }
     requires positive { 0 < timestamp }
     ensures written { OnOk result (AreWrittenSlots timestamp reads.now writes.now parts.old
         parts.new) }
@@ -108,12 +99,7 @@ pub(crate) fn write_tested_parts(
     writes: &ItemMap,
     timestamp: u64,
 ) -> Result<(), WriteError>
-    requires reads { AllByRecursion (λ e. IsHeldIn parts.old e.0) reads.now }
-    requires writes { AllByRecursion (λ e. IsHeldIn parts.old e.0) writes.now }
-    requires chains { (i : _) → AreChains (first_at parts.old i) timestamp (chains_at parts.old i) }
-    requires absent { AllByRecursion (λ e.
-        AllByRecursion (λ v. v.timestamp ≢ timestamp) (versions_of (first_at parts.old
-        (shard_index e.0)) (chains_for parts.old e.0) e.0)) writes.now }
+    requires writable { IsWritable timestamp reads.now writes.now parts.old }
     requires positive { 0 < timestamp }
     ensures written { OnOk result (IsTestedPlaced timestamp reads.now writes.now parts.old
         parts.new) }

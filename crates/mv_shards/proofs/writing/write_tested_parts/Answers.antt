@@ -7,7 +7,7 @@ use Rattle.mv_shards.proofs.PlacedTests.{lateness_same, reads_readable, values_s
 use Rattle.mv_shards.proofs.writing.write_tested_parts.Goals as goal
 
 pub moved-requires-clause-readable : goal.moved-requires-clause-readable
-moved-requires-clause-readable c = reads_readable c.args.timestamp _ _ c.make_room.ensures.grown c.requires.chains c.args.reads.now c.args.writes.now c.make_room.new.scratch c.in_ok-make_room.ensures.room
+moved-requires-clause-readable c = reads_readable c.args.timestamp _ _ c.make_room.ensures.grown c.requires.writable.chains c.args.reads.now c.args.writes.now c.make_room.new.scratch c.in_ok-make_room.ensures.room
 
 pub returns-in-Some-clause-refused : goal.returns-in-Some-clause-refused
 returns-in-Some-clause-refused c =
@@ -15,10 +15,10 @@ returns-in-Some-clause-refused c =
 
 pub late-requires-clause-placed : goal.late-requires-clause-placed
 late-requires-clause-placed c =
-    subst (ArePlaced c.make_room.new.parts c.args.writes.now) (sym c.deref-2.ensures.value) (writes_placed c.args.timestamp _ _ c.make_room.ensures.grown c.requires.chains c.args.reads.now c.args.writes.now c.make_room.new.scratch c.in_ok-make_room.ensures.room)
+    subst (ArePlaced c.make_room.new.parts c.args.writes.now) (sym c.deref-2.ensures.value) (writes_placed c.args.timestamp _ _ c.make_room.ensures.grown c.requires.writable.chains c.args.reads.now c.args.writes.now c.make_room.new.scratch c.in_ok-make_room.ensures.room)
 
 pub late-requires-clause-readable : goal.late-requires-clause-readable
-late-requires-clause-readable c = writes_readable c.args.timestamp _ _ c.make_room.ensures.grown c.requires.chains c.args.reads.now c.args.writes.now c.make_room.new.scratch c.in_ok-make_room.ensures.room
+late-requires-clause-readable c = writes_readable c.args.timestamp _ _ c.make_room.ensures.grown c.requires.writable.chains c.args.reads.now c.args.writes.now c.make_room.new.scratch c.in_ok-make_room.ensures.room
 
 pub returns-in-Some-late-clause-refused : goal.returns-in-Some-late-clause-refused
 returns-in-Some-late-clause-refused c =
@@ -28,10 +28,10 @@ returns-in-Some-late-clause-refused c =
     )
 
 pub mark_all-requires-clause-readable : goal.mark_all-requires-clause-readable
-mark_all-requires-clause-readable c = readable_spots c.args.timestamp c.args.reads.now c.args.writes.now _ _ c.make_room.new.scratch c.make_room.ensures.grown c.in_ok-make_room.ensures.room _ c.deref-3.ensures.value c.requires.chains
+mark_all-requires-clause-readable c = readable_spots c.args.timestamp c.args.reads.now c.args.writes.now _ _ c.make_room.new.scratch c.make_room.ensures.grown c.in_ok-make_room.ensures.room _ c.deref-3.ensures.value c.requires.writable.chains
 
 pub install_all-requires-clause-ready : goal.install_all-requires-clause-ready
-install_all-requires-clause-ready c = subst (AreReadyPlaced c.args.timestamp c.mark_all.new.parts) (sym c.deref_mut.ensures.value) (ready_placed c.args.timestamp c.args.reads.now c.args.writes.now _ _ c.make_room.new.scratch c.make_room.ensures.grown c.in_ok-make_room.ensures.room _ c.deref-3.ensures.value _ c.requires.chains c.mark_all.ensures c.requires.absent)
+install_all-requires-clause-ready c = subst (AreReadyPlaced c.args.timestamp c.mark_all.new.parts) (sym c.deref_mut.ensures.value) (ready_placed c.args.timestamp c.args.reads.now c.args.writes.now _ _ c.make_room.new.scratch c.make_room.ensures.grown c.in_ok-make_room.ensures.room _ c.deref-3.ensures.value _ c.requires.writable.chains c.mark_all.ensures c.requires.writable.absent)
 
 pub returns-clause-written : goal.returns-clause-written
 returns-clause-written c =

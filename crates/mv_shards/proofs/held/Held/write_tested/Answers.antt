@@ -3,22 +3,11 @@ use Rattle.std.proofs.lemmas.Result.{IfErr-weaker, on_err_weaker}
 use Rattle.mv_shards.proofs.Ends.{end_framed}
 use Rattle.mv_shards.proofs.OneChain.{either_way, ok_then}
 use Rattle.mv_shards.proofs.PlacedTests.{late_seen, moved_seen, unwritten_seen}
-use Rattle.mv_shards.proofs.SeenWrites.{all_absent, all_chains, all_held_in, can_take, grown_seen, kept_grown, kept_written, written_seen}
+use Rattle.mv_shards.proofs.SeenWrites.{all_writable, can_take, grown_seen, kept_grown, kept_written, written_seen}
 use Rattle.mv_shards.proofs.held.Held.write_tested.Goals as goal
 
-pub write_tested_parts-requires-clause-reads : goal.write_tested_parts-requires-clause-reads
-write_tested_parts-requires-clause-reads c = all_held_in c.self.inside.parts c.args.reads.now (can_take c.self.view_is c.requires.held).reads_held
-
-pub write_tested_parts-requires-clause-writes : goal.write_tested_parts-requires-clause-writes
-write_tested_parts-requires-clause-writes c = all_held_in c.self.inside.parts c.args.writes.now (can_take c.self.view_is c.requires.held).writes_held
-
-pub write_tested_parts-requires-clause-chains : goal.write_tested_parts-requires-clause-chains
-write_tested_parts-requires-clause-chains c = all_chains c.args.timestamp c.self.inside.parts c.self.invariant.0 (can_take c.self.view_is c.requires.held).low
-
-pub write_tested_parts-requires-clause-absent : goal.write_tested_parts-requires-clause-absent
-write_tested_parts-requires-clause-absent c =
-    let can = can_take c.self.view_is c.requires.held in
-    all_absent c.args.timestamp c.self.inside.parts c.args.writes.now c.self.invariant.0 can.writes_held can.absent
+pub write_tested_parts-requires-clause-writable : goal.write_tested_parts-requires-clause-writable
+write_tested_parts-requires-clause-writable c = all_writable c.args.timestamp c.args.reads.now c.args.writes.now c.self.inside.parts c.self.invariant.0 (can_take c.self.view_is c.requires.held)
 
 pub invariant_of-self : goal.invariant_of-self
 invariant_of-self c =
