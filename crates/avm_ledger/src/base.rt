@@ -14,10 +14,20 @@ use std::marker::Model;
 
 /// A ledger before a block, with its digest, by which the block names it. It is encoded once at most: not at all where it
 /// is read.
-#[derive(Drop)]
 pub struct Base {
     ledger: Ledger,
     digest: [u8; 32],
+}
+
+/// Written out, so that how one is dropped is proved here once, and not in each crate that owns one.
+impl Drop for Base {
+    #[inline]
+    fn drop(self) {
+        let Base {
+            ledger: _,
+            digest: _,
+        } = self;
+    }
 }
 
 impl Model for Base {
@@ -90,7 +100,8 @@ impl Base {
     pub fn into_ledger(self) -> Ledger
         ensures { result ≡ self }
     {
-        self.ledger
+        let Base { ledger, digest: _ } = self;
+        ledger
     }
 
     /// The ledger's digest.

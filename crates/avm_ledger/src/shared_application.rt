@@ -9,9 +9,17 @@ use std::marker::Model;
 use std::sync::Arc;
 
 /// An application, without its global state, that all copies share. Contracts see it as the application.
-#[derive(Debug, Drop)]
+#[derive(Debug)]
 pub struct SharedApplication {
     application: Arc<Application>,
+}
+
+/// Written out, so that how one is dropped is proved here once, and not in each crate that owns one.
+impl Drop for SharedApplication {
+    #[inline]
+    fn drop(self) {
+        let SharedApplication { application: _ } = self;
+    }
 }
 
 impl Model for SharedApplication {

@@ -8,9 +8,17 @@ use std::marker::Model;
 use teal_check::Program;
 
 /// A program of an application, decoded once and shared by all copies, which contracts see as its bytes.
-#[derive(Debug, Drop)]
+#[derive(Debug)]
 pub struct StoredProgram {
     program: Program,
+}
+
+/// Written out, so that how one is dropped is proved here once, and not in each crate that owns one.
+impl Drop for StoredProgram {
+    #[inline]
+    fn drop(self) {
+        let StoredProgram { program: _ } = self;
+    }
 }
 
 impl Model for StoredProgram {

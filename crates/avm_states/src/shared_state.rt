@@ -11,9 +11,17 @@ use std::sync::Arc;
 use teal_value::{StateKey, Value};
 
 /// A state that all its copies share. Contracts see it as the state.
-#[derive(Debug, Drop)]
+#[derive(Debug)]
 pub struct SharedState {
     state: Arc<State>,
+}
+
+/// Written out, so that how one is dropped is proved here once, and not in each crate that owns one.
+impl Drop for SharedState {
+    #[inline]
+    fn drop(self) {
+        let SharedState { state: _ } = self;
+    }
 }
 
 impl Model for SharedState {

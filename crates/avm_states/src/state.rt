@@ -16,11 +16,22 @@ use teal_value::{StateKey, Value};
 pub const MAX_VALUE_BYTES: usize = 64;
 
 /// A global or local state: its entries by rising key, which contracts see as the list of them.
-#[derive(Debug, Drop)]
+#[derive(Debug)]
 pub struct State {
     entries: Vec<(StateKey, Value)>,
     /// How many of the entries are uints, and how many byte strings.
     counts: EntryCounts,
+}
+
+/// Written out, so that how one is dropped is proved here once, and not in each crate that owns one.
+impl Drop for State {
+    #[inline]
+    fn drop(self) {
+        let State {
+            entries: _,
+            counts: _,
+        } = self;
+    }
 }
 
 impl Model for State {

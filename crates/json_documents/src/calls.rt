@@ -93,10 +93,20 @@ impl Calls {
 }
 
 /// The calls of transactions, and their groups.
-#[derive(Drop)]
 pub(crate) struct Batch {
     calls: Calls,
     groups: Groups,
+}
+
+/// Written out, so that whoever owns one drops it by one call and not part by part.
+impl Drop for Batch {
+    #[inline]
+    fn drop(self) {
+        let Batch {
+            calls: _,
+            groups: _,
+        } = self;
+    }
 }
 
 impl Model for Batch {
@@ -147,6 +157,7 @@ impl Batch {
     pub fn into_calls(self) -> Calls
         ensures { result ≡ self.calls }
     {
-        self.calls
+        let Batch { calls, groups: _ } = self;
+        calls
     }
 }

@@ -19,7 +19,6 @@ use teal_value::{Address, ByteString};
 
 /// An application with its global state, which contracts see as one of a ledger. Its programs keep the rules of programs, and
 /// are not decoded, since their bytes alone are written.
-#[derive(Drop)]
 pub(crate) struct ApplicationDraft {
     pub creator: Address,
     pub approval: ByteString,
@@ -27,6 +26,21 @@ pub(crate) struct ApplicationDraft {
     pub global_schema: Schema,
     pub local_schema: Schema,
     pub state: State,
+}
+
+/// Written out, so that whoever owns one drops it by one call and not part by part.
+impl Drop for ApplicationDraft {
+    #[inline]
+    fn drop(self) {
+        let ApplicationDraft {
+            creator: _,
+            approval: _,
+            clear: _,
+            global_schema: _,
+            local_schema: _,
+            state: _,
+        } = self;
+    }
 }
 
 impl Model for ApplicationDraft {
@@ -85,11 +99,22 @@ fn is_same_schema(schema: Schema, other: Schema) -> bool
 
 /// A ledger that is being put together, which contracts see as one. Each application and each local state raises the next id
 /// above its own.
-#[derive(Drop)]
 pub(crate) struct LedgerDraft {
     next_id: u64,
     applications: BTreeMap<u64, ApplicationDraft>,
     local_states: BTreeMap<(Address, u64), State>,
+}
+
+/// Written out, so that whoever owns one drops it by one call and not part by part.
+impl Drop for LedgerDraft {
+    #[inline]
+    fn drop(self) {
+        let LedgerDraft {
+            next_id: _,
+            applications: _,
+            local_states: _,
+        } = self;
+    }
 }
 
 impl Model for LedgerDraft {
