@@ -87,15 +87,6 @@ impl Base {
         &self.ledger
     }
 
-    /// The ledger, and its digest.
-    pub fn into_parts(self) -> (Ledger, [u8; 32])
-        ensures ledger { result.0 ≡ self }
-        ensures digest { result.1 ≡ ledger_digest self }
-    {
-        let Base { ledger, digest } = self;
-        (ledger, digest)
-    }
-
     /// The ledger alone.
     pub fn into_ledger(self) -> Ledger
         ensures { result ≡ self }

@@ -60,11 +60,4 @@ impl Attempt {
     {
         &self.reads
     }
-
-    /// What it has read, without a copy.
-    pub fn into_reads(self) -> ItemMap
-        ensures { result ≡ self.reads }
-    {
-        self.reads
-    }
 }
