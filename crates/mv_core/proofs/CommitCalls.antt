@@ -37,6 +37,12 @@ put_back [] i o left d a b taken there is same = refl
 put_back (x ∷ xs) zero o left d a b taken there is same = ap (λ y. y ∷ xs) (ap Some same ∙ sym is ∙ taken ∙ there)
 put_back (x ∷ xs) (suc i) o left d a b taken there is same = ap (λ ys. x ∷ ys) (put_back xs i o left d a b taken there is same)
 
+-- what was taken from a slot stood there
+pub stood : {A : Type 0} (xs : List (Option A)) (i : ℕ) (o d : Option A) (a : A) → o ≡ d → d ≡ get_or xs i d → o ≡ Some a → IsSome (get_or xs i None) → get_or xs i None ≡ Some a
+stood [] i o d a taken there is some = absurd cc
+stood (x ∷ xs) zero o d a taken there is some = sym there ∙ sym taken ∙ is
+stood (x ∷ xs) (suc i) o d a taken there is some = stood xs i o d a taken there is some
+
 -- a store keeps its facts where its journal, shards and slots stay the same
 pub same_parts : (j : Journal) (shard_slots : ShardSlots) (slots : CallSlots) (new : Journal) (new_shard_slots : ShardSlots) (new_slots : CallSlots) → new ≡ j → new_shard_slots ≡ shard_slots → new_slots ≡ slots → IsKeptByJournal j shard_slots slots → IsKeptByJournal new new_shard_slots new_slots
 same_parts j shard_slots slots new new_shard_slots new_slots same_journal same_shard_slots same_slots k = subst (λ i. IsKeptByJournal i new_shard_slots new_slots) (sym same_journal) (subst (λ ps. IsKeptByJournal j ps new_slots) (sym same_shard_slots) (subst (λ ss. IsKeptByJournal j shard_slots ss) (sym same_slots) k))

@@ -1,6 +1,15 @@
 use Rattle.std.proofs.Common.{Some, sym, ap, ◌∙◌, arith}
-use Rattle.avm_attempt.proofs.UnderWay.{asks_first, ends_over, supplied_on}
+use Rattle.avm_attempt.proofs.UnderWay.{asks_first, begins, ends_over, has_asked, may_go_on, supplied_on}
 use Rattle.avm_attempt.proofs.over_known.attempt_over.Goals as goal
+
+pub asking-init : goal.asking-init
+asking-init g c = begins c.args.call.now c.args.header.now c.args.known.now _ c.in_ok-run.ensures
+
+pub advance-requires : goal.advance-requires
+advance-requires g c = (c.type_bounds.send-O, may_go_on c.args.call.now c.args.header.now c.args.known.now c.asking.run c.asking.invariant)
+
+pub supply-requires : goal.supply-requires
+supply-requires g c = record { asked = has_asked c.asking.run c.advance.new.run c.in-Need.item (rw c.in-Need.is at c.in_ok-item.ensures) }
 
 pub asking-smaller : goal.asking-smaller
 asking-smaller g c =
