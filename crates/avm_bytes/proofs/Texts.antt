@@ -1,15 +1,13 @@
 -- Source text and words, by whether they are UTF-8.
-use Rattle.std.proofs.Common.{◌≡◌, ℕ, List, [], Result, Some, IfOk, refl}
+use Rattle.std.proofs.Common.{◌≡◌, ℕ, List, [], Some, refl}
 use Rattle.std.specs.Str.{IsUtf8}
 use Rattle.std.proofs.lemmas.Str.{is_utf8-from_IsUtf8}
 use Rattle.teal_asm.specs.Program.{assembled}
 use Rattle.avm_input.proofs.Texts.{is_utf8-false}
-use Rattle.avm_bytes.specs.declared.answers.Answer.{Answer as WrittenAnswer}
 use Rattle.avm_bytes.specs.declared.statuses.Status.TheVariants as status
-use Rattle.avm_bytes.specs.Answers.{Answer, refusal}
+use Rattle.avm_bytes.specs.Answers.{refusal}
 use Rattle.avm_bytes.specs.Diagnoses.{of_source, of_text}
 use Rattle.avm_bytes.specs.Programs.{assembled_answer, assembly_answer}
-use Rattle.avm_bytes.specs.Shown.{answer_shown}
 use Rattle.avm_bytes.specs.Troubles.{refused_for}
 use Rattle.avm_bytes.specs.WordAnswers.{words_in, words_of}
 
@@ -31,20 +29,8 @@ of_text-utf8 bytes text u same = rw (is_utf8-from_IsUtf8 bytes u, ← same) refl
 
 -- ---- words
 
-words_of-utf8 : (bytes text : List ℕ) → IsUtf8 bytes → text ≡ bytes → words_of bytes ≡ words_in text
+pub words_of-utf8 : (bytes text : List ℕ) → IsUtf8 bytes → text ≡ bytes → words_of bytes ≡ words_in text
 words_of-utf8 bytes text u same = rw (is_utf8-from_IsUtf8 bytes u, ← same) refl
 
-words_of-not_utf8 : (bytes : List ℕ) → (IsUtf8 bytes → ⊥) → words_of bytes ≡ []
+pub words_of-not_utf8 : (bytes : List ℕ) → (IsUtf8 bytes → ⊥) → words_of bytes ≡ []
 words_of-not_utf8 bytes fails = rw (is_utf8-false bytes fails) refl
-
--- what is answered to words, is answered to the UTF-8 bytes that hold them
-pub utf8_words_answered : {E : Type 0} (IsAnswer : List (List ℕ) → Answer → Type 0) (r : Result WrittenAnswer E) (bytes text : List ℕ) (words : List (List ℕ)) → IsUtf8 bytes → text ≡ bytes
-    → words ≡ words_in text → IfOk r (λ answer. IsAnswer words (answer_shown answer))
-    → IfOk r (λ answer. IsAnswer (words_of bytes) (answer_shown answer))
-utf8_words_answered IsAnswer r bytes text words u same are answered = rw (words_of-utf8 bytes text u same, ← are) answered
-
--- what is answered to no words, is answered to bytes that are not UTF-8
-pub other_words_answered : {E : Type 0} (IsAnswer : List (List ℕ) → Answer → Type 0) (r : Result WrittenAnswer E) (bytes : List ℕ) → (IsUtf8 bytes → ⊥)
-    → IfOk r (λ answer. IsAnswer [] (answer_shown answer))
-    → IfOk r (λ answer. IsAnswer (words_of bytes) (answer_shown answer))
-other_words_answered IsAnswer r bytes fails answered = rw (words_of-not_utf8 bytes fails) answered

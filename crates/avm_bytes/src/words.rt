@@ -5,7 +5,7 @@ ghost use Rattle.avm_ops.specs.OpSets.{IsFull};
 ghost use Rattle.avm_input.specs.CommandLine.{command_in};
 ghost use Rattle.avm_input.specs.JsonCommandLine.{json_command_in};
 ghost use Rattle.avm_bytes.specs.Shown.{answer_shown};
-ghost use Rattle.avm_bytes.specs.WordAnswers.{IsCommandAnswer, IsJsonAnswer, words_in};
+ghost use Rattle.avm_bytes.specs.WordAnswers.{IsCommandAnswer, IsJsonAnswer, words_of};
 
 use crate::answers::{Answer, refusal};
 use crate::questions::Question;
@@ -34,13 +34,8 @@ impl Question for AvmWords<'_> {
         IsCommandAnswer (command_of asked.words.now) asked.input.now (answer_shown answer) };
 
     fn answer(&self, alloc: Global, ops: OpSet) -> Result<Answer, AllocError> {
-        match str::from_utf8(self.words) {
-            Ok(text) => {
-                let words = words_in(alloc, text)?;
-                answer_with(alloc, words.as_slice(), self.input, ops)
-            }
-            Err(_) => answer_with(alloc, &[], self.input, ops),
-        }
+        let words = words_of(alloc, self.words)?;
+        answer_with(alloc, words.as_slice(), self.input, ops)
     }
 }
 
@@ -61,21 +56,19 @@ impl Question for JsonWords<'_> {
         IsJsonAnswer (json_command_of asked.words.now) asked.input.now (answer_shown answer) };
 
     fn answer(&self, alloc: Global, ops: OpSet) -> Result<Answer, AllocError> {
-        match str::from_utf8(self.words) {
-            Ok(text) => {
-                let words = words_in(alloc, text)?;
-                json_answer_with(alloc, words.as_slice(), self.input, ops)
-            }
-            Err(_) => json_answer_with(alloc, &[], self.input, ops),
-        }
+        let words = words_of(alloc, self.words)?;
+        json_answer_with(alloc, words.as_slice(), self.input, ops)
     }
 }
 
-/// The words between zero bytes.
-fn words_in<'a>(alloc: Global, text: &'a str) -> Result<Vec<&'a str>, AllocError>
-    ensures { IfOk result (λ words. map (λ word. word.now) words.items ≡ words_in text.now) }
+/// The words between zero bytes; none, where the bytes are no UTF-8.
+fn words_of<'a>(alloc: Global, bytes: &'a [u8]) -> Result<Vec<&'a str>, AllocError>
+    ensures { IfOk result (λ words. map (λ word. word.now) words.items ≡ words_of bytes.now) }
 {
-    text.split('\0').collect(alloc)
+    match str::from_utf8(bytes) {
+        Ok(text) => text.split('\0').collect(alloc),
+        Err(_) => Ok(Vec::new(alloc)),
+    }
 }
 
 /// What is answered to words and an input, with a full set.
