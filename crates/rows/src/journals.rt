@@ -1,11 +1,19 @@
-//! Events of a journal and its shards, and looks at them. Rows begin with `journal`, and name attempts.
+//! Events of a journal and its shards, and looks at them, by rows that begin with `journal` and name attempts:
+//! - `begin NAME NUMBER` begins a call, and `stranger NAME NUMBER TIMESTAMP` is an attempt that no journal has begun;
+//! - `run NAME` reads all that the call of an attempt asks for, and `read NAME ITEM` one item;
+//! - `commit NAME`, `abandon NAME`, and `attempt NAME`: whether it is live, and how much it has read;
+//! - `prune TIMESTAMP`, and `shards TIMESTAMP` prunes the shards alone;
+//! - `find TIMESTAMP ITEM` tells what an attempt at a timestamp finds, and `shard INDEX TIMESTAMP ITEM` the same by one shard,
+//!   which is taken from the others;
+//! - `versions ITEM`, `look`, which tells the clock, the low mark and the entries, and `state TIMESTAMP`, the ledger then;
+//! - `is_of`: whether the journal is of its ledger, header and calls, and of another header, no calls and another ledger;
+//! - `seal`, and then `block` and `replay`.
 
 ghost use Rattle.std.specs.Prelude.{◌≡◌, [], IfOk};
 ghost use Rattle.avm_items.specs.declared.item_value.ItemValue.TheVariants.{Absent};
 ghost use Rattle.avm_items.specs.Items.{with_item};
 
 use crate::item_texts::{digits_of, entries_text, item_text, late_text, value_text};
-use crate::script::name;
 use crate::sealed::{block_text, replay_text};
 use crate::store_answers::Said;
 use crate::stores::{Stored, other_ledger};
@@ -19,94 +27,13 @@ use mv_shards::{Attempt, Held, Shard};
 use sample_calls::calls::HEADER;
 use sample_calls::words::{call_number, item, number, word};
 use std::alloc::{AllocError, Global};
+use std::collections::BTreeMap;
 use std::marker::Brand;
 use std::sync::ledger::{Blank, Ledger};
 use std::test::Fail;
 use teal_value::Failure;
 
-/// What a row does with a journal.
-#[derive(Drop)]
-pub enum JournalEvent {
-    Open(Stored),
-    /// A call begins: `begin NAME NUMBER`.
-    Begin(String, u32),
-    /// An attempt that no journal has begun: `stranger NAME NUMBER TIMESTAMP`.
-    Stranger(String, u32, u64),
-    /// Reads all that the call of an attempt asks for: `run NAME`.
-    Run(String),
-    /// Reads an item by an attempt: `read NAME ITEM`.
-    Read(String, Item),
-    Commit(String),
-    Abandon(String),
-    /// Whether an attempt is live, and what it has read: `attempt NAME`.
-    Attempt(String),
-    Prune(u64),
-    /// Prunes the shards alone.
-    Shards(u64),
-    /// What an attempt at a timestamp finds: `find TIMESTAMP ITEM`.
-    Find(u64, Item),
-    /// The same by one shard, which is taken from the others: `shard INDEX TIMESTAMP ITEM`.
-    Shard(u8, u64, Item),
-    Versions(Item),
-    /// The clock, the low mark and the entries.
-    Look,
-    /// The ledger of a timestamp.
-    State(u64),
-    /// Whether the journal is of its ledger, header and calls, and of another header, no calls and another ledger.
-    IsOf,
-    Seal,
-    Block,
-    Replay,
-}
-
-impl JournalEvent {
-    /// The event of these words.
-    pub fn of(alloc: Global, words: &[&str]) -> Result<JournalEvent, Fail> {
-        match word(words, 0)? {
-            "begin" => begun(alloc, words),
-            "stranger" => stranger(alloc, words),
-            "run" => name(alloc, words, 1).map(JournalEvent::Run),
-            "read" => read_event(alloc, words),
-            "commit" => name(alloc, words, 1).map(JournalEvent::Commit),
-            "abandon" => name(alloc, words, 1).map(JournalEvent::Abandon),
-            "attempt" => name(alloc, words, 1).map(JournalEvent::Attempt),
-            "prune" => number(words, 1).map(JournalEvent::Prune),
-            "shards" => number(words, 1).map(JournalEvent::Shards),
-            "find" => found_at(alloc, words),
-            "shard" => found_by_shard(alloc, words),
-            "versions" => item(alloc, words, 1).map(JournalEvent::Versions),
-            "look" => Ok(JournalEvent::Look),
-            "state" => number(words, 1).map(JournalEvent::State),
-            "is_of" => Ok(JournalEvent::IsOf),
-            "seal" => Ok(JournalEvent::Seal),
-            "block" => Ok(JournalEvent::Block),
-            "replay" => Ok(JournalEvent::Replay),
-            _ => Err("there is no such row of a journal".into()),
-        }
-    }
-}
-
-fn begun(alloc: Global, words: &[&str]) -> Result<JournalEvent, Fail> {
-    Ok(JournalEvent::Begin(name(alloc, words, 1)?, call_number(words, 2)?))
-}
-
-fn stranger(alloc: Global, words: &[&str]) -> Result<JournalEvent, Fail> {
-    let (number, timestamp) = (call_number(words, 2)?, number(words, 3)?);
-    Ok(JournalEvent::Stranger(name(alloc, words, 1)?, number, timestamp))
-}
-
-fn read_event(alloc: Global, words: &[&str]) -> Result<JournalEvent, Fail> {
-    Ok(JournalEvent::Read(name(alloc, words, 1)?, item(alloc, words, 2)?))
-}
-
-fn found_at(alloc: Global, words: &[&str]) -> Result<JournalEvent, Fail> {
-    Ok(JournalEvent::Find(number(words, 1)?, item(alloc, words, 2)?))
-}
-
-fn found_by_shard(alloc: Global, words: &[&str]) -> Result<JournalEvent, Fail> {
-    let (index, timestamp) = (word(words, 1)?.parse::<u8>()?, number(words, 2)?);
-    Ok(JournalEvent::Shard(index, timestamp, item(alloc, words, 3)?))
-}
+const NO_ATTEMPT: &'static str = "no such attempt";
 
 /// A journal and its shards.
 #[derive(Drop)]
@@ -115,10 +42,9 @@ struct Parts {
     held: Held,
 }
 
-/// An attempt of a name, and what its call has come to.
+/// An attempt, and what its call has come to.
 #[derive(Drop)]
 struct Tried {
-    name: String,
     attempt: Option<Attempt>,
     finished: Option<Finished>,
 }
@@ -128,19 +54,11 @@ struct Tried {
 pub struct Journals {
     stored: Option<Stored>,
     parts: Option<Parts>,
-    tried: Vec<Tried>,
+    /// The attempts, by their names.
+    tried: BTreeMap<String, Tried>,
     sealed: Option<Sealed>,
     /// A shard that was taken.
     alone: Option<Shard>,
-}
-
-fn named<'a>(tried: &'a mut [Tried], name: &str) -> Option<&'a mut Tried> {
-    for one in tried {
-        if one.name.as_str() == name {
-            return Some(one);
-        }
-    }
-    None
 }
 
 impl Journals {
@@ -149,48 +67,41 @@ impl Journals {
         Journals {
             stored: None,
             parts: None,
-            tried: Vec::new(alloc),
+            tried: BTreeMap::new(alloc),
             sealed: None,
             alone: None,
         }
     }
 
-    /// Does what a row says, or nothing where memory is refused in it.
+    /// Does what the words of a row say.
     pub fn carry_out<O: Op>(
         &mut self,
         alloc: Global,
         ops: &FullOps<O>,
-        event: &JournalEvent,
-    ) -> Result<Said, AllocError> {
-        match event {
-            JournalEvent::Open(stored) => self.open(alloc, stored),
-            JournalEvent::Begin(name, number) => self.begin(alloc, name.as_str(), *number),
-            JournalEvent::Stranger(name, number, timestamp) => {
-                self.stranger(alloc, name.as_str(), *number, *timestamp)
-            }
-            JournalEvent::Run(name) => self.run(alloc, ops, name.as_str()),
-            JournalEvent::Read(name, item) => self.read(alloc, name.as_str(), item),
-            JournalEvent::Commit(name) => self.commit(alloc, name.as_str()),
-            JournalEvent::Abandon(name) => self.abandon(name.as_str()),
-            JournalEvent::Attempt(name) => self.attempt(alloc, name.as_str()),
-            JournalEvent::IsOf => self.is_of(alloc),
-            JournalEvent::Seal => self.seal(alloc),
-            JournalEvent::Block => block_text(alloc, &self.sealed),
-            JournalEvent::Replay => match &self.stored {
-                Some(stored) => replay_text(alloc, ops, &stored.base, &self.sealed),
-                None => Ok(Said::Word("no block")),
-            },
-            JournalEvent::Shard(index, timestamp, item) => {
-                self.in_shard(alloc, *index, *timestamp, item)
-            }
-            _ => match &mut self.parts {
-                Some(parts) => on_parts(alloc, parts, event),
+        words: &[&str],
+    ) -> Result<Said, Fail> {
+        match word(words, 0)? {
+            "begin" => self.begin(alloc, words),
+            "stranger" => self.stranger(alloc, words),
+            "run" => self.run(alloc, ops, word(words, 1)?),
+            "read" => self.read(alloc, words),
+            "commit" => self.commit(alloc, word(words, 1)?),
+            "abandon" => self.abandon(word(words, 1)?),
+            "attempt" => self.attempt(alloc, word(words, 1)?),
+            "is_of" => Ok(self.is_of(alloc)?),
+            "seal" => Ok(self.seal(alloc)?),
+            "block" => Ok(block_text(alloc, &self.sealed)?),
+            "replay" => self.replay(alloc, ops),
+            "shard" => self.in_shard(alloc, words),
+            head => match &mut self.parts {
+                Some(parts) => on_parts(alloc, parts, head, words),
                 None => Ok(Said::Word("no journal")),
             },
         }
     }
 
-    fn open(&mut self, alloc: Global, stored: &Stored) -> Result<Said, AllocError> {
+    /// Opens a journal and its shards.
+    pub fn open(&mut self, alloc: Global, stored: &Stored) -> Result<Said, AllocError> {
         self.stored = Some(stored.copied()?);
         let Stored { base, calls } = stored.copied()?;
         match open_parts(alloc, base, HEADER, calls) {
@@ -207,20 +118,16 @@ impl Journals {
 
     /// Keeps an attempt under a name.
     fn keep(&mut self, alloc: Global, name: &str, attempt: Attempt) -> Result<(), AllocError> {
-        if let Some(one) = named(self.tried.as_mut_slice(), name) {
-            one.attempt = Some(attempt);
-            one.finished = None;
-            return Ok(());
-        }
-        self.tried.push(Tried {
-            name: String::from_str(alloc, name)?,
+        let tried = Tried {
             attempt: Some(attempt),
             finished: None,
-        })?;
+        };
+        self.tried.insert(String::from_str(alloc, name)?, tried)?;
         Ok(())
     }
 
-    fn begin(&mut self, alloc: Global, name: &str, number: u32) -> Result<Said, AllocError> {
+    fn begin(&mut self, alloc: Global, words: &[&str]) -> Result<Said, Fail> {
+        let (name, number) = (word(words, 1)?, call_number(words, 2)?);
         let Some(parts) = &mut self.parts else {
             return Ok(Said::Word("no journal"));
         };
@@ -234,81 +141,52 @@ impl Journals {
         }
     }
 
-    fn stranger(
-        &mut self,
-        alloc: Global,
-        name: &str,
-        number: u32,
-        timestamp: u64,
-    ) -> Result<Said, AllocError> {
+    fn stranger(&mut self, alloc: Global, words: &[&str]) -> Result<Said, Fail> {
+        let (number, timestamp) = (call_number(words, 2)?, number(words, 3)?);
         if timestamp == 0 {
             return Ok(Said::Word("timestamps begin at 1"));
         }
-        self.keep(alloc, name, Attempt::new(alloc, number, timestamp))?;
+        self.keep(
+            alloc,
+            word(words, 1)?,
+            Attempt::new(alloc, number, timestamp),
+        )?;
         Ok(Said::Word("a stranger"))
     }
 
-    fn run<O: Op>(
-        &mut self,
-        alloc: Global,
-        ops: &FullOps<O>,
-        name: &str,
-    ) -> Result<Said, AllocError> {
-        let Some(parts) = &mut self.parts else {
-            return Ok(Said::Word("no journal"));
-        };
-        match named(self.tried.as_mut_slice(), name) {
-            Some(tried) => run(alloc, ops, parts, tried),
-            None => Ok(Said::Word("no such attempt")),
+    fn run<O: Op>(&mut self, alloc: Global, ops: &FullOps<O>, name: &str) -> Result<Said, Fail> {
+        match (&mut self.parts, self.tried.get_mut(name)) {
+            (Some(parts), Some(tried)) => Ok(run(alloc, ops, parts, tried)?),
+            _ => Ok(Said::Word(NO_ATTEMPT)),
         }
     }
 
-    fn read(&mut self, alloc: Global, name: &str, item: &Item) -> Result<Said, AllocError> {
-        let Some(parts) = &mut self.parts else {
-            return Ok(Said::Word("no journal"));
-        };
-        match named(self.tried.as_mut_slice(), name) {
-            Some(tried) => read_by(alloc, &mut parts.held, tried, item),
-            None => Ok(Said::Word("no such attempt")),
+    fn read(&mut self, alloc: Global, words: &[&str]) -> Result<Said, Fail> {
+        let item = item(alloc, words, 2)?;
+        match (&mut self.parts, self.tried.get_mut(word(words, 1)?)) {
+            (Some(parts), Some(tried)) => Ok(read_by(alloc, &mut parts.held, tried, &item)?),
+            _ => Ok(Said::Word(NO_ATTEMPT)),
         }
     }
 
-    fn commit(&mut self, alloc: Global, name: &str) -> Result<Said, AllocError> {
-        let Some(parts) = &mut self.parts else {
-            return Ok(Said::Word("no journal"));
-        };
-        match named(self.tried.as_mut_slice(), name) {
-            Some(tried) => commit(alloc, parts, tried),
-            None => Ok(Said::Word("no such attempt")),
+    fn commit(&mut self, alloc: Global, name: &str) -> Result<Said, Fail> {
+        match (&mut self.parts, self.tried.get_mut(name)) {
+            (Some(parts), Some(tried)) => Ok(commit(alloc, parts, tried)?),
+            _ => Ok(Said::Word(NO_ATTEMPT)),
         }
     }
 
-    fn abandon(&mut self, name: &str) -> Result<Said, AllocError> {
-        let Some(parts) = &mut self.parts else {
-            return Ok(Said::Word("no journal"));
-        };
-        let Some(tried) = named(self.tried.as_mut_slice(), name) else {
-            return Ok(Said::Word("no such attempt"));
-        };
-        match tried.attempt.take() {
-            Some(attempt) => match parts.journal.abandon(attempt) {
-                Ok(()) => Ok(Said::Word("abandoned")),
-                Err(back) => {
-                    tried.attempt = Some(back);
-                    Ok(Said::Word("not live"))
-                }
-            },
-            None => Ok(Said::Word("no such attempt")),
+    fn abandon(&mut self, name: &str) -> Result<Said, Fail> {
+        match (&mut self.parts, self.tried.get_mut(name)) {
+            (Some(parts), Some(tried)) => Ok(abandon(&mut parts.journal, tried)),
+            _ => Ok(Said::Word(NO_ATTEMPT)),
         }
     }
 
-    fn attempt(&mut self, alloc: Global, name: &str) -> Result<Said, AllocError> {
-        let Some(parts) = &self.parts else {
-            return Ok(Said::Word("no journal"));
-        };
-        match named(self.tried.as_mut_slice(), name) {
-            Some(tried) => attempt_text(alloc, &parts.journal, tried),
-            None => Ok(Said::Word("no such attempt")),
+    fn attempt(&mut self, alloc: Global, name: &str) -> Result<Said, Fail> {
+        match (&self.parts, self.tried.get(name)) {
+            (Some(parts), Some(tried)) => Ok(attempt_text(alloc, &parts.journal, tried)?),
+            _ => Ok(Said::Word(NO_ATTEMPT)),
         }
     }
 
@@ -352,15 +230,18 @@ impl Journals {
         }
     }
 
+    fn replay<O: Op>(&self, alloc: Global, ops: &FullOps<O>) -> Result<Said, Fail> {
+        match &self.stored {
+            Some(stored) => Ok(replay_text(alloc, ops, &stored.base, &self.sealed)?),
+            None => Ok(Said::Word("no block")),
+        }
+    }
+
     /// What an attempt at a timestamp finds by a shard alone, which is taken at the first such row, whatever later ones
     /// name.
-    fn in_shard(
-        &mut self,
-        alloc: Global,
-        index: u8,
-        timestamp: u64,
-        item: &Item,
-    ) -> Result<Said, AllocError> {
+    fn in_shard(&mut self, alloc: Global, words: &[&str]) -> Result<Said, Fail> {
+        let (index, timestamp) = (word(words, 1)?.parse::<u8>()?, number(words, 2)?);
+        let item = item(alloc, words, 3)?;
         if self.alone.is_none() {
             if let Some(parts) = &mut self.parts {
                 self.alone = taken(&mut parts.held, index);
@@ -369,8 +250,8 @@ impl Journals {
         match &mut self.alone {
             Some(shard) if timestamp > 0 => {
                 let mut attempt = Attempt::new(alloc, 1, timestamp);
-                match shard.read(&mut attempt, item.copied()) {
-                    Ok(value) => value_text(alloc, &value).map(Said::Text),
+                match shard.read(&mut attempt, item) {
+                    Ok(value) => Ok(Said::Text(value_text(alloc, &value)?)),
                     Err(failure) => Ok(Said::Word(failure.into_fault()?.name())),
                 }
             }
@@ -440,7 +321,7 @@ fn read_by(
     item: &Item,
 ) -> Result<Said, AllocError> {
     let Some(attempt) = &mut tried.attempt else {
-        return Ok(Said::Word("no such attempt"));
+        return Ok(Said::Word(NO_ATTEMPT));
     };
     read(alloc, held, attempt, item)
 }
@@ -453,7 +334,7 @@ fn attempt_text(alloc: Global, journal: &Journal, tried: &Tried) -> Result<Said,
             let reads = attempt.reads().len();
             Ok(Said::Text(format!(in alloc; "live {live}, {reads} reads")?))
         }
-        None => Ok(Said::Word("no such attempt")),
+        None => Ok(Said::Word(NO_ATTEMPT)),
     }
 }
 
@@ -465,7 +346,7 @@ fn run<O: Op>(
     tried: &mut Tried,
 ) -> Result<Said, AllocError> {
     let Some(attempt) = &mut tried.attempt else {
-        return Ok(Said::Word("no such attempt"));
+        return Ok(Said::Word(NO_ATTEMPT));
     };
     let end = match parts.journal.call(attempt.number()) {
         Some(call) => {
@@ -560,37 +441,56 @@ fn commit_refusal(alloc: Global, fault: &CommitFault) -> Result<Said, AllocError
     }
 }
 
-/// A prune, or a look.
-fn on_parts(alloc: Global, parts: &mut Parts, event: &JournalEvent) -> Result<Said, AllocError> {
-    match event {
-        JournalEvent::Prune(timestamp) => {
-            parts.journal.prune(&mut parts.held, *timestamp);
-            Ok(Said::Low(parts.journal.low()))
-        }
-        JournalEvent::Shards(timestamp) => {
-            parts.held.prune(*timestamp);
-            Ok(Said::Low(parts.journal.low()))
-        }
-        JournalEvent::Find(timestamp, item) => find(alloc, &mut parts.held, *timestamp, item),
-        JournalEvent::Versions(item) => versions(alloc, &parts.held, item),
-        JournalEvent::Look => look(alloc, &parts.journal),
-        JournalEvent::State(timestamp) => {
-            let ledger = parts.journal.ledger_at(alloc, *timestamp)?;
-            digits_of(alloc, &ledger).map(Said::Text)
-        }
-        _ => Ok(Said::Word("no event of a journal")),
+/// Gives up an attempt. One that is not live is kept.
+fn abandon(journal: &mut Journal, tried: &mut Tried) -> Said {
+    match tried.attempt.take() {
+        Some(attempt) => match journal.abandon(attempt) {
+            Ok(()) => Said::Word("abandoned"),
+            Err(back) => {
+                tried.attempt = Some(back);
+                Said::Word("not live")
+            }
+        },
+        None => Said::Word(NO_ATTEMPT),
     }
 }
 
-fn find(alloc: Global, held: &mut Held, timestamp: u64, item: &Item) -> Result<Said, AllocError> {
+/// A prune, or a look.
+fn on_parts(alloc: Global, parts: &mut Parts, head: &str, words: &[&str]) -> Result<Said, Fail> {
+    match head {
+        "prune" => {
+            parts.journal.prune(&mut parts.held, number(words, 1)?);
+            Ok(Said::Low(parts.journal.low()))
+        }
+        "shards" => {
+            parts.held.prune(number(words, 1)?);
+            Ok(Said::Low(parts.journal.low()))
+        }
+        "find" => find(
+            alloc,
+            &mut parts.held,
+            number(words, 1)?,
+            &item(alloc, words, 2)?,
+        ),
+        "versions" => versions(alloc, &parts.held, &item(alloc, words, 1)?),
+        "look" => Ok(look(alloc, &parts.journal)?),
+        "state" => {
+            let ledger = parts.journal.ledger_at(alloc, number(words, 1)?)?;
+            Ok(Said::Text(digits_of(alloc, &ledger)?))
+        }
+        _ => Err("there is no such row of a journal".into()),
+    }
+}
+
+fn find(alloc: Global, held: &mut Held, timestamp: u64, item: &Item) -> Result<Said, Fail> {
     if timestamp == 0 {
         return Ok(Said::Word("timestamps begin at 1"));
     }
     let mut attempt = Attempt::new(alloc, 1, timestamp);
-    read(alloc, held, &mut attempt, item)
+    Ok(read(alloc, held, &mut attempt, item)?)
 }
 
-fn versions(alloc: Global, held: &Held, item: &Item) -> Result<Said, AllocError> {
+fn versions(alloc: Global, held: &Held, item: &Item) -> Result<Said, Fail> {
     let wanted = alone(alloc, item.copied())?;
     if !held.covers(&wanted) {
         return Ok(Said::Word("its shard is not held"));

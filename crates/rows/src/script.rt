@@ -6,7 +6,6 @@
 //! - `open` opens a store over the ledger, for the calls, `parts` a journal with its shards; the calls are then gone.
 //! - Rows that begin with `journal` are events of the journal, all others are of the store.
 
-use crate::journals::JournalEvent;
 use crate::stores::{StoreEvent, Stored};
 use avm_call::Call;
 use avm_ledger::Ledger;
@@ -30,7 +29,10 @@ pub struct Row {
 #[derive(Drop)]
 pub enum Step {
     Store(StoreEvent),
-    Journal(JournalEvent),
+    /// A journal opens over these.
+    Parts(Stored),
+    /// What the line says of the journal.
+    Journal,
     /// Nothing more, since reading it has told the answer; a heading has none.
     Told(Option<String>),
 }
@@ -83,14 +85,10 @@ fn step_by_words(alloc: Global, said: &mut Said, head: &str, words: &[&str]) -> 
         "#" => Ok(Step::Told(None)),
         "program" => program_of(alloc, said, words),
         "ledger" => ledger_of(alloc, said, words),
-        "journal" => JournalEvent::of(alloc, words).map(Step::Journal),
-        "parts" => journal_opened(alloc, said),
+        "journal" => Ok(Step::Journal),
+        "parts" => stored(alloc, said).map(Step::Parts),
         _ => store_event(alloc, said, head, words).map(Step::Store),
     }
-}
-
-fn journal_opened(alloc: Global, said: &mut Said) -> Result<Step, Fail> {
-    Ok(Step::Journal(JournalEvent::Open(stored(alloc, said)?)))
 }
 
 fn program_of(alloc: Global, said: &mut Said, words: &[&str]) -> Result<Step, Fail> {
@@ -186,7 +184,7 @@ fn ticket(words: &[&str]) -> Result<Ticket, Fail> {
 }
 
 /// The name of a call that has ended.
-pub fn name(alloc: Global, words: &[&str], index: usize) -> Result<String, Fail> {
+fn name(alloc: Global, words: &[&str], index: usize) -> Result<String, Fail> {
     Ok(String::from_str(alloc, word(words, index)?)?)
 }
 

@@ -3,8 +3,8 @@
 //!
 //! All rows are read before the first is carried out. Where memory ends in a row, `memory` is printed, then whether all that is
 //! seen of the store is `as before`, and the row is tried once more. So a run to which one growth is refused prints the lines of
-//! a run with ample memory, and those words between them; tests/refusals looks at that, for rows of stores alone: of a journal
-//! nothing is compared.
+//! a run with ample memory, and those words between them; tests/refusals looks at that, for rows of stores alone: rows of a
+//! journal are not tried again.
 //!
 //! `script` says how rows read, `stores` and `journals` what they do.
 
@@ -57,7 +57,8 @@ fn carry_out<O: Op>(
         let before = stores.seen();
         let said = match &row.step {
             Step::Store(event) => stores.carry_out(alloc, ops, event),
-            Step::Journal(event) => journals.carry_out(alloc, ops, event),
+            Step::Parts(stored) => journals.open(alloc, stored),
+            Step::Journal => return on_journal(rt, ops, journals, row.line.as_str()),
             Step::Told(text) => return say_text(rt, text),
         };
         match said {
@@ -66,6 +67,18 @@ fn carry_out<O: Op>(
         }
     }
     Err("memory is refused twice".into())
+}
+
+/// Carries out a row of the journal.
+fn on_journal<O: Op>(
+    rt: &HostRuntime,
+    ops: &FullOps<O>,
+    journals: &mut Journals,
+    line: &str,
+) -> Result<(), Fail> {
+    let (_head, rest) = line.split_once(' ').unwrap_or((line, ""));
+    let words: Vec<&str> = rest.split_whitespace().collect(rt.alloc())?;
+    say(rt, &journals.carry_out(rt.alloc(), ops, words.as_slice())?)
 }
 
 /// The answer that is known from reading a row; a heading has none.

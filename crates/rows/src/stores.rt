@@ -18,6 +18,7 @@ use mv_core::{CommitFault, Event, ReadFault, Store, Ticket, Tools, Worker, World
 use mv_parts::{BeginFault, Sealed};
 use sample_calls::calls::HEADER;
 use std::alloc::{AllocError, Global};
+use std::collections::BTreeMap;
 use std::marker::Brand;
 use std::sync::ledger::Blank;
 use std::sync::{Arc, ledger};
@@ -66,19 +67,13 @@ pub enum StoreEvent {
     Replay,
 }
 
-/// A call that has ended, under a name; none once it is committed.
-#[derive(Drop)]
-struct Ended {
-    name: String,
-    finished: Option<Finished>,
-}
-
 /// The store of the rows so far.
 #[derive(Drop)]
 pub struct Stores {
     stored: Stored,
     store: Option<Store>,
-    ended: Vec<Ended>,
+    /// The calls that have ended, by their names; none once one is committed.
+    ended: BTreeMap<String, Option<Finished>>,
     sealed: Option<Sealed>,
 }
 
@@ -133,16 +128,6 @@ fn is_live(store: &mut Store, ticket: &Ticket) -> bool {
     )
 }
 
-/// The call of a name that has ended.
-fn named<'a>(ended: &'a mut [Ended], name: &str) -> Option<&'a mut Ended> {
-    for one in ended {
-        if one.name.as_str() == name {
-            return Some(one);
-        }
-    }
-    None
-}
-
 impl Stores {
     /// No store.
     pub fn new(alloc: Global) -> Result<Stores, AllocError> {
@@ -153,7 +138,7 @@ impl Stores {
         Ok(Stores {
             stored,
             store: None,
-            ended: Vec::new(alloc),
+            ended: BTreeMap::new(alloc),
             sealed: None,
         })
     }
@@ -289,14 +274,7 @@ impl Stores {
 
     /// Keeps the end of a call under a name.
     fn keep(&mut self, name: String, finished: Finished) -> Result<(), AllocError> {
-        if let Some(one) = named(self.ended.as_mut_slice(), name.as_str()) {
-            one.finished = Some(finished);
-            return Ok(());
-        }
-        self.ended.push(Ended {
-            name,
-            finished: Some(finished),
-        })?;
+        self.ended.insert(name, Some(finished))?;
         Ok(())
     }
 
@@ -324,7 +302,7 @@ impl Stores {
         let Some(store) = &mut self.store else {
             return Ok(Said::Word("no store"));
         };
-        let Some(ended) = named(self.ended.as_mut_slice(), name) else {
+        let Some(ended) = self.ended.get_mut(name) else {
             return Ok(Said::Word("no such end"));
         };
         commit(alloc, store, ticket, ended)
@@ -503,15 +481,15 @@ fn commit(
     alloc: Global,
     store: &mut Store,
     ticket: &Ticket,
-    ended: &mut Ended,
+    ended: &mut Option<Finished>,
 ) -> Result<Said, AllocError> {
-    let Some(finished) = ended.finished.take() else {
+    let Some(finished) = ended.take() else {
         return Ok(Said::Word("no such end"));
     };
     match store.commit(ticket, finished) {
         Ok(timestamp) => Ok(Said::Commits(timestamp)),
         Err(refused) => {
-            ended.finished = Some(refused.finished);
+            *ended = Some(refused.finished);
             commit_refusal(alloc, &refused.error.into_fault()?)
         }
     }
