@@ -33,7 +33,9 @@ use std::sync::ledger::{Blank, Ledger};
 use std::test::Fail;
 use teal_value::Failure;
 
-const NO_ATTEMPT: &'static str = "no such attempt";
+const NO_JOURNAL: &str = "no journal";
+
+const NO_ATTEMPT: &str = "no such attempt";
 
 /// A journal and its shards.
 #[derive(Drop)]
@@ -95,7 +97,7 @@ impl Journals {
             "shard" => self.in_shard(alloc, words),
             head => match &mut self.parts {
                 Some(parts) => on_parts(alloc, parts, head, words),
-                None => Ok(Said::Word("no journal")),
+                None => Ok(Said::Word(NO_JOURNAL)),
             },
         }
     }
@@ -129,7 +131,7 @@ impl Journals {
     fn begin(&mut self, alloc: Global, words: &[&str]) -> Result<Said, Fail> {
         let (name, number) = (word(words, 1)?, call_number(words, 2)?);
         let Some(parts) = &mut self.parts else {
-            return Ok(Said::Word("no journal"));
+            return Ok(Said::Word(NO_JOURNAL));
         };
         match parts.journal.begin(number) {
             Ok(attempt) => {
@@ -157,7 +159,8 @@ impl Journals {
     fn run<O: Op>(&mut self, alloc: Global, ops: &FullOps<O>, name: &str) -> Result<Said, Fail> {
         match (&mut self.parts, self.tried.get_mut(name)) {
             (Some(parts), Some(tried)) => Ok(run(alloc, ops, parts, tried)?),
-            _ => Ok(Said::Word(NO_ATTEMPT)),
+            (None, _) => Ok(Said::Word(NO_JOURNAL)),
+            (_, None) => Ok(Said::Word(NO_ATTEMPT)),
         }
     }
 
@@ -165,34 +168,38 @@ impl Journals {
         let item = item(alloc, words, 2)?;
         match (&mut self.parts, self.tried.get_mut(word(words, 1)?)) {
             (Some(parts), Some(tried)) => Ok(read_by(alloc, &mut parts.held, tried, &item)?),
-            _ => Ok(Said::Word(NO_ATTEMPT)),
+            (None, _) => Ok(Said::Word(NO_JOURNAL)),
+            (_, None) => Ok(Said::Word(NO_ATTEMPT)),
         }
     }
 
     fn commit(&mut self, alloc: Global, name: &str) -> Result<Said, Fail> {
         match (&mut self.parts, self.tried.get_mut(name)) {
             (Some(parts), Some(tried)) => Ok(commit(alloc, parts, tried)?),
-            _ => Ok(Said::Word(NO_ATTEMPT)),
+            (None, _) => Ok(Said::Word(NO_JOURNAL)),
+            (_, None) => Ok(Said::Word(NO_ATTEMPT)),
         }
     }
 
     fn abandon(&mut self, name: &str) -> Result<Said, Fail> {
         match (&mut self.parts, self.tried.get_mut(name)) {
             (Some(parts), Some(tried)) => Ok(abandon(&mut parts.journal, tried)),
-            _ => Ok(Said::Word(NO_ATTEMPT)),
+            (None, _) => Ok(Said::Word(NO_JOURNAL)),
+            (_, None) => Ok(Said::Word(NO_ATTEMPT)),
         }
     }
 
     fn attempt(&mut self, alloc: Global, name: &str) -> Result<Said, Fail> {
         match (&self.parts, self.tried.get(name)) {
             (Some(parts), Some(tried)) => Ok(attempt_text(alloc, &parts.journal, tried)?),
-            _ => Ok(Said::Word(NO_ATTEMPT)),
+            (None, _) => Ok(Said::Word(NO_JOURNAL)),
+            (_, None) => Ok(Said::Word(NO_ATTEMPT)),
         }
     }
 
     fn is_of(&self, alloc: Global) -> Result<Said, AllocError> {
         let (Some(parts), Some(stored)) = (&self.parts, &self.stored) else {
-            return Ok(Said::Word("no journal"));
+            return Ok(Said::Word(NO_JOURNAL));
         };
         let journal = &parts.journal;
         let base = &stored.base;
@@ -209,7 +216,7 @@ impl Journals {
 
     fn seal(&mut self, alloc: Global) -> Result<Said, AllocError> {
         let Some(parts) = self.parts.take() else {
-            return Ok(Said::Word("no journal"));
+            return Ok(Said::Word(NO_JOURNAL));
         };
         let Parts { journal, held } = parts;
         match journal.seal(alloc) {
